@@ -1,29 +1,27 @@
-/* hdt.h: a proved engine for RDF HDT files, over files that lie in memory.
+/* hdt.h: a proved engine for RDF HDT files that are in memory.
  *
- * Link with libhdt, with the flags that `pkg-config --cflags --libs hdt` prints after `make install`. Memory comes from malloc,
- * realloc and free of your program. No call prints, aborts, exits, waits, starts a thread or keeps anything outside
- * what you give it.
+ * Link with libhdt, with the flags that `pkg-config --cflags --libs hdt` prints after `make install`. The library allocates with
+ * malloc, realloc and free of your program. No call prints, aborts, exits, waits or starts a thread, and the library has no global
+ * state.
  *
- * Who owns what.
- * - The bytes that you pass are yours, and a call reads them while it runs. hdt_open alone keeps their address: keep them
- *   where they are, unchanged, until hdt_close returned. Bytes of a mapped file change with the file: where that is cut, the
- *   next look ends the process (SIGBUS). So replace a file in use by a rename, or read it into memory.
- * - An hdt_graph and an hdt_bytes are your storage; begin each with HDT_GRAPH_INIT or HDT_BYTES_INIT, or all bytes zero. Don't
- *   copy one, don't write its fields, and give it to one call at a time (another thread may use it behind a lock). What
- *   they point to is the library's until hdt_close or hdt_free.
- * - What is put into room of yours (out, room) is yours; of `out` nothing is changed past what the answer tells.
+ * Ownership.
+ * - The bytes that you pass are yours. A call reads them while it runs; only hdt_open keeps their address: keep them in place and
+ *   unchanged until hdt_close returns. If the bytes are those of a mapped file that is truncated, the next access ends the process
+ *   (SIGBUS). So replace a file in use by rename, or read it into memory.
+ * - An hdt_graph and an hdt_bytes are your storage. Initialize each with HDT_GRAPH_INIT or HDT_BYTES_INIT, or with zero bytes.
+ *   Don't copy them or write their fields, and use each in one call at a time (other threads may use it under a lock). What they
+ *   point to belongs to the library until hdt_close or hdt_free.
+ * - The arrays that results are written to (out, room) are yours. A call changes nothing in them but what its result says.
  *
- * What you owe, as nothing checks it: no pointer is null, even for zero bytes or in a part of a pattern that is not a
- * string (use any address: `at` of an hdt_bytes without
- * bytes is null, and so may be data() of an empty C++ vector); room is as large as you say, and aligned for its type;
- * parameters don't overlap, but for two that are only read, so the bytes that are given are not those of `out`; no call is
- * made in a signal handler, or in the forked child of a process with threads.
+ * What you must ensure, since nothing checks it: no pointer is null, even for zero bytes or in a part of a pattern that is not a
+ * string (use any address: `at` of an empty hdt_bytes is null, and data() of an empty C++ vector may be); arrays have the room that
+ * you state, and the alignment of their type; parameters don't overlap, except for two that are only read, so the input is not in
+ * `out`; no call is made in a signal handler, or in the forked child of a process with threads.
  *
- * What is looked at: whatever the bytes of a file, a text or a string are, they are checked; a graph that isn't open is
- * told (HDT_CLOSED, HDT_IS_CLOSED), one that is open already is told by hdt_open (HDT_IS_OPEN) and stays as it is; a role
- * above 2 and a number that no string has are told (HDT_ABSENT); so are block sizes and base IRIs that can't be taken
- * (HDT_BAD_OPTIONS), and want of memory, which leaves a graph as it was. In a pattern, a kind that isn't in this header and an
- * ID that no string has match nothing.
+ * What is checked: the bytes of files, texts and strings, whatever they are; graphs that are not open (HDT_CLOSED, HDT_IS_CLOSED)
+ * or, in hdt_open, already open (HDT_IS_OPEN); roles above 2 and IDs that no string has (HDT_ABSENT); block sizes and base IRIs
+ * (HDT_BAD_OPTIONS); running out of memory, which leaves a graph as it was. A part of a pattern with an unknown kind, or with an ID
+ * that no string has, matches nothing.
  */
 #ifndef HDT_H
 #define HDT_H
@@ -33,28 +31,27 @@
 extern "C" {
 #endif
 
-/* The version of this header, 1.1. A greater minor version has more calls; those that are there stay as they are as
- * long as the library is libhdt.so.1. */
+/* The version of this header, 1.1. A greater minor version has more calls; existing calls don't change as long as the
+ * library is libhdt.so.1. */
 #define HDT_VERSION_MAJOR 1
 #define HDT_VERSION_MINOR 1
 
-/* Reasons. 0: done. 1 to 34 of a file: the reason of its first fault (docs/FORMAT.md); 1 to 9 of a text: that of its first
- * fault (docs/NTRIPLES.md). And these: */
+/* Reasons: 0 for success; 1 to 34 for the first error of a file (docs/FORMAT.md); 1 to 9 for the first error of a text
+ * (docs/NTRIPLES.md); and these: */
 enum {
     HDT_DONE = 0,
-    HDT_NOT_A_TERM = 250,   /* of texts: a string of the graph is no term of N-Triples in its role; hdt_term: no term
-                             * has the string */
-    HDT_NO_TRIPLES = 251,   /* hdt_build: the text is a document without triples, of which no file is made */
-    HDT_BAD_OPTIONS = 252,  /* hdt_build, hdt_rewrite: the block size isn't 1 to 65535, or the base no absolute IRI */
+    HDT_NOT_A_TERM = 250,   /* calls that make a text: a string of the graph is not a term of N-Triples in its role;
+                             * hdt_term: no term has the string */
+    HDT_NO_TRIPLES = 251,   /* hdt_build: the text has no triples, so no file is built */
+    HDT_BAD_OPTIONS = 252,  /* hdt_build, hdt_rewrite: the block size isn't 1 to 65535, or the base is not an absolute IRI */
     HDT_IS_CLOSED = 253,    /* hdt_text, hdt_pattern_text, hdt_page_text: the graph isn't open */
-    HDT_IS_OPEN = 254,      /* hdt_open: the graph is open already, and stays as it is */
-    HDT_OUT_OF_MEMORY = 255 /* memory was refused: nothing is said of the input; the call may be made again */
+    HDT_IS_OPEN = 254,      /* hdt_open: the graph is open already, and is unchanged */
+    HDT_OUT_OF_MEMORY = 255 /* out of memory: the input may be valid or not; the call may be made again */
 };
 
-/* Answers of the calls that answer a uint64_t, where it is no count, number or length. Those are below: no
- * memory holds so many. */
-#define HDT_ABSENT UINT64_MAX          /* there is none: no such role, number, string */
-#define HDT_NO_MEMORY (UINT64_MAX - 1) /* memory was refused */
+/* Results of calls that return a uint64_t, if it is not a count, an ID or a length. Those are always smaller. */
+#define HDT_ABSENT UINT64_MAX          /* no such role, ID or string */
+#define HDT_NO_MEMORY (UINT64_MAX - 1) /* out of memory */
 #define HDT_CLOSED (UINT64_MAX - 2)    /* the graph isn't open */
 
 /* The reasons of a file, by their names in docs/FORMAT.md, */
@@ -71,7 +68,8 @@ enum {
     HDT_FILE_UNUSED = 34 /* of hdt_verify_tight alone */
 };
 
-/* and those of a text, by their names in docs/NTRIPLES.md. hdt_build tells neither HDT_TEXT_READ nor HDT_TEXT_OUT_OF_MEMORY. */
+/* and those of a text, by their names in docs/NTRIPLES.md. hdt_build reports neither HDT_TEXT_READ nor
+ * HDT_TEXT_OUT_OF_MEMORY. */
 enum {
     HDT_TEXT_SYNTAX = 1, HDT_TEXT_NOT_UTF8 = 2, HDT_TEXT_BAD_ESCAPE = 3, HDT_TEXT_RELATIVE_IRI = 4,
     HDT_TEXT_IRI_CHARACTER = 5, HDT_TEXT_ZERO_CHARACTER = 6, HDT_TEXT_READ = 7, HDT_TEXT_OUT_OF_MEMORY = 8,
@@ -80,29 +78,29 @@ enum {
 
 enum { HDT_SUBJECT = 0, HDT_PREDICATE = 1, HDT_OBJECT = 2 };
 
-/* What is said of a file. */
+/* The result of checking a file. */
 typedef struct {
-    uint32_t reason;    /* HDT_DONE: it is a file. Else why not. */
-    uint64_t place;     /* of a file's fault, in bytes from the start; 0 at any other reason */
-    uint64_t counts[5]; /* triples, then strings: shared, subjects alone, predicates, objects alone; 0 where it isn't done */
+    uint32_t reason;    /* HDT_DONE if the file is valid, else the first error or a general reason */
+    uint64_t place;     /* the byte offset of the file's error; 0 with any other reason */
+    uint64_t counts[5]; /* triples; strings that are shared, subjects only, predicates, objects only; 0 without HDT_DONE */
 } hdt_verdict;
 
-/* What is said of a text that a file is built of. */
+/* The result of building a file. */
 typedef struct {
-    uint32_t reason;    /* HDT_DONE: it was built. Else why not. */
-    uint64_t line;      /* of the fault, from 1; 0 where there is none */
-    uint64_t column;    /* of the fault, in bytes of the line, from 1; 0 where there is none */
+    uint32_t reason;    /* HDT_DONE if it was built, else the first error of the text or a general reason */
+    uint64_t line;      /* the line of the text's error, from 1; 0 with any other reason */
+    uint64_t column;    /* its column, in bytes of the line, from 1; 0 if the error has none */
     uint64_t counts[5]; /* as in a verdict: of the file that was built */
 } hdt_report;
 
-/* What is said of a text that is made of a graph. */
+/* The result of making a text of a graph. */
 typedef struct {
     uint32_t reason; /* HDT_DONE, HDT_NOT_A_TERM, HDT_IS_CLOSED, HDT_OUT_OF_MEMORY */
     uint32_t role;   /* HDT_NOT_A_TERM: the role of the string, else 0 */
-    uint64_t number; /* and its number in that role, else 0 */
+    uint64_t number; /* HDT_NOT_A_TERM: its ID in that role, else 0 */
 } hdt_telling;
 
-/* A graph: state 1 where it is open, else 0. */
+/* A graph: state is 1 if it is open, else 0. */
 typedef struct {
     uint64_t state;
     void *at;
@@ -154,8 +152,8 @@ typedef struct {
     uint64_t second[2]; /* IDs of the other subjects or objects, which are greater; empty for predicates */
 } hdt_ranges;
 
-/* Bytes that the library made: read `len` bytes from `at`; no zero byte stands behind them. State 1 where it has some to free, else 0, and then len is 0. A
- * call that makes bytes frees first what `out` had, also where it makes none. */
+/* Bytes that the library made: `len` bytes from `at`, without a zero byte after them. State is 1 if there are bytes to free, else 0;
+ * then len is 0, too. A call that makes bytes first frees those that `out` had, even if it fails. */
 typedef struct {
     const uint8_t *at;
     uint64_t len;
@@ -164,8 +162,7 @@ typedef struct {
 } hdt_bytes;
 #define HDT_BYTES_INIT {NULL, 0, 0, NULL}
 
-/* The verdict on a file: whether the bytes, all of them, are one, and of what counts; else its first fault. Time is in
- * proportion to the bytes. */
+/* Checks a whole file: its counts, or its first error. HDT_OUT_OF_MEMORY. Linear time. */
 void hdt_verify(const uint8_t *bytes, size_t len, hdt_verdict *verdict);
 
 /* Verifies a file as hdt_verify does, but a string of the dictionary that no triple uses in the role of its section is
@@ -174,35 +171,34 @@ void hdt_verify(const uint8_t *bytes, size_t len, hdt_verdict *verdict);
  * HDT_OUT_OF_MEMORY. Time is linear in the bytes, memory in the triples and strings; all of it is freed. */
 void hdt_verify_tight(const uint8_t *bytes, size_t len, hdt_verdict *verdict);
 
-/* Opens a file: the verdict of hdt_verify. With HDT_DONE, and with nothing else, the graph is open and holds what the bytes
- * lay out; at any other reason it is as it was. Time is in proportion to the bytes. */
+/* Checks a file as hdt_verify does and opens it. The graph is open with HDT_DONE alone; with any other reason it is unchanged.
+ * HDT_IS_OPEN. Time and memory are linear in the file: the call builds indexes. */
 void hdt_open(const uint8_t *bytes, size_t len, hdt_graph *graph, hdt_verdict *verdict);
 
-/* Closes a graph and frees what it grew; the bytes are yours again. One that isn't open stays so. */
+/* Closes a graph and frees its memory; it no longer reads the bytes of the file. Does nothing if the graph isn't open. */
 void hdt_close(hdt_graph *graph);
 
-/* How many triples there are. HDT_CLOSED. */
+/* The number of triples. HDT_CLOSED. Constant time. */
 uint64_t hdt_len(hdt_graph *graph);
 
-/* How many strings a role has; they are numbered from 1. HDT_ABSENT (no such role), HDT_CLOSED. */
+/* The number of strings that a role has; their IDs are 1 to this. HDT_ABSENT (no such role), HDT_CLOSED. Constant time. */
 uint64_t hdt_count(hdt_graph *graph, uint32_t role);
 
-/* The number of a string in a role, from 1. A string is that of the dictionary: an IRI without its brackets, a blank node
- * with `_:`, a literal with its quotes, unescaped, and `@` and its tag or `^^<`, its datatype and `>` (docs/NTRIPLES.md,
- * "Dictionary strings"). HDT_ABSENT (no such role or string), HDT_CLOSED. */
+/* The ID of a string in a role, from 1. The string is a dictionary string: an IRI without brackets, a blank node with `_:`, or a
+ * literal with its quotes and without escapes, followed by nothing, `@` and a tag, or `^^<`, a datatype and `>` (docs/NTRIPLES.md,
+ * "Dictionary strings"). HDT_ABSENT (no such role or string), HDT_CLOSED. A binary search, and a scan of one block. */
 uint64_t hdt_number(hdt_graph *graph, uint32_t role, const uint8_t *string, size_t len);
 
-/* The string of a role with the number, from 1: how many bytes it has. Its first bytes are put into out, and no zero byte
- * behind them: all, or the `room` that fit (0 to ask for the length alone). Each call unfolds the string from the head of its
- * block; hdt_strings gives many. HDT_ABSENT (no such role or number), HDT_NO_MEMORY, HDT_CLOSED; then out is as it was. */
+/* The string with an ID in a role. Writes its first `room` bytes to out (0 if you want the length alone), without a zero byte after
+ * them, and returns its length. HDT_ABSENT (no such role or ID), HDT_NO_MEMORY, HDT_CLOSED; then out is unchanged. Each call decodes
+ * a block up to the string; hdt_strings is for many. */
 uint64_t hdt_string(hdt_graph *graph, uint32_t role, uint64_t number, uint8_t *out, size_t room);
 
-/* The strings of a role with these numbers, from 1, in their order: out has them one after another, with no zero byte between,
- * and the answer is how many bytes that is. Where each of them ends, in bytes from the start of out, is put into ends: all, or
- * the `room` that fit (`count` for all). HDT_ABSENT (no such role, or no such number among them, whose first one is 0 or
- * above hdt_count), HDT_NO_MEMORY, HDT_CLOSED; then out has nothing and ends is as it was. Numbers that ascend, repeats
- * allowed, take time in proportion to the strings up to the last of them at most, as each block of strings is unfolded once;
- * in any other order each may unfold its block, as hdt_string does: so sort them. */
+/* The strings with these IDs in a role, in their order. `out` has them one after another, without zero bytes between them, and the
+ * result is their total length. Writes to ends where each one ends, in bytes from the start of out: those of the first `room`
+ * strings (`count` for all). HDT_ABSENT (no such role, or an ID is not 1 to hdt_count), HDT_NO_MEMORY, HDT_CLOSED; then out has
+ * nothing and ends is unchanged. IDs that ascend, also with repeats, take at most time in proportion to the strings up to the last
+ * one, since each block is decoded once. In any other order each ID may decode its block, so sort them. */
 uint64_t hdt_strings(hdt_graph *graph, uint32_t role, const uint64_t *numbers, size_t count, hdt_bytes *out, uint64_t *ends,
                      size_t room);
 
@@ -211,34 +207,31 @@ uint64_t hdt_strings(hdt_graph *graph, uint32_t role, const uint64_t *numbers, s
  * most twice the time of hdt_number. */
 uint64_t hdt_prefix(hdt_graph *graph, uint32_t role, const uint8_t *prefix, size_t len, hdt_ranges *ranges);
 
-/* The header of the file, N-Triples that nobody looked at: how many bytes it has. Its first bytes are put into out, as by
- * hdt_string. HDT_CLOSED. */
+/* The header of the file: N-Triples as a rule, but nothing checks it. Writes its first `room` bytes to out, as hdt_string does, and
+ * returns its length. HDT_CLOSED. */
 uint64_t hdt_header(hdt_graph *graph, uint8_t *out, size_t room);
 
-/* The triples that match: that have each string that is given in its role. has_s 0: any subject, and s isn't read (but may
- * not be null); and so on. They stand in the order of the file, by subject, predicate, object; of them the first `skip` are
- * left out, and the next ones are put into out, as three numbers each: all, or the `room` that fit. The answer is how many
- * were put: fewer than `room` where no more follow. Where nothing is given, or s, or s and p, the first one that is not left
- * out is found by binary search; else those that are left out are walked over at each call, so portions of one size take time
- * like the square of the matches: double the room from call to call, or use hdt_page. HDT_CLOSED, which is more than any
- * room. */
+/* The triples that have each given string in its role. If has_s is 0, any subject matches, and s isn't read (but may not be null);
+ * so for p and o. Writes the matches after the first `skip` ones to out, at most `room`, in the order of the file (by subject,
+ * predicate, object), each as its three IDs. Returns how many: fewer than `room` if there are no more. If nothing is given, or s, or
+ * s and p, the first match to write is found by binary search. Otherwise each call scans the skipped matches, so pages of one size
+ * take quadratic time: use hdt_page. HDT_CLOSED, which is greater than any room. */
 uint64_t hdt_find(hdt_graph *graph, uint32_t has_s, const uint8_t *s, size_t s_len, uint32_t has_p, const uint8_t *p, size_t p_len,
                   uint32_t has_o, const uint8_t *o, size_t o_len, uint64_t skip, uint64_t (*out)[3], size_t room);
 
-/* How many triples match. HDT_CLOSED. */
+/* The number of triples that match. HDT_CLOSED. Takes at most the time to find them. */
 uint64_t hdt_matching(hdt_graph *graph, uint32_t has_s, const uint8_t *s, size_t s_len, uint32_t has_p, const uint8_t *p,
                       size_t p_len, uint32_t has_o, const uint8_t *o, size_t o_len);
 
-/* The triples that match, as N-Triples, a line each, in the order of the file. A string that is no term of its role is told
- * by role and number: the first of the first such triple. With HDT_DONE out has the text, which is empty where nothing
- * matches; else it has nothing. */
+/* The triples that match as N-Triples, a line each, in the order of the file. With HDT_DONE out has the text, which is empty if
+ * nothing matches; else it has nothing. HDT_NOT_A_TERM, with the role and ID of the first such string of the first such triple;
+ * HDT_IS_CLOSED, HDT_OUT_OF_MEMORY. Time is linear in the text, and in the file at most. */
 void hdt_text(hdt_graph *graph, uint32_t has_s, const uint8_t *s, size_t s_len, uint32_t has_p, const uint8_t *p, size_t p_len,
               uint32_t has_o, const uint8_t *o, size_t o_len, hdt_bytes *out, hdt_telling *telling);
 
-/* hdt_find, hdt_matching and hdt_text for a pattern whose parts are strings, IDs or any. A part that is an ID isn't
- * looked up, so a join goes over the IDs that a call before has put into its `out`. All else is as described there: a
- * string that its role doesn't have matches nothing. HDT_CLOSED; of hdt_pattern_text HDT_IS_CLOSED, HDT_NOT_A_TERM and
- * HDT_OUT_OF_MEMORY. */
+/* hdt_find, hdt_matching and hdt_text for a pattern whose parts are strings, IDs or any. An ID needs no look-up, so a join uses the
+ * IDs that another call has written to its `out`. A string that its role doesn't have matches nothing. The errors are those of
+ * hdt_find, hdt_matching and hdt_text. */
 uint64_t hdt_pattern_find(hdt_graph *graph, const hdt_pattern *pattern, uint64_t skip, uint64_t (*out)[3], size_t room);
 uint64_t hdt_pattern_matching(hdt_graph *graph, const hdt_pattern *pattern);
 void hdt_pattern_text(hdt_graph *graph, const hdt_pattern *pattern, hdt_bytes *out, hdt_telling *telling);
@@ -268,17 +261,17 @@ void hdt_page_text(hdt_graph *graph, const hdt_pattern *pattern, uint64_t from, 
  * take time in proportion to the pairs of a subject and a predicate, times the logarithm of their number. */
 uint64_t hdt_predicates(hdt_graph *graph, uint64_t *counts, size_t room);
 
-/* Builds the canonical file of the graph of N-Triples, in blocks of so many strings, 1 to 65535 (16 is usual). The base is
- * the absolute IRI that stands for the file in its header. HDT_BAD_OPTIONS is told before the text is looked at; else the
- * first fault of the text, by line and column. With
- * HDT_DONE out has the file, else nothing. */
+/* Builds the canonical file of the graph of an N-Triples text. `block_size` is the number of strings in a block, 1 to 65535 (16 is
+ * usual); the base is the absolute IRI that names the file in its header. With HDT_DONE out has the file, else nothing.
+ * HDT_BAD_OPTIONS, before the text is read; the first error of the text, by line and column; HDT_NO_TRIPLES, HDT_OUT_OF_MEMORY.
+ * Linear time, except for sorting. */
 void hdt_build(const uint8_t *text, size_t len, const uint8_t *base, size_t base_len, uint32_t block_size, hdt_bytes *out,
                hdt_report *report);
 
-/* Rewrites a file as the canonical file of the same triples, with the same header, without unused strings, in blocks of so
- * many strings, 1 to 65535. The verdict is that on the file that is given, but the counts are those of the new file; of a
- * file that is one, HDT_BAD_OPTIONS may be told. With
- * HDT_DONE out has it, else nothing. */
+/* Rewrites a file as the canonical file of the same triples, with the same header and without unused strings. `block_size` is the
+ * number of strings in a block, 1 to 65535. With HDT_DONE out has the new file, and the verdict its counts; else out has nothing, and
+ * the verdict is that of hdt_verify or, for a valid file, HDT_BAD_OPTIONS or HDT_OUT_OF_MEMORY. Linear time, except for sorting the
+ * triples if the order of the IDs changes. */
 void hdt_rewrite(const uint8_t *bytes, size_t len, uint32_t block_size, hdt_bytes *out, hdt_verdict *verdict);
 
 /* The term with a dictionary string, as hdt_string and hdt_strings give it: its kind, and which bytes of the string are
@@ -311,7 +304,7 @@ uint32_t hdt_version(void);
 uint64_t hdt_reason_name(uint32_t reason, uint8_t *out, size_t room);
 uint64_t hdt_text_reason_name(uint32_t reason, uint8_t *out, size_t room);
 
-/* Frees bytes and zeroes them. Where there are none it does nothing. */
+/* Frees bytes and sets the fields to zero. Does nothing if there are none. */
 void hdt_free(hdt_bytes *bytes);
 
 #ifdef __cplusplus

@@ -5,6 +5,7 @@ from __future__ import annotations
 import json
 import re
 import sys
+from contextlib import ExitStack
 from itertools import product
 from pathlib import Path
 from typing import Any, Optional
@@ -117,6 +118,48 @@ def test_far_pages(tmp_path: Path) -> None:
             for page in (len(found) // 100, 1, 21, 22, 49, 33, 21):
                 answer = site.nquads(url(predicate=predicate, page=page))
                 assert data(answer.text) == ntriples(found[100 * page - 100:100 * page])
+
+
+def test_far_pages_take_one_walk(tmp_path: Path) -> None:
+    """All far pages of a pattern together take one walk over its matches; then a page takes a thousand of them."""
+    text = "".join(f"<u:s{n:05}> <u:{p}> <u:o> .\n" for n in range(9_000) for p in "pq")
+    site = Site(fragments.Application({"datasets": {"odd": str(build(tmp_path, text))}}))
+    skipped: list[int] = []
+    position = hdt.Graph.position
+
+    def counting(graph: hdt.Graph, *pattern: Any, skip: int = 0, start: int = 0) -> Optional[int]:
+        skipped.append(skip)
+        return position(graph, *pattern, skip=skip, start=start)
+
+    with mock.patch.object(hdt.Graph, "position", counting):
+        for given in ({"predicate": "u:p"}, {"object": "u:o"}, {"predicate": "u:q", "object": "u:o"}):
+            matches = site.nquads(url(**given)).total
+            skipped.clear()
+            for page in (matches // 100, matches // 100, 3, 41, matches // 200):
+                before = sum(skipped)
+                answer = site.nquads(url(**given, page=page))
+                assert data(answer.text).count("\n") == 100
+                assert sum(skipped) - before < (1_000 if before else matches)
+            assert max(skipped) <= 1_000
+
+
+@pytest.mark.parametrize("media", [*FORMATS, "text/html"])
+@pytest.mark.parametrize("given", [{}, {"predicate": N}, {"predicate": P}, {"subject": "http://odd.example/s1"}],
+                         ids=["all", "numbers", "odd terms", "a subject"])
+def test_few_calls_a_page(odd: Path, media: str, given: dict[str, str]) -> None:
+    """A page takes a few calls of the engine, however many terms it has."""
+    site, called = Site(fragments.Application({"datasets": {"odd": str(odd)}})), list[str]()
+    with ExitStack() as patches:
+        for name in ("_asked", "_put", "_text"):
+            call = getattr(hdt.Graph, name)
+
+            def counting(graph: hdt.Graph, *parameters: Any, call: Any = call, name: str = name) -> Any:
+                called.append(name)
+                return call(graph, *parameters)
+
+            patches.enter_context(mock.patch.object(hdt.Graph, name, counting))
+        assert site.ask(url(**given), Accept=media).status == 200
+    assert 0 < len(called) <= 12, called
 
 
 def next_of(answer: Answer) -> str:

@@ -55,7 +55,7 @@ class Said(NamedTuple):
 def asked(requests: Iterable[tuple[str, ...]]) -> list[Said]:
     """What clients say to requests, in one process."""
     text = "".join("\t".join(words) + "\n" for words in requests)
-    done = subprocess.run(["perl", CLIENT], input=text.encode(), capture_output=True, timeout=280)
+    done = subprocess.run(["perl", CLIENT], input=text.encode(), capture_output=True, timeout=1800)
     answers: list[Said] = []
     lines: list[str] = []
     for line in done.stdout.decode().split("\n"):

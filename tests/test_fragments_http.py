@@ -69,7 +69,8 @@ def test_gzip(site: Site) -> None:
     assert packed.headers["content-encoding"] == "gzip" and gzip.decompress(packed.body) == plain.body
     assert int(packed.headers["content-length"]) == len(packed.body) < len(plain.body) / 4
     assert packed.headers["etag"] != plain.headers["etag"]
-    assert site.ask("/odd", Accept_Encoding="gzip", If_None_Match=packed.headers["etag"]).status == 304
+    known = site.ask("/odd", Accept_Encoding="gzip", If_None_Match=packed.headers["etag"])
+    assert (known.status, known.headers["etag"]) == (304, packed.headers["etag"])
     for accept in ("", "gzip;q=0", "br", "identity", "*;q=0", "gzip;q=0.0, *"):
         assert "content-encoding" not in site.ask("/odd", Accept_Encoding=accept).headers
     assert "content-encoding" not in site.ask("/none", Accept_Encoding="gzip").headers
@@ -83,6 +84,8 @@ def test_head(site: Site) -> None:
     for target in ("/odd", "/", "/odd/void", "/none", "/odd/data.hdt", url(page=9)):
         got, head = site.ask(target), site.ask(target, "HEAD")
         assert (head.status, head.headers, head.body) == (got.status, got.headers, b"")
+    whole = site.ask("/odd/data.hdt", "HEAD", Range="bytes=0-9")
+    assert whole.status == 200 and int(whole.headers["content-length"]) > 10
 
 
 def test_options(site: Site) -> None:

@@ -305,19 +305,23 @@ def browse(folder: Path, address: str, width: int) -> tuple[str, str]:
     done = subprocess.run(
         [CHROMIUM, "--headless=new", "--no-sandbox", "--disable-gpu", "--no-first-run", f"--user-data-dir={folder}",
          "--enable-logging=stderr", "--host-resolver-rules=MAP * ~NOTFOUND, EXCLUDE 127.0.0.1",
-         f"--window-size={width},900", "--dump-dom", address], capture_output=True, timeout=100)
+         f"--window-size={width},900", "--dump-dom", address], capture_output=True, timeout=200)
     return done.stdout.decode(), done.stderr.decode()
 
 
 @needs_chromium
-def test_browser(browsed: tuple[str, Measuring], tmp_path: Path) -> None:
+@pytest.mark.parametrize("target, shown", [
+    (url(predicate="http://odd.example/p"), "triples match"), (url(subject="_:b1"), "points to it"),
+    ("/odd/void", "most used"), ("/", "Datasets of RDF"), ("/odd?page=0", "no number"),
+], ids=["fragment", "subject", "description", "list", "error"])
+def test_browser(browsed: tuple[str, Measuring], tmp_path: Path, target: str, shown: str) -> None:
     """A browser shows the page without an error, and asks for nothing else; the style is taken."""
     address, application = browsed
     application.asked.clear()
-    dom, said = browse(tmp_path, address + url(predicate="http://odd.example/p"), 1280)
-    assert "triples match" in dom
-    assert application.asked == ["/odd"]
-    assert "CONSOLE" not in said, said
+    dom, said = browse(tmp_path, address + target, 1280)
+    assert shown in dom
+    assert application.asked == [target.partition("?")[0]]
+    assert "CONSOLE" not in re.sub(".*the server responded with a status of 400.*", "", said), said
 
 
 @needs_chromium

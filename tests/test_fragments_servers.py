@@ -11,12 +11,14 @@ import subprocess
 import sys
 import threading
 import time
+from email.utils import formatdate
 from pathlib import Path
 from typing import Any, Optional
 
 import pytest
 
-from support.fragments import GUNICORN, ODD, Answer, Served, Site, build, fragments, served, url
+from support.built import PROGRAM, TOP
+from support.fragments import GUNICORN, ODD, PATIENCE, Answer, Served, Site, build, fragments, served, url
 from support.python_package import ENVIRONMENT
 
 needs_gunicorn = pytest.mark.skipif(not os.path.exists(GUNICORN), reason="there is no gunicorn (Debian: gunicorn)")
@@ -77,8 +79,24 @@ def test_replaced(
     assert site.ask("/swap/data.hdt").body == good
 
 
+def test_replaced_by_an_old_file(odd: Path, tmp_path: Path, monkeypatch: pytest.MonkeyPatch) -> None:
+    """A file that was made long ago is news to a client that has the one before."""
+    file = tmp_path / "swap.hdt"
+    put(odd.read_bytes(), file)
+    site = Site(fragments.Application({"datasets": {"swap": str(file)}}))
+    when = formatdate(time.time() + 1, usegmt=True)
+    assert site.ask("/swap", If_Modified_Since=when).status == 304
+    time.sleep(2.1)
+    beside = build(tmp_path, "<u:a> <u:p> <u:b> .\n", "old")
+    os.utime(beside, (10**9, 10**9))
+    beside.rename(file)
+    later(monkeypatch)
+    assert site.ask("/swap", If_Modified_Since=when).status == 200
+
+
 def test_checked_once_a_second(odd: Path, tmp_path: Path, monkeypatch: pytest.MonkeyPatch) -> None:
     """The file is not checked for each request."""
+    later(monkeypatch, 0)  # (however slow this machine is)
     file = tmp_path / "swap.hdt"
     put(odd.read_bytes(), file)
     site, checks = Site(fragments.Application({"datasets": {"swap": str(file)}})), []
@@ -179,7 +197,7 @@ def test_no_body_behind_head(odd: Path, tmp_path: Path, gunicorn: bool) -> None:
     shutil.copy(odd, tmp_path / "odd.hdt")
     with served(tmp_path, {"datasets": {"odd": "odd.hdt"}}, gunicorn) as server:
         host, port = server.url[len("http://"):].split(":")
-        with socket.create_connection((host, int(port)), timeout=20) as stream:
+        with socket.create_connection((host, int(port)), timeout=PATIENCE) as stream:
             stream.sendall(b"HEAD /odd HTTP/1.1\r\nHost: a\r\nConnection: close\r\n\r\n")
             got = b""
             while piece := stream.recv(65536):
@@ -228,14 +246,32 @@ def test_behind_nginx(odd: Path, tmp_path: Path) -> None:
             assert behind.nquads("/lod/odd?object=%22" + "x" * 6900).total == 0
         finally:
             proxy.terminate()
-            proxy.wait(20)
+            proxy.wait(PATIENCE)
+
+
+@pytest.mark.skipif(not shutil.which("curl"), reason="there is no curl (Debian: curl)")
+def test_four_lines_of_readme(tmp_path: Path) -> None:
+    """README's four lines, in an empty folder, on another port: Turtle, and a page for people."""
+    found = re.search(r"\*\*On the web\*\*.*?```text\n(.*?)```", (TOP / "README.md").read_text(), re.DOTALL)
+    assert found and found[1].count("\n") == 4
+    with socket.socket() as free:
+        free.bind(("127.0.0.1", 0))
+        port = free.getsockname()[1]
+    lines = re.sub(r"\bcurl ", f"curl -s --retry {PATIENCE:.0f} --retry-delay 1 --retry-connrefused ", found[1])
+    done = subprocess.run(
+        ["bash", "-euo", "pipefail", "-c", "trap 'kill %1' EXIT\n" + lines.replace("8080", str(port))],
+        capture_output=True, text=True, timeout=3 * PATIENCE, cwd=tmp_path,
+        env={**os.environ, **ENVIRONMENT, "PATH": f"{PROGRAM.parent}:{os.environ['PATH']}"})
+    assert done.stdout.startswith("built 1 0 1 1 1 "), done.stderr
+    assert '<http://a/tea> <http://a/colour> "green"@en .\n' in done.stdout and "hydra:totalItems 1 ;" in done.stdout
+    assert "1</b> triple<" in done.stdout and done.stdout.endswith("</html>\n")
 
 
 def test_command(tmp_path: Path) -> None:
     """`python -m hdt.fragments` says what is wrong with its words."""
     def said(*words: str) -> tuple[int, str]:
         command = [sys.executable, "-m", "hdt.fragments", *words]
-        done = subprocess.run(command, capture_output=True, text=True, timeout=60,
+        done = subprocess.run(command, capture_output=True, text=True, timeout=PATIENCE,
                               env={**os.environ, **ENVIRONMENT}, cwd=tmp_path)
         return done.returncode, done.stderr.strip().split("\n")[-1]
 

@@ -10,6 +10,7 @@ import pytest
 from hypothesis import HealthCheck, given, settings
 from hypothesis import strategies as st
 
+from reference import checks
 from reference import hdt as reference
 from support.built import SAMPLES
 from support.program import READING_FAILED, Result, Word, brief, done, hdt
@@ -40,7 +41,7 @@ def canonical_of(data: bytes, block_size: int) -> bytes:
 
 def is_tight(data: bytes) -> bool:
     """Whether triples use all strings of a valid file."""
-    return reference.error_of(lambda bytes: reference.read_file(bytes, tight=True), data) is None
+    return checks.error_of(lambda bytes: reference.read_file(bytes, tight=True), data) is None
 
 
 def values_of(data: bytes) -> dict[str, Value]:

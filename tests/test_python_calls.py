@@ -242,6 +242,8 @@ def test_pages(triples: list[Triple], at: int, size: int) -> None:
                 assert graph.page(*pattern, start=start, limit=0) == ([], wanted[0] if wanted else None)
                 skipped = places[start] if start < len(places) else None
                 assert graph.position(*pattern, skip=start) == graph.position(*parts, skip=start) == skipped
+                later = wanted[at % 4] if len(wanted) > at % 4 else None
+                assert graph.position(*pattern, skip=at % 4, start=start) == later
             assert graph.position(*pattern) == places[0]
 
 
@@ -258,12 +260,24 @@ def test_many_pages(size: int, many: tuple[hdt.Graph, list[Triple]]) -> None:
             assert followed(partial(graph.page, *pattern), size) == wanted == list(graph.find(*pattern))
 
 
+def test_positions_of_many(many: tuple[hdt.Graph, list[Triple]]) -> None:
+    """The position after thousands of matches, from any position on, for the eight patterns."""
+    graph, found = many
+    for pattern in patterns_of(found[50_000]):
+        places = [n for n, triple in enumerate(found) if triple in matching([triple], pattern)]
+        for start in (0, 1, 777, 50_000):
+            first = next((n for n, place in enumerate(places) if place >= start), len(places))
+            for skip in (0, 1, 999, 16_384, 40_000):
+                wanted = places[first + skip] if first + skip < len(places) else None
+                assert graph.position(*pattern, skip=skip, start=start) == wanted
+
+
 @pytest.mark.parametrize("start", [3, 4, 2**63, 2**64 - 1, 2**64, 2**70])
 def test_pages_past_the_end(start: int, three: hdt.Graph) -> None:
     """From the end on there is nothing, and no match is skipped to."""
     for pattern in patterns_of(("u:b", "u:p", "u:a")):
         assert three.page(*pattern, start=start) == ([], None) == three.page_ids(*pattern, start=start)
-        assert three.position(*pattern, skip=start) is None
+        assert three.position(*pattern, skip=start) is None is three.position(*pattern, skip=1, start=start)
     assert three.page(start=2) == ([("u:b", "u:p", "u:a")], None)
     assert three.page(limit=2**70) == (list(three), None)
 
@@ -294,6 +308,8 @@ def test_bad_positions(three: hdt.Graph) -> None:
         three.page(1)  # type: ignore[arg-type]
     with pytest.raises(ValueError):
         three.position(skip=-1)
+    with pytest.raises(ValueError):
+        three.position(start=-1)
     with pytest.raises(TypeError):
         three.position(skip=1.0)  # type: ignore[arg-type]
 
@@ -375,16 +391,22 @@ def test_other_roles(call: Callable[[hdt.Graph], object], three: hdt.Graph) -> N
 # ---- text in pieces
 
 
-@given(GRAPHS, st.integers(0, 19), st.sampled_from([1, 60, 2**16]))
+@given(GRAPHS, st.integers(0, 19), st.sampled_from([1, 2, 7, 1_024]))
 @example(WORKED, 0, 1)
 def test_text_in_pieces(triples: list[Triple], at: int, size: int) -> None:
     """The pieces of each pattern's text, none of them empty, are that text."""
-    with hdt.Graph(reference.graph(strings_of(triples)).data) as graph, mock.patch.object(_handle, "_PIECE", size):
+    with hdt.Graph(reference.graph(strings_of(triples)).data) as graph, mock.patch.object(_handle, "_LINES", size):
         found = list(graph)
         for pattern in [*patterns_of(found[at % len(found)]), [None, "u:none", None], ["u:none", None, None]]:
             pieces = list(graph.text_pieces(*pattern))
             assert "".join(pieces) == graph.text(*pattern)
-            assert all(piece.endswith("\n") for piece in pieces)
+            assert all(piece.count("\n") <= size and piece.endswith("\n") for piece in pieces)
+            pages: list[str] = []
+            start: Optional[int] = 0
+            while start is not None:
+                page, start = graph.page_text(*pattern, start=start, limit=size)
+                pages.append(page)
+            assert [page for page in pages if page] == pieces
             written, told = io.BytesIO(), io.StringIO()
             graph.write_text(written, *pattern)
             graph.write_text(told, *pattern)
@@ -392,11 +414,11 @@ def test_text_in_pieces(triples: list[Triple], at: int, size: int) -> None:
 
 
 def test_many_pieces(many: tuple[hdt.Graph, list[Triple]], tmp_path: Path) -> None:
-    """The text of a large graph comes in pieces of some 64 KiB, and can be built again."""
+    """The text of a large graph comes in pieces of 1,024 lines, and can be built again."""
     graph, found = many
     pieces = list(graph.text_pieces())
     assert "".join(pieces) == lines(found)
-    assert len(pieces) > 50 and max(map(len, pieces)) < 2 * 65_536 and min(map(len, pieces[:-1])) >= 65_536
+    assert len(pieces) > 50 and {piece.count("\n") for piece in pieces[:-1]} == {1_024}
     with open(tmp_path / "all.nt", "wb") as file:
         graph.write_text(file)
     assert hdt.build(tmp_path / "all.nt", tmp_path / "all.hdt").triples == len(found)
@@ -406,7 +428,7 @@ def test_many_pieces(many: tuple[hdt.Graph, list[Triple]], tmp_path: Path) -> No
 def test_pieces_with_a_string_that_is_no_term() -> None:
     """The pieces before it come; then it is an error, as of `text`."""
     strings = [(b"u:a", b"u:p", b"u:b"), (b"u:a", b"u:q", b"rel"), (b"u:b", b"u:p", b"u:a")]
-    with hdt.Graph(reference.graph(strings).data) as graph, mock.patch.object(_handle, "_PIECE", 1):
+    with hdt.Graph(reference.graph(strings).data) as graph, mock.patch.object(_handle, "_LINES", 1):
         assert list(graph.text_pieces(p="u:p")) == ["<u:a> <u:p> <u:b> .\n", "<u:b> <u:p> <u:a> .\n"]
         for subject in (None, "u:a"):
             with pytest.raises(hdt.NotATerm) as raised:
@@ -423,6 +445,7 @@ CLOSED_CALLS: dict[str, Callable[[hdt.Graph], object]] = {
     "id_array": lambda graph: graph.id_array(),
     "page": lambda graph: graph.page(),
     "page_ids": lambda graph: graph.page_ids(1),
+    "page_text": lambda graph: graph.page_text(),
     "position": lambda graph: graph.position(),
     "terms": lambda graph: graph.terms("subject"),
     "predicates": lambda graph: graph.predicates(),

@@ -75,6 +75,14 @@ def test_calls_name_their_errors() -> None:
     assert set(lacking) <= quiet, lacking
 
 
+def test_calls_name_their_cost() -> None:
+    """Each call says what time or memory it takes; of terms, the class says it for all."""
+    documents = {name: inspect.getdoc(it) or "" for name, it in public().items()}
+    lacking = {name for name, text in documents.items() if not re.search(r"\btime\b|takes|decodes|memory", text)}
+    values = {"Counts", "Fault", "LineFault", "NoTriples", "NotATerm"}
+    assert lacking - values == {f"Term.{name}" for name in ("parse", "format", "parse_ntriples", "format_ntriples")}
+
+
 def test_annotations() -> None:
     """Each parameter and each result has a type."""
     for name, it in public().items():

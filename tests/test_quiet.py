@@ -9,6 +9,7 @@ import pytest
 from hypothesis import HealthCheck, given, settings
 from hypothesis import strategies as st
 
+from reference import checks
 from reference import hdt as reference
 from support.built import SAMPLES
 from support.program import READING_FAILED, Result, Word, closed, done, failed, fault, hdt, hdt_into
@@ -66,7 +67,7 @@ def test_strings_that_are_not_terms(tmp_path: Path) -> None:
 def test_errors(tmp_path: Path) -> None:
     """Errors have their line and their status, as without --quiet."""
     data = THREE.read_bytes()[:-1]
-    error = reference.error_of(reference.read_file, data)
+    error = checks.error_of(reference.read_file, data)
     assert error is not None
     (tmp_path / "cut.hdt").write_bytes(data)
     assert hdt("find", "--quiet", tmp_path / "cut.hdt", "?", "?", "?") == fault(*error)

@@ -27,6 +27,7 @@ from support.rdf_graphs import (ABSENT, RDF, TYPES, VALUES, XSD, Row, blank, eva
 import rdflib
 from rdflib import BNode, ConjunctiveGraph, Dataset, Graph, Literal, URIRef, Variable
 from rdflib.compare import isomorphic
+from rdflib.plugins.sparql.sparql import FrozenBindings
 
 HDTStore, ReadOnly, string_of, term_of = store.HDTStore, store.ReadOnly, store.string_of, store.term_of
 
@@ -498,4 +499,6 @@ def test_parts_of_rdflib_that_may_change() -> None:
     assert str(made) == "a b", "the text of xsd:token is kept: _terms._with_text may go"
     assert Literal("x", lang="en") == Literal("x", lang="EN"), "tags have a case: the store's equality is wider"
     assert Literal("x") != Literal("x", datatype=URIRef(STRING)), "xsd:string is plain: the store's is the same"
+    bindings = FrozenBindings(None, {Variable("x"): A})
+    assert vars(bindings) == {"_d": {Variable("x"): A}, "_hash": None, "ctx": None}, "_plan._Solution sets these"
     assert rdflib.plugins.sparql.CUSTOM_EVALS == {}, "another evaluator is there from the start"

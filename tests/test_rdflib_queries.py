@@ -7,12 +7,13 @@ from contextlib import ExitStack
 from collections.abc import Iterator
 from pathlib import Path
 from typing import Any, Optional
+from unittest import mock
 
 import pytest
 from hypothesis import given, settings
 from hypothesis import strategies as st
 
-from support.rdflib_package import hdt, store
+from support.rdflib_package import hdt, plan, store
 from support import rdf_graphs as rdf
 from support.rdf_graphs import (XSD, Row, blank, evaluated, from_turtle, iri, plain, rows, stored, tagged, typed,
                                 written)
@@ -187,6 +188,17 @@ def test_spellings_give_a_solution_once(mode: str) -> None:
 
 
 @modes
+def test_each_spelling_is_searched_for_at_a_value(mode: str) -> None:
+    """A given literal with two spellings is found in both by a pattern one of whose variables has a value."""
+    triples = [(iri("u:a"), iri("u:q"), tagged("x", "en")), (iri("u:b"), iri("u:q"), tagged("x", "EN")),
+               (iri("u:a"), iri("u:r"), iri("u:c")), (iri("u:b"), iri("u:r"), iri("u:d"))]
+    with evaluated(mode), stored(triples) as graph:
+        for value, subject in (("u:c", "u:a"), ("u:d", "u:b")):
+            found = graph.query(f'SELECT ?a {{ ?a <u:r> <{value}> . ?a <u:q> "x"@En }}')
+            assert [str(row.a) for row in found] == [subject]
+
+
+@modes
 def test_groups_of_spellings(mode: str) -> None:
     """Literals that rdflib takes for equal are one group."""
     triples = [(iri("u:a"), iri("u:q"), tagged("x", "en")), (iri("u:a"), iri("u:q"), tagged("x", "EN")),
@@ -339,6 +351,17 @@ def test_a_plan_takes_few_searches() -> None:
         searches = {mode: calls(graph, query, mode)["searches"] for mode in rdf.MODES}
     assert searches["rdflib"] > 300
     assert searches["terms"] < 10 and searches["ids"] < 10
+
+
+def test_a_join_of_many_takes_few_searches() -> None:
+    """After some searches for a pattern its triples are read at once, as far as that takes less."""
+    triples = [(iri(f"u:s{n}"), iri("u:p"), iri(f"u:s{n + 1}")) for n in range(2_000)]
+    query = "SELECT * { ?a <u:p> ?b . ?b <u:p> ?c }"
+    with stored(triples) as graph:
+        searches = calls(graph, query, "ids")["searches"]
+        assert 64 < searches < 300
+        with mock.patch.object(plan, "_MOST_READ", 1_999):
+            assert calls(graph, query, "ids")["searches"] >= 2_000
 
 
 def test_a_node_is_not_searched_where_it_cannot_be() -> None:

@@ -9,6 +9,7 @@ import pytest
 from hypothesis import HealthCheck, example, given, settings
 from hypothesis import strategies as st
 
+from reference import checks
 from reference import hdt as reference
 from reference import ntriples
 from support.program import READING_FAILED, Result, Word, brief, done, failed, fault, hdt
@@ -154,7 +155,7 @@ def test_errors(tmp_path: Path) -> None:
     path, data = tmp_path / "graph.hdt", FILES["three triples"]
     assert hdt("strings", path, "subject", "--prefix", "u:") == READING_FAILED
     path.write_bytes(data[:-1])
-    wanted = reference.error_of(reference.read_file, data[:-1])
+    wanted = checks.error_of(reference.read_file, data[:-1])
     assert wanted is not None
     assert hdt("strings", path, "subject", "--terms") == fault(*wanted)
     path.write_bytes(data)

@@ -52,6 +52,9 @@ def _reopened(path: str, copy: Optional[bool], identity: Identity) -> Graph:
 class Graph(OpenHandle):
     """An open file. Threads may share one: it answers one call at a time.
 
+    `open` opens a path. `Graph(data)` opens bytes, any object with the buffer protocol: they are borrowed, not copied,
+    and must not change while the graph is open. Errors: those of `open`, TypeError.
+
     Its length is the number of its triples; iterating gives them as `find` does. `(s, p, o) in graph` looks for one.
     A pattern is three parts, of which None is any: strings, and in calls on IDs also the IDs of strings. Once it is
     closed, every call but `close` raises ValueError.
@@ -62,20 +65,11 @@ class Graph(OpenHandle):
     >>> with hdt.open("graph.hdt") as graph:
     ...     print(graph, ("u:a", "u:p", "u:b") in graph, next(iter(graph)))
     <hdt.Graph of 3 triples: graph.hdt> True ('u:a', 'u:p', 'u:b')
+    >>> with open("graph.hdt", "rb") as file: len(hdt.Graph(file.read()))
+    3
     """
 
     _origin: Optional[tuple[str, Optional[bool], Optional[Identity]]] = None
-
-    def __init__(self, data: Any) -> None:
-        """Open the bytes of a file: any object with the buffer protocol, as `bytes`. They are borrowed, not copied.
-
-        They must not change while the graph is open. Errors: those of `open`, TypeError.
-
-        >>> import pathlib
-        >>> len(hdt.Graph(pathlib.Path("graph.hdt").read_bytes()))
-        3
-        """
-        super().__init__(data)
 
     def close(self) -> None:
         """Close it and free its memory. A second call does nothing.
@@ -100,11 +94,10 @@ class Graph(OpenHandle):
         name = f": {os.path.basename(self._origin[0])}" if self._origin else ""
         return f"<hdt.Graph of {self._counts.triples:,} triples{name}>"
 
-    def __copy__(self) -> Graph:
+    def __copy__(self, memo: object = None) -> Graph:
         raise TypeError("a Graph can't be copied: threads may share it, or the file be opened again")
 
-    def __deepcopy__(self, memo: object) -> Graph:
-        return self.__copy__()
+    __deepcopy__ = __copy__
 
     def __reduce__(self) -> tuple[Any, ...]:
         self._check_open()
@@ -120,7 +113,7 @@ class Graph(OpenHandle):
 
     @property
     def counts(self) -> Counts:
-        """The counts of the file, as `verify` gives them.
+        """The counts of the file, as `verify` gives them. Constant time.
 
         >>> with hdt.open("graph.hdt") as graph:
         ...     graph.counts.predicates
@@ -131,7 +124,7 @@ class Graph(OpenHandle):
 
     @property
     def header(self) -> bytes:
-        """The header of the file, as bytes: N-Triples as a rule, which nobody looked at.
+        """The header of the file, as bytes: N-Triples as a rule, but nothing checks it. Linear time.
 
         >>> with hdt.open("graph.hdt") as graph:
         ...     graph.header.splitlines()[-1]
@@ -241,7 +234,7 @@ class Graph(OpenHandle):
         return self._matching(matched(s, p, o))
 
     def matching_ids(self, s: Part = None, p: Part = None, o: Part = None) -> int:
-        """How many triples `find_ids` gives for these parts: IDs, strings, or any. Raises TypeError.
+        """How many triples `find_ids` gives for these parts, in the time of `matching`. Raises TypeError.
 
         >>> with hdt.open("graph.hdt") as graph:
         ...     graph.matching_ids(p=1), graph.matching_ids(1, "u:q"), graph.matching_ids(9)
@@ -328,7 +321,7 @@ class Graph(OpenHandle):
     def page_ids(
         self, s: Part = None, p: Part = None, o: Part = None, *, start: int = 0, limit: int = 100
     ) -> tuple[list[IdTriple], Optional[int]]:
-        """A page of the triples of `find_ids`, as `page`. Errors: those of `find`.
+        """A page of the triples of `find_ids`, as `page`, and in its time. Errors: those of `find`.
 
         >>> with hdt.open("graph.hdt") as graph:
         ...     graph.page_ids(limit=2), graph.page_ids(limit=2, start=2)
@@ -338,20 +331,19 @@ class Graph(OpenHandle):
         ids, following = self._page(pattern_of(s, p, o), first, most or 0)
         return list(rows(ids)), following
 
-    def position(self, s: Part = None, p: Part = None, o: Part = None, *, skip: int = 0) -> Optional[int]:
-        """The position of the match after the first `skip` ones, for `page`; None if there is none.
+    def position(
+        self, s: Part = None, p: Part = None, o: Part = None, *, skip: int = 0, start: int = 0
+    ) -> Optional[int]:
+        """The position of the match after the first `skip` ones from position `start` on; None if there is none.
 
-        Errors: those of `find`. The time is linear in `skip`, but that of a page if the parts that are given are the
-        first ones.
+        It is for `page`. Errors: those of `find`. The time is linear in `skip`, but that of a page if the parts that
+        are given are the first ones.
 
         >>> with hdt.open("graph.hdt") as graph:
-        ...     graph.position(p="u:p", skip=1), graph.position("u:a", skip=2)
-        (2, None)
+        ...     graph.position(p="u:p", skip=1), graph.position("u:a", skip=2), graph.position(p="u:p", start=1)
+        (2, None, 2)
         """
-        first, _ = window(skip, None)
-        return self._position(pattern_of(s, p, o), first)
-
-    # ---- text
+        return self._position(pattern_of(s, p, o), window(skip, None)[0], window(start, None)[0])
 
     def text(self, s: Given = None, p: Given = None, o: Given = None) -> str:
         """Return the triples of `find` as N-Triples, one a line.
@@ -366,25 +358,35 @@ class Graph(OpenHandle):
         """
         return self._text(matched(s, p, o))
 
-    def text_pieces(self, s: Given = None, p: Given = None, o: Given = None) -> Iterator[str]:
-        """Iterate over the text of `text` in pieces of whole lines, none of them empty.
+    def page_text(
+        self, s: Part = None, p: Part = None, o: Part = None, *, start: int = 0, limit: int = 100
+    ) -> tuple[str, Optional[int]]:
+        """The triples of `page_ids` as N-Triples, and the next start. It takes the time of `page`. Errors: as `text`.
 
-        A piece has 64 KiB or the lines of one subject, whatever is more. `NotATerm` comes after the pieces of the
-        subjects before. Errors else and memory: those of `find_ids`; the time is that of `text` and a search of each
-        subject.
+        >>> with hdt.open("graph.hdt") as graph:
+        ...     graph.page_text(p="u:p", limit=1)
+        ('<u:a> <u:p> <u:b> .\\n', 2)
+        """
+        first, most = window(start, operator.index(limit))
+        return self._page_text(pattern_of(s, p, o), first, most or 0)
+
+    def text_pieces(self, s: Given = None, p: Given = None, o: Given = None) -> Iterator[str]:
+        """Iterate over the text of `text` in pieces of up to 1,024 lines, none of them empty.
+
+        Errors: those of `text`; `NotATerm` comes after the pieces before. It keeps one piece, which looks up its own
+        strings: the time is that of `page` for each.
 
         >>> with hdt.open("graph.hdt") as graph:
         ...     sum(map(len, graph.text_pieces()))
         58
         """
         self._check_open()
-        pattern = matched(s, p, o)
-        return iter([text] if (text := self._text(pattern)) else []) if s is not None else self._pieces(pattern)
+        return self._pieces(matched(s, p, o))
 
     def write_text(self, file: IO[Any], s: Given = None, p: Given = None, o: Given = None) -> None:
         """Write the text of `text` to a file that is open for bytes, as UTF-8, or for text, piece by piece.
 
-        Errors: those of `text_pieces`, and what the file raises.
+        Errors: those of `text_pieces`, and what the file raises. It takes the time and the memory of `text_pieces`.
 
         >>> import io
         >>> written = io.BytesIO()

@@ -18,7 +18,7 @@ _PORTION = 4_096  # strings that are looked up at once
 _FIRST_MATCHES = 64  # matches of the first page of a search; each page has four times as many as the one before,
 _MOST_MATCHES = 16_384  # up to this
 _LARGEST = 2**64 - 1
-_PIECE = 64 * 1024  # characters of a piece of text, at least
+_LINES = 1_024  # of a piece of text
 _ZERO = array.array("Q", [0])
 
 
@@ -28,6 +28,17 @@ def _cut(text: str, ends: list[int]) -> list[str]:
     if text.isascii():
         return strings
     return [it if it.isascii() else it.encode("latin-1").decode() for it in strings]
+
+
+def _text_of(made: Made, telling: Telling) -> str:
+    """The text that a call has made. Raises NotATerm, MemoryError, or ValueError if the graph is closed."""
+    if telling.reason == _library.IS_CLOSED:
+        raise closed()
+    if telling.reason == _library.OUT_OF_MEMORY:
+        raise MemoryError
+    if telling.reason == _library.NOT_A_TERM:
+        raise NotATerm(ROLES[telling.role], telling.number)
+    return str(made.view(), "utf-8")
 
 
 class OpenHandle:
@@ -155,20 +166,25 @@ class OpenHandle:
         del page[3 * got :]
         return page, None if following[0] == _library.ABSENT else following[0]
 
-    def _position(self, pattern: Pattern, skip: int) -> Optional[int]:
-        """The position of the match after the first `skip` ones; None if there are no more.
+    def _position(self, pattern: Pattern, skip: int, start: int = 0) -> Optional[int]:
+        """The position of the match after the first `skip` ones from a position on; None if there are no more.
 
         If the matches follow one another in the file, it is `skip` positions after the first one. Else so many are
         walked over.
         """
-        first = self._page(pattern, 0, 0)[1]
+        first = self._page(pattern, start, 0)[1]
         if first is None or not skip:
             return first
         s, p, o = (part is not None for part in pattern.parts)
         if s >= p >= o:
             return first + skip if self._page(pattern, first + skip, 0)[1] == first + skip else None
-        match = self._matches(pattern, skip, 1)
-        return self._page(pattern_of(*match), 0, 0)[1] if match else None
+        if not start:
+            match = self._matches(pattern, skip, 1)
+            return self._page(pattern_of(*match), 0, 0)[1] if match else None
+        while skip and first is not None:
+            page, first = self._page(pattern, first, min(skip, _MOST_MATCHES))
+            skip -= len(page) // 3
+        return first
 
     def _pages(
         self, pattern: Pattern, skip: int, limit: Optional[int], most: int = _MOST_MATCHES
@@ -194,27 +210,23 @@ class OpenHandle:
         with Made() as made:
             with self._lock:
                 library.hdt_pattern_text(self._handle, pattern.packed, made, telling)
-            if telling.reason == _library.IS_CLOSED:
-                raise closed()
-            if telling.reason == _library.OUT_OF_MEMORY:
-                raise MemoryError
-            if telling.reason == _library.NOT_A_TERM:
-                raise NotATerm(ROLES[telling.role], telling.number)
-            return str(made.view(), "utf-8")
+            return _text_of(made, telling)
+
+    def _page_text(self, pattern: Pattern, start: int, most: int) -> tuple[str, Optional[int]]:
+        """The text of the matches from a position on, at most so many, and the position of the next one."""
+        telling, following = Telling(), _ZERO[:]
+        first, lines = min(start, _LARGEST), min(most, _LARGEST)
+        with Made() as made:
+            with self._lock:
+                at = following.buffer_info()[0]
+                library.hdt_page_text(self._handle, pattern.packed, first, lines, made, at, telling)
+            text = _text_of(made, telling)
+        return text, None if following[0] == _library.ABSENT else following[0]
 
     def _pieces(self, pattern: Pattern) -> Iterator[str]:
-        """The text of the matches of a pattern of any subject, in pieces of whole subjects."""
-        last, piece, size = 0, list[str](), 0
-        for page in self._pages(pattern, 0, None):
-            for subject in dict.fromkeys(page[::3]):
-                if subject == last:
-                    continue
-                last, (_, p, o) = subject, pattern.parts
-                text = self._text(pattern_of(subject, p, o))
-                piece.append(text)
-                size += len(text)
-                if size >= _PIECE:
-                    yield "".join(piece)
-                    piece, size = [], 0
-        if piece:
-            yield "".join(piece)
+        """The text of the matches, in pieces of `_LINES` lines."""
+        start: Optional[int] = 0
+        while start is not None:
+            piece, start = self._page_text(pattern, start, _LINES)
+            if piece:
+                yield piece

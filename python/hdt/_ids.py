@@ -76,7 +76,7 @@ class IdArray(Sequence[IdTriple]):
         return IdArray, (self.array,)
 
     def column(self, role: Role) -> array.array[int]:
-        """The IDs of a role, in the order of the triples, as a new array. Raises ValueError for another word.
+        """The IDs of a role, in the order of the triples, as a new array. Linear time. Raises ValueError.
 
         >>> with hdt.open("graph.hdt") as graph:
         ...     graph.id_array().column("object")

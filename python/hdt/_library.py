@@ -136,6 +136,7 @@ def _load() -> Any:
         ("hdt_pattern_matching", [graph, pattern], number),
         ("hdt_pattern_text", [graph, pattern, made, telling], None),
         ("hdt_page", [graph, pattern, number, room, size, room], number),
+        ("hdt_page_text", [graph, pattern, number, number, made, room, telling], None),
         ("hdt_build", [*bytes_of, *bytes_of, ctypes.c_uint32, made, report], None),
         ("hdt_rewrite", [*bytes_of, ctypes.c_uint32, made, verdict], None),
         ("hdt_free", [made], None),

@@ -56,7 +56,7 @@ def _unescaped_iri(text: str) -> str:
 
 @dataclass(frozen=True)
 class Term:
-    """A term: an IRI, a blank node or a literal. It is a value: terms with the same fields are equal.
+    """A term: an IRI, a blank node or a literal. Terms with the same fields are equal. Its calls take linear time.
 
     `kind` is `"iri"`, `"blank"` or `"literal"`. `lexical` is the IRI, the label without `_:`, or the text of the
     literal, without escapes. `language` and `datatype`, an IRI, are those of a literal; a plain one has neither. They

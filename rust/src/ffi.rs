@@ -37,6 +37,8 @@ extern "C" {
                         telling: *mut hdt_telling);
     fn hdt_page(graph: *mut hdt_graph, pattern: *const hdt_pattern, from: u64, out: *mut [u64; 3], room: usize,
                 next: *mut u64) -> u64;
+    fn hdt_page_text(graph: *mut hdt_graph, pattern: *const hdt_pattern, from: u64, most: u64, out: *mut hdt_bytes,
+                     next: *mut u64, telling: *mut hdt_telling);
     fn hdt_build(text: *const u8, len: usize, base: *const u8, base_len: usize, block_size: u32, out: *mut hdt_bytes,
                  report: *mut hdt_report);
     fn hdt_rewrite(bytes: *const u8, len: usize, block_size: u32, out: *mut hdt_bytes, verdict: *mut hdt_verdict);
@@ -226,6 +228,18 @@ impl<'bytes> Handle<'bytes> {
             0
         });
         (out, telling)
+    }
+
+    /// The text of the matches from triple `from` on, and the index of the next match.
+    pub(crate) fn page_text(&self, pattern: &Pattern<'_>, from: u64, most: u64) -> (Bytes, u64, hdt_telling) {
+        let (given, mut out, mut telling) = (hdt_pattern::of(pattern), Bytes::new(), hdt_telling::default());
+        let mut next = HDT_ABSENT;
+        self.ask(|graph| {
+            // SAFETY: it has the handle, `out`, `next` and `telling` alone, and the strings outlive the call.
+            unsafe { hdt_page_text(graph, &given, from, most, &mut out.made, &mut next, &mut telling) };
+            0
+        });
+        (out, next, telling)
     }
 }
 

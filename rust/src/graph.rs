@@ -246,11 +246,37 @@ impl<'bytes> Graph<'bytes> {
     /// [`Error::NotATerm`] is the first string that can't be written; [`Error::OutOfMemory`].
     pub fn text(&self, pattern: Pattern<'_>) -> Result<Bytes, Error> {
         let (text, telling) = self.handle.text(&pattern);
-        match telling.reason {
-            ffi::HDT_DONE => Ok(text),
-            ffi::HDT_NOT_A_TERM => Err(Error::NotATerm { role: Role::of(telling.role), id: telling.number }),
-            reason => Err(Error::other(reason)),
-        }
+        told(&telling).map(|()| text)
+    }
+
+    /// The triples of [`page`](Graph::page) as N-Triples, at most `most`, and the index of the next match.
+    ///
+    /// # Errors
+    ///
+    /// Those of [`text`](Graph::text), for strings of this page alone.
+    ///
+    /// ```
+    /// # use tickmarl_hdt::{build, Graph, Pattern, BLOCK_SIZE};
+    /// # fn main() -> Result<(), tickmarl_hdt::Error> {
+    /// # let (file, _) = build(b"<u:a> <u:p> <u:b> .\n<u:a> <u:p> \"x\" .\n", "http://example.org/", BLOCK_SIZE)?;
+    /// let graph = Graph::open(&file)?;
+    /// let (text, next) = graph.page_text(Pattern::any(), 1, 10)?;
+    /// assert_eq!((&text[..], next), (&b"<u:a> <u:p> <u:b> .\n"[..], None));
+    /// # Ok(())
+    /// # }
+    /// ```
+    pub fn page_text(&self, pattern: Pattern<'_>, from: u64, most: u64) -> Result<(Bytes, Option<u64>), Error> {
+        let (text, next, telling) = self.handle.page_text(&pattern, from, most);
+        told(&telling).map(|()| (text, index(next)))
+    }
+}
+
+/// The error of a call that makes a text, if there is one.
+fn told(telling: &ffi::hdt_telling) -> Result<(), Error> {
+    match telling.reason {
+        ffi::HDT_DONE => Ok(()),
+        ffi::HDT_NOT_A_TERM => Err(Error::NotATerm { role: Role::of(telling.role), id: telling.number }),
+        reason => Err(Error::other(reason)),
     }
 }
 

@@ -35,7 +35,7 @@ pub(crate) fn present(answer: u64) -> Result<Option<u64>, Error> {
     }
 }
 
-/// The bytes that a call puts into room, which is made larger once if the call needs more.
+/// The bytes that a call writes into a buffer, which is enlarged once if the call needs more.
 pub(crate) fn put(room: usize, call: impl Fn(&mut [u8]) -> u64) -> Result<Option<Vec<u8>>, Error> {
     let mut out = vec![0; room];
     let Some(len) = present(call(&mut out))?.map(ffi::size) else {

@@ -71,15 +71,19 @@ fn pages_one_after_another_are_all_matches() {
     let all: Vec<[u64; 3]> = graph.find(Pattern::any()).collect();
     for ids in patterns_of(all[all.len() / 2]) {
         for limit in [1, 2, 7, 1_000, usize::MAX] {
-            let (mut found, mut from) = (Vec::new(), Some(0));
+            let (mut found, mut texts, mut from) = (Vec::new(), Vec::new(), Some(0));
             while let Some(start) = from {
                 let page = graph.page(by_ids(ids), start, limit).unwrap();
                 assert!(page.triples.len() <= limit);
+                let (text, next) = graph.page_text(by_ids(ids), start, limit as u64).unwrap();
+                assert_eq!(next, page.next);
+                texts.extend_from_slice(&text);
                 found.extend(page.triples);
                 from = page.next;
                 assert!(from.is_none_or(|next| matches(&all[next as usize], &ids) && next > start));
             }
             assert_eq!(found, graph.find(by_ids(ids)).collect::<Vec<_>>());
+            assert_eq!(texts, graph.text(by_ids(ids)).unwrap()[..]);
         }
     }
     for from in [graph.len(), u64::MAX] {

@@ -90,7 +90,7 @@ def outcome(read: Callable[..., T], *args: object) -> T | tuple[int, str, int]:
 
 
 def with_right_crcs(data: bytes, read: Callable[[bytes], object]) -> bytes:
-    """The data with each CRC made right that `read` finds wrong, so that the checks behind them are reached."""
+    """The data with each CRC made right that `read` finds wrong, so that the checks after them are reached."""
     while True:
         try:
             read(data)
@@ -154,22 +154,22 @@ def crc32(data: bytes) -> int:
 
 
 def write_crc8(data: bytes) -> bytes:
-    """The 8-bit CRC of the data, as it is stored behind them."""
+    """The 8-bit CRC of the data, as it is stored after them."""
     return bytes([crc8(data)])
 
 
 def write_crc16(data: bytes) -> bytes:
-    """The 16-bit CRC of the data, as it is stored behind them."""
+    """The 16-bit CRC of the data, as it is stored after them."""
     return crc16(data).to_bytes(2, "little")
 
 
 def write_crc32(data: bytes) -> bytes:
-    """The 32-bit CRC of the data, as it is stored behind them."""
+    """The 32-bit CRC of the data, as it is stored after them."""
     return crc32(data).to_bytes(4, "little")
 
 
 def read_crc(data: bytes, at: int, right: bytes, reason: Reason) -> int:
-    """Check that the right CRC is at `at`; return the offset behind it."""
+    """Check that the right CRC is at `at`; return the offset after it."""
     stored = data[at:at + len(right)]
     demand(len(stored) == len(right), Reason.Truncated, at)
     if stored != right:
@@ -178,15 +178,15 @@ def read_crc(data: bytes, at: int, right: bytes, reason: Reason) -> int:
 
 
 def read_crc8(data: bytes, start: int, at: int) -> int:
-    """Check the 8-bit CRC at `at` of the bytes from `start`; return the offset behind it."""
+    """Check the 8-bit CRC at `at` of the bytes from `start`; return the offset after it."""
     return read_crc(data, at, write_crc8(data[start:at]), Reason.Check8)
 
 
 def read_crc16(data: bytes, start: int, at: int) -> int:
-    """Check the 16-bit CRC at `at` of the bytes from `start`; return the offset behind it."""
+    """Check the 16-bit CRC at `at` of the bytes from `start`; return the offset after it."""
     return read_crc(data, at, write_crc16(data[start:at]), Reason.Check16)
 
 
 def read_crc32(data: bytes, start: int, at: int) -> int:
-    """Check the 32-bit CRC at `at` of the bytes from `start`; return the offset behind it."""
+    """Check the 32-bit CRC at `at` of the bytes from `start`; return the offset after it."""
     return read_crc(data, at, write_crc32(data[start:at]), Reason.Check32)

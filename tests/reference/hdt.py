@@ -4,7 +4,7 @@ It follows docs/FORMAT.md and shares no code with the engine, so that each can b
 
 - `write_PART(..)` returns the bytes of a part. Without further arguments it is the canonical form; the arguments give
   the other spellings that a reader has to accept (a greater width, padding bits, shorter prefixes, more properties).
-- `read_PART(data, at)` returns the part that begins at the byte offset `at`, and the offset behind it. It raises
+- `read_PART(data, at)` returns the part that begins at the byte offset `at`, and the offset after it. It raises
   `Error` for the first check that fails.
 - `graph` and `loose` write whole files from triples of dictionary strings.
 """
@@ -50,7 +50,7 @@ def write_vbyte(value: int, digits: int = 1) -> bytes:
 
 
 def read_vbyte(data: bytes, at: int, stop: int | None = None) -> tuple[int, int]:
-    """The number at `at`, which ends before `stop` (else before the end of the data), and the offset behind it."""
+    """The number at `at`, which ends before `stop` (else before the end of the data), and the offset after it."""
     window = data[at:at + 10 if stop is None else min(at + 10, stop)]
     last = next((i for i, byte in enumerate(window) if byte >= 128), None)
     if last is None:
@@ -88,7 +88,7 @@ def write_control(kind: int, properties: bytes = b"", format: bytes | None = Non
 
 
 def read_control(data: bytes, at: int, kind: int) -> tuple[Control, int]:
-    """The control information at `at`, which has to be of this kind, and the offset behind it."""
+    """The control information at `at`, which has to be of this kind, and the offset after it."""
     cookie = data[at:at + 4]
     demand(len(cookie) == 4, Reason.Truncated, at)
     demand(cookie == b"$HDT", Reason.NotHdt, at)
@@ -220,7 +220,7 @@ def read_kind(data: bytes, at: int, kind: int, reason: Reason) -> None:
 
 
 def read_numbers(data: bytes, at: int) -> tuple[Numbers, int]:
-    """The log sequence at `at`, and the offset behind it."""
+    """The log sequence at `at`, and the offset after it."""
     read_kind(data, at, 1, Reason.SequenceKind)
     demand(at + 1 < len(data), Reason.Truncated, at + 1)
     width = data[at + 1]
@@ -234,7 +234,7 @@ def read_numbers(data: bytes, at: int) -> tuple[Numbers, int]:
 
 
 def read_bits(data: bytes, at: int) -> tuple[Bits, int]:
-    """The bitmap at `at`, and the offset behind it."""
+    """The bitmap at `at`, and the offset after it."""
     read_kind(data, at, 1, Reason.BitsKind)
     length, preamble_end = read_vbyte(data, at + 1)
     data_at = read_crc8(data, at, preamble_end)
@@ -321,7 +321,7 @@ def write_section_preamble(count: int, length: int, block_size: int) -> bytes:
 
 
 def read_section(data: bytes, at: int) -> tuple[Section, int]:
-    """The section at `at`, and the offset behind it."""
+    """The section at `at`, and the offset after it."""
     read_kind(data, at, 2, Reason.SectionKind)
     count, length_at = read_vbyte(data, at + 1)
     length, size_at = read_vbyte(data, length_at)
@@ -360,7 +360,7 @@ def read_section(data: bytes, at: int) -> tuple[Section, int]:
 
 
 def read_prefix(data: bytes, at: int, packed_end: int, before: bytes) -> tuple[int, int]:
-    """The length of the prefix that a string keeps of the one before, and the offset behind it."""
+    """The length of the prefix that a string keeps of the one before, and the offset after it."""
     try:
         prefix, own_at = read_vbyte(data, at, packed_end)
     except Error as error:
@@ -370,7 +370,7 @@ def read_prefix(data: bytes, at: int, packed_end: int, before: bytes) -> tuple[i
 
 
 def read_string(data: bytes, at: int, own_at: int, packed_end: int, prefix: bytes) -> tuple[bytes, int]:
-    """The string at `at` with this prefix, whose own bytes begin at `own_at`, and the offset behind it."""
+    """The string at `at` with this prefix, whose own bytes begin at `own_at`, and the offset after it."""
     zero = data.find(b"\0", own_at, packed_end)
     demand(zero >= 0, Reason.PackedLength, own_at)
     string = prefix + data[own_at:zero]
@@ -483,7 +483,7 @@ def write_dictionary(shared: Sequence[bytes], subjects: Sequence[bytes], predica
 
 
 def read_dictionary(data: bytes, at: int) -> tuple[Dictionary, int]:
-    """The dictionary at `at`, and the offset behind it."""
+    """The dictionary at `at`, and the offset after it."""
     control, at = read_control(data, at, DICTIONARY)
     shared, at = read_section(data, at)
     subjects, at = read_section(data, at)
@@ -620,7 +620,7 @@ def write_head(body: bytes = b"", style: Style = Style()) -> bytes:
 
 
 def read_head(data: bytes) -> tuple[Head, int]:
-    """The head of a file, and the offset behind it."""
+    """The head of a file, and the offset after it."""
     of_file, at = read_control(data, 0, GLOBAL)
     header, at = read_control(data, at, HEADER)
     length = decimal(property_of(header.properties, b"length") or b"")

@@ -9,6 +9,7 @@ import io
 import json
 import os
 import re
+import socket
 import subprocess
 import sys
 import time
@@ -31,9 +32,12 @@ with mock.patch.object(sys, "dont_write_bytecode", True), mock.patch.object(sys,
     from hdt.fragments import _style as style
     from hdt.fragments.__main__ import Handler, Server
 
-__all__ = ["BASE", "ODD", "Answer", "Handler", "Served", "Server", "Site", "fragments", "hdt", "style", "url"]
+__all__ = [
+    "BASE", "ODD", "PATIENCE", "Answer", "Handler", "Served", "Server", "Site", "fragments", "hdt", "style", "url",
+]
 
 BASE = "http://localhost:8080/"
+PATIENCE = 60.0  # seconds that a server may take to start, as on a machine with other work
 GUNICORN = "/usr/bin/gunicorn"
 
 _S, _P = "<http://odd.example/s1>", "<http://odd.example/p>"
@@ -152,6 +156,16 @@ class Site:
         return self.ask(target, Accept="application/n-quads", **headers)
 
 
+def _answers(port: int) -> bool:
+    """Whether a server takes a request on a port of 127.0.0.1 and answers it."""
+    try:
+        with socket.create_connection(("127.0.0.1", port), timeout=PATIENCE) as stream:
+            stream.sendall(b"OPTIONS / HTTP/1.0\r\n\r\n")
+            return stream.recv(1) != b""
+    except OSError:
+        return False
+
+
 class Served:
     """A server of its own on a free port of 127.0.0.1, with a configuration."""
 
@@ -172,25 +186,23 @@ class Served:
 
     def _url(self) -> str:
         """Its URL, once it serves."""
-        for _ in range(300):
-            found = re.search(r"http://127\.0\.0\.1:\d+", self.log.read_text())
-            if found:
+        until = time.monotonic() + PATIENCE
+        while time.monotonic() < until:
+            found = re.search(r"http://127\.0\.0\.1:(\d+)", self.log.read_text())
+            if found and _answers(int(found[1])):
                 return found[0]
             assert self.process.poll() is None, self.log.read_text()
             time.sleep(0.05)
-        raise AssertionError("it does not serve")
+        self.close()
+        raise AssertionError("it does not serve: " + self.log.read_text())
 
     @classmethod
     def at(cls, address: str) -> Served:
         """A server that another program runs, once it serves."""
         it = cls.__new__(cls)
-        it.url = address
-        for _ in range(100):
-            try:
-                it.ask("/")
-                break
-            except OSError:
-                time.sleep(0.05)
+        it.url, until = address, time.monotonic() + PATIENCE
+        while not _answers(int(address.rpartition(":")[2])) and time.monotonic() < until:
+            time.sleep(0.05)
         return it
 
     def ask(self, target: str, **headers: str) -> Answer:
@@ -198,7 +210,7 @@ class Served:
         request = urllib.request.Request(self.url + target, headers={
             name.replace("_", "-"): value for name, value in headers.items()})
         try:
-            with urllib.request.build_opener(_Stay).open(request, timeout=30) as answer:
+            with urllib.request.build_opener(_Stay).open(request, timeout=PATIENCE) as answer:
                 return Answer(answer.status, {k.lower(): v for k, v in answer.headers.items()}, answer.read())
         except urllib.error.HTTPError as error:
             with error:
@@ -212,7 +224,7 @@ class Served:
         """End it."""
         self.process.terminate()
         try:
-            self.process.wait(20)
+            self.process.wait(PATIENCE)
         finally:
             self.process.kill()
             self.process.wait()

@@ -8,7 +8,7 @@ from __future__ import annotations
 import tempfile
 import warnings
 from collections.abc import Callable, Iterable, Iterator
-from contextlib import contextmanager
+from contextlib import contextmanager, nullcontext
 from functools import partial
 from pathlib import Path
 from typing import Any, NamedTuple, Optional
@@ -24,7 +24,7 @@ from support.rdflib_package import plan, store
 
 XSD = "http://www.w3.org/2001/XMLSchema#"
 RDF = "http://www.w3.org/1999/02/22-rdf-syntax-ns#"
-MODES = ["rdflib", "terms", "ids"]
+MODES = ["rdflib", "terms", "ids", "tables"]
 
 
 class Drawn(NamedTuple):
@@ -141,15 +141,21 @@ def stored(triples: Iterable[Row], **options: Any) -> Iterator[Graph]:
 
 @contextmanager
 def evaluated(mode: str) -> Iterator[None]:
-    """Queries are evaluated in a mode: by rdflib alone, planned over terms, or planned over IDs where they can be."""
+    """Queries are evaluated in a mode: by rdflib alone, planned over terms, or planned over IDs where they can be.
+
+    In the mode `tables` the triples of a pattern are read into a table at its first search for a bound term.
+    """
     before = dict(CUSTOM_EVALS)
     CUSTOM_EVALS.pop("hdt", None)
-    if mode == "ids":
+    if mode in ("ids", "tables"):
         store.plan_sparql()
     elif mode == "terms":
         CUSTOM_EVALS["hdt"] = partial(plan.evaluated, over_ids=False)
+    due: dict[str, Any] = {"_DUE": 1, "_READ": 100_000} if mode == "tables" else {}
+    patched: Any = mock.patch.multiple(plan, **due) if due else nullcontext()
     try:
-        yield
+        with patched:
+            yield
     finally:
         CUSTOM_EVALS.clear()
         CUSTOM_EVALS.update(before)

@@ -104,7 +104,7 @@ fn reply_append_graph_text(args: &mut Args<'_>, reply: &mut Reply) {
     reply.bytes(&out)
 }
 
-/// Appends pages of text to `out`, at most `count` of them, each from where the one before says. For each appends the
+/// Appends pages of text to `out`, at most `count` of them, each from the index that the one before returns. Replies the
 /// index of the next match, or why there is no page.
 fn append_pages(
     graph: &Graph<'_>,
@@ -145,7 +145,7 @@ fn append_pages(
     Ok(())
 }
 
-/// One page from a triple on, behind a text that was there.
+/// Appends one page from a triple on to a text.
 fn reply_page_text(args: &mut Args<'_>, reply: &mut Reply) {
     let Some(graph) = graph_of(args, reply) else {
         return;
@@ -158,7 +158,7 @@ fn reply_page_text(args: &mut Args<'_>, reply: &mut Reply) {
     reply.bytes(&out)
 }
 
-/// All pages, behind a text that was there.
+/// Appends all pages to a text.
 fn reply_page_texts(args: &mut Args<'_>, reply: &mut Reply) {
     let Some(graph) = graph_of(args, reply) else {
         return;

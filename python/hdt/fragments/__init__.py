@@ -22,7 +22,8 @@ A configuration (`Config` and `Source` have all fields):
 
 A dataset is at `/NAME`; `?subject=`, `?predicate=`, `?object=` and `&page=` ask for a page of the triples that match.
 Links to the next page add `&from=`, by which it costs what the first one does; a page is the same without it. It is
-ignored unless it is that of a link to this page of this file.
+ignored unless it is that of a link to this page of this file. Without it, the first far page of a pattern may take a
+walk over its matches; then each takes at most a thousand of them.
 `/NAME/void` describes it, and `/NAME/data.hdt` is its file where the configuration gives it out.
 """
 

@@ -2,6 +2,7 @@
 
 from __future__ import annotations
 
+import functools
 import hashlib
 import logging
 import time
@@ -9,7 +10,6 @@ import zlib
 from collections.abc import Iterable, Mapping
 from dataclasses import dataclass
 from email.utils import formatdate, parsedate_to_datetime
-from pathlib import Path
 from typing import Any, Callable, Optional, Union
 from urllib.parse import quote
 
@@ -27,10 +27,13 @@ from hdt.fragments._request import Headers, Refusal, Request, bad, request_of
 from hdt.fragments._terms import Triple
 
 METHODS = "GET, HEAD, OPTIONS"
-COMMON = [
+NOT_MODIFIED = [
     ("Access-Control-Allow-Origin", "*"),
-    ("Access-Control-Expose-Headers", "ETag, Last-Modified, Content-Range, Accept-Ranges"),
     ("Vary", "Accept, Accept-Encoding"),
+]
+COMMON = [
+    *NOT_MODIFIED,
+    ("Access-Control-Expose-Headers", "ETag, Last-Modified, Content-Range, Accept-Ranges"),
     ("X-Content-Type-Options", "nosniff"),
     ("Referrer-Policy", "no-referrer"),
 ]
@@ -42,7 +45,7 @@ PREFLIGHT = [
 ]
 NO_STORE = ("Cache-Control", "no-store")
 PLAIN = ("Content-Type", "text/plain;charset=utf-8")
-VERSION = "2"  # of the pages: another one makes other ETags
+VERSION = "3"  # of the pages: another one makes other ETags
 _SMALLEST_PACKED = 1000  # bytes
 
 log = logging.getLogger("hdt.fragments")
@@ -72,7 +75,7 @@ class Application:
         counted = self.config.partitions
         self.datasets = {name: Dataset(name, source, counted) for name, source in self.config.datasets.items()}
         self._salt = f"{VERSION} {self.config}"
-        self._changed = max(each.stat().st_mtime for each in Path(__file__).parent.glob("*.py"))
+        self._began = time.time()  # (another configuration makes other pages)
 
     def __call__(self, environ: dict[str, Any], start: Callable[..., Any]) -> Iterable[bytes]:
         """Answer a request."""
@@ -80,7 +83,7 @@ class Application:
         answer = self._answered(environ, method)
         self._pack(answer, environ.get("HTTP_ACCEPT_ENCODING", ""))
         length = answer.length if answer.pieces else len(answer.body)
-        headers = COMMON + answer.headers
+        headers = (NOT_MODIFIED if answer.status[:3] == "304" else COMMON) + answer.headers
         if answer.status[:3] not in ("304", "204"):
             headers.append(("Content-Length", str(length)))
         if self.config.log and log.isEnabledFor(logging.INFO):
@@ -120,7 +123,7 @@ class Application:
             packer = zlib.compressobj(4, zlib.DEFLATED, 31)
             answer.body = packer.compress(answer.body) + packer.flush()
             answer.headers = [
-                *((name, value[:-1] + '-gz"' if name == "ETag" else value) for name, value in answer.headers),
+                *((name, _packed_tag(value) if name == "ETag" else value) for name, value in answer.headers),
                 ("Content-Encoding", "gzip"),
             ]
 
@@ -172,13 +175,14 @@ class Application:
         """The headers for a cache, and whether the client has the answer already, which nothing is searched for."""
         state = f"{self._salt} {loaded.identity} {request.url} {media}"
         tag = f'"{hashlib.sha256(state.encode()).hexdigest()[:24]}"'
-        modified = int(max(loaded.modified, self._changed))
+        modified = int(max(loaded.modified, self._began))
+        known = _known(request, tag, modified)
         headers = [
-            ("ETag", tag),
-            ("Last-Modified", formatdate(modified, usegmt=True)),
+            ("ETag", known or tag),
+            ("Last-Modified", _date(modified)),
             ("Cache-Control", f"public, max-age={self.config.max_age}"),
         ]
-        return headers, _is_known(request, tag, modified)
+        return headers, known is not None
 
     def _page(self, request: Request, loaded: Loaded, media: str, make: Callable[[], bytes]) -> Answer:
         """An answer for a cache: the body is made where the client does not have it."""
@@ -197,10 +201,11 @@ class Application:
             kind = formats.KINDS[media]
             if kind == HTML:
                 return pages.fragment_page(fragment)
-            statements, graph = fragments.controls(fragment), request.url + "#metadata"
+            form, statements = fragments.form(dataset, request.base), fragments.controls(fragment)
+            graph = request.url + "#metadata"
             if kind == JSONLD:
-                return writers.jsonld(fragment.data(), statements, graph).encode("utf-8", "replace")
-            return writers.LINES[kind](fragment.lines(), statements, graph).encode("utf-8", "replace")
+                return writers.jsonld(fragment.data(), form, statements, graph).encode("utf-8", "replace")
+            return writers.LINES[kind](fragment.lines(), form, statements, graph).encode("utf-8", "replace")
 
         return self._page(request, loaded, media, make)
 
@@ -252,7 +257,8 @@ class Application:
                 raise Refusal("503 Service Unavailable", "The file is being replaced.", ("Retry-After", "2"))
             size = loaded.identity[2]
             whole = request.header("If-Range") not in ("", headers[0][1], headers[1][1])
-            part = None if whole else download.range_of(request.header("Range"), size)
+            is_get = request.environ["REQUEST_METHOD"] == "GET"  # (no other method has ranges)
+            part = download.range_of(request.header("Range"), size) if is_get and not whole else None
         except BaseException:
             file.close()
             raise
@@ -265,23 +271,34 @@ class Application:
         return Answer("206 Partial Content" if part else "200 OK", headers, pieces=pieces, length=end - first)
 
 
+@functools.lru_cache(64)
+def _date(seconds: int) -> str:
+    """A time as HTTP writes it."""
+    return formatdate(seconds, usegmt=True)
+
+
 def _document(statements: list[Triple], media: str) -> bytes:
     """Triples as a document of their own, without graphs."""
     kind = formats.KINDS[media]
     if kind == JSONLD:
-        return writers.jsonld(statements, [], "").encode("utf-8", "replace")
+        return writers.jsonld(statements, (), [], "").encode("utf-8", "replace")
     write = writers.ntriples if kind in (formats.NQUADS, formats.NTRIPLES) else writers.turtle
-    return write("", statements, "").encode("utf-8", "replace")
+    return write("", (), statements, "").encode("utf-8", "replace")
 
 
-def _is_known(request: Request, tag: str, modified: int) -> bool:
-    """Whether the client has this answer, by the headers of its request."""
+def _known(request: Request, tag: str, modified: int) -> Optional[str]:
+    """The tag of the answer that the client has, by the headers of its request; None where it doesn't have it."""
     if wanted := request.header("If-None-Match"):
-        tags = {each.strip().replace("W/", "", 1).replace('-gz"', '"') for each in wanted.split(",")}
-        return tag in tags or "*" in tags
+        tags = [each.strip().replace("W/", "", 1) for each in wanted.split(",")]
+        return next((each for each in (tag, _packed_tag(tag)) if each in tags), tag if "*" in tags else None)
     if since := request.header("If-Modified-Since"):
         try:
-            return modified <= parsedate_to_datetime(since).timestamp()
+            return tag if modified <= parsedate_to_datetime(since).timestamp() else None
         except (TypeError, ValueError, OverflowError):
-            return False
-    return False
+            return None
+    return None
+
+
+def _packed_tag(tag: str) -> str:
+    """The tag of the same answer, compressed."""
+    return tag[:-1] + '-gz"'

@@ -10,7 +10,7 @@ from typing import Optional
 
 from hdt.fragments._config import Source
 from hdt.fragments._reader import Reader
-from hdt.parts._string_ids import open_any
+from hdt.parts import open_any
 
 Identity = tuple[int, int, int, int]
 
@@ -36,7 +36,7 @@ class Loaded:
                 break
             before = after
         self.identity = identity_of(after)
-        self.modified = after.st_mtime
+        self.modified = max(after.st_mtime, after.st_ctime)  # (a file that is renamed keeps the first)
 
 
 class Dataset:

@@ -2,8 +2,8 @@
 
 from __future__ import annotations
 
+import functools
 import re
-from collections.abc import Iterable
 from typing import Optional
 
 TURTLE, TRIG, NQUADS, JSONLD = "text/turtle", "application/trig", "application/n-quads", "application/ld+json"
@@ -48,7 +48,8 @@ def _qualities(accept: str) -> dict[str, float]:
     return found
 
 
-def negotiated(accept: str, offered: Iterable[str] = tuple(KINDS)) -> Optional[str]:
+@functools.lru_cache(128)
+def negotiated(accept: str, offered: tuple[str, ...] = tuple(KINDS)) -> Optional[str]:
     """The media type that an Accept header asks for; None where there is none.
 
     The most specific range of a type counts (RFC 9110, 12.5.1). Of equal ones a type that has its name in the header

@@ -2,8 +2,8 @@
 
 from __future__ import annotations
 
+import functools
 import hashlib
-import itertools
 import re
 from collections.abc import Mapping
 from dataclasses import dataclass
@@ -122,27 +122,14 @@ class Fragment:
 
     def data(self) -> list[Triple]:
         """The triples of the page, with blank nodes as the server names them."""
-        found, prefix = self.found.triples, self.skolem
-        if not prefix or not any(s.startswith("_:") or o.startswith("_:") for s, _, o in found):
-            return found
-        return [(_named(s, prefix), p, _named(o, prefix)) for s, p, o in found]
+        prefix = self.skolem
+        return [(terms.named(s, prefix), p, terms.named(o, prefix)) for s, p, o in self.found.triples]
 
     def lines(self) -> str:
         """The triples of the page as N-Triples, with blank nodes as the server names them."""
+        prefix = self.skolem
         text = self.loaded.reader.text(self.pattern) if self.count <= self.config.page_size else None
-        if text is None or self.skolem and "_:" in text:
-            return lines_of(self.data())
-        return text
-
-
-def _named(term: str, prefix: str) -> str:
-    return terms.skolem_iri(term, prefix) if term.startswith("_:") else term
-
-
-def lines_of(triples: list[Triple]) -> str:
-    """Triples of terms as N-Triples."""
-    known = {term: terms.written(term) for term in set(itertools.chain.from_iterable(triples))}
-    return "".join([f"{known[s]} {known[p]} {known[o]} .\n" for s, p, o in triples])
+        return self.found.lines(prefix) if text is None or prefix and "_:" in text else text
 
 
 def fragment_of(request: Request, dataset: Dataset, loaded: Loaded, config: Config) -> Fragment:
@@ -160,14 +147,18 @@ def fragment_of(request: Request, dataset: Dataset, loaded: Loaded, config: Conf
     return fragment
 
 
-def form(dataset: Dataset, base: str) -> list[Triple]:
+def form(dataset: Dataset, base: str) -> tuple[Triple, ...]:
     """How the fragments of a dataset are asked for."""
-    url = base + dataset.name
+    return _form(base + dataset.name, dataset.title, dataset.source.license)
+
+
+@functools.lru_cache(256)
+def _form(url: str, title: str, license: str) -> tuple[Triple, ...]:
     about, pattern, template = url + "#dataset", url + "#pattern", f'"{url}{{?subject,predicate,object}}"'
     statements = [
         (about, RDF + "type", VOID + "Dataset"),
         (about, RDF + "type", HYDRA + "Collection"),
-        (about, DCTERMS + "title", f'"{dataset.title}"'),
+        (about, DCTERMS + "title", f'"{title}"'),
         (about, VOID + "uriLookupEndpoint", template),
         (about, HYDRA + "search", pattern),
         (pattern, HYDRA + "template", template),
@@ -177,21 +168,20 @@ def form(dataset: Dataset, base: str) -> list[Triple]:
         statements.append((pattern, HYDRA + "mapping", f"{pattern}-{role}"))
         statements.append((f"{pattern}-{role}", HYDRA + "variable", f'"{role}"'))
         statements.append((f"{pattern}-{role}", HYDRA + "property", RDF + role))
-    if dataset.source.license:
-        statements.append((about, DCTERMS + "license", dataset.source.license))
-    return statements
+    if license:
+        statements.append((about, DCTERMS + "license", license))
+    return tuple(statements)
 
 
 def controls(fragment: Fragment) -> list[Triple]:
-    """Metadata and controls of a page.
+    """Metadata and controls of a page, besides the form.
 
     Each has the page, the dataset or the form as its subject, or a predicate that clients take for a control: to a
     client that reads a format without graphs, all else is data.
     """
     request, about = fragment.request, fragment.url + "#dataset"
     page, whole, pages = request.url, request.with_page(None), fragment.pages
-    statements = [(page + "#metadata", FOAF + "primaryTopic", about), *form(fragment.dataset, request.base)]
-    statements.append((about, VOID + "subset", whole))
+    statements = [(page + "#metadata", FOAF + "primaryTopic", about), (about, VOID + "subset", whole)]
     if page != whole:
         statements += [(about, VOID + "subset", page), (whole, VOID + "subset", page), (whole, HYDRA + "view", page)]
     statements += [

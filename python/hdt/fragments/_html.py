@@ -5,11 +5,12 @@ All text that comes from data, from the request or from the configuration is esc
 
 from __future__ import annotations
 
+import functools
 import itertools
 import re
-from collections.abc import Mapping, Sequence
+from collections.abc import Collection, Mapping, Sequence
 from dataclasses import dataclass
-from typing import Callable, Optional
+from typing import Optional
 
 from hdt.fragments import _terms as terms
 from hdt.fragments._style import STYLE
@@ -47,12 +48,12 @@ def plural(count: int, one: str, many: str) -> str:
 
 @dataclass(frozen=True)
 class View:
-    """How terms are shown: the dataset's URL, the prefix of blank nodes, names of namespaces, what is a subject."""
+    """How terms are shown: the dataset's URL, prefix of blank nodes, names of namespaces, objects that are subjects."""
 
     url: str
     skolem: str
     spaces: Mapping[str, str]
-    is_subject: Callable[[str], bool]
+    subjects: Collection[str]
 
     def short(self, iri: str) -> tuple[str, str]:
         """An IRI for people: its namespace, as a prefix where it has one, and its last part."""
@@ -107,7 +108,7 @@ class View:
         """A term with its links."""
         if term.startswith('"'):
             return self.literal(term)
-        to = 0 if role == 2 and self.is_subject(term) else role
+        to = 0 if role == 2 and term in self.subjects else role
         if term.startswith("_:"):
             shown = self._linked(text(term), term, to, "blank node")
         else:
@@ -124,16 +125,16 @@ class View:
 
     def table(self, triples: list[Triple], caption: str, roles: Sequence[int] = (0, 1, 2)) -> str:
         """Triples as a table of these roles, in which the rows of one subject are joined."""
-        rows = []
+        rows, shown = [], functools.lru_cache(None)(self.term)
         for subject, group in itertools.groupby(triples, lambda triple: triple[0]):
             found = list(group)
             span = f' rowspan="{len(found)}"' if len(found) > 1 else ""
-            first = f'<th class="s" scope="rowgroup" role="rowheader"{span}>{self.term(subject, 0)}</th>'
+            first = f'<th class="s" scope="rowgroup" role="rowheader"{span}>{shown(subject, 0)}</th>'
             for place, triple in enumerate(found):
                 cells = first if 0 in roles and place == 0 else ""
                 for role in roles:
                     if role:
-                        cells += f'<td class="{ROLES[role][0]}" role="cell">{self.term(triple[role], role)}</td>'
+                        cells += f'<td class="{ROLES[role][0]}" role="cell">{shown(triple[role], role)}</td>'
                 rows.append(f'<tr role="row">{cells}</tr>')
         heads = "".join(f'<th class="{ROLES[role][0]}" scope="col" role="columnheader">{ROLES[role].capitalize()}</th>'
                         for role in roles)

@@ -2,6 +2,7 @@
 
 from __future__ import annotations
 
+from collections.abc import Collection
 from typing import Optional
 
 from hdt.fragments import _formats as formats
@@ -20,13 +21,12 @@ _FIRST_PREDICATES = 12  # on the first page of a dataset
 _SUGGESTED = 300  # predicates that the search box suggests, at most
 _POINTING = 10  # triples that point to a subject, on its page
 
-_HINTS = ("any subject: an IRI", "any predicate: an IRI", 'any object: an IRI or "text"')
+_HINTS = ("any IRI", "any IRI", 'any IRI or "text"')
 
 
-def _view(request: Request, dataset: Dataset, loaded: Loaded, config: Config) -> View:
+def _view(request: Request, dataset: Dataset, config: Config, subjects: Collection[str] = ()) -> View:
     spaces = {iri: name for name, iri in config.prefixes.items()}
-    prefix = skolem_prefix(request, dataset, config)
-    return View(request.base + dataset.name, prefix, spaces, lambda term: loaded.reader.has(0, term))
+    return View(request.base + dataset.name, skolem_prefix(request, dataset, config), spaces, subjects)
 
 
 def _crumbs(request: Request, config: Config, *more: tuple[str, str]) -> str:
@@ -150,7 +150,7 @@ def _heading(fragment: Fragment, view: View) -> str:
 
 def _triples(fragment: Fragment, view: View) -> str:
     """The triples of the page with their count and the links to other pages."""
-    found, left_out, _ = fragment.found
+    found, left_out = fragment.found.triples, fragment.found.left_out
     first, last = fragment.skip + 1, fragment.skip + len(found) + left_out
     caption = f"Triples {first:,} to {last:,} of {fragment.count:,}" if found else ""
     heading = f'{fragment.count:,} {"triple matches" if fragment.count == 1 else "triples match"}'
@@ -186,7 +186,8 @@ def _alternates(url: str) -> str:
 
 def fragment_page(fragment: Fragment) -> bytes:
     """A page of a fragment."""
-    view = _view(fragment.request, fragment.dataset, fragment.loaded, fragment.config)
+    subjects = fragment.loaded.reader.subjects(fragment.found)
+    view = _view(fragment.request, fragment.dataset, fragment.config, subjects)
     hints = "".join(f'<p class="box hint" role="alert">{text(hint)}</p>' for hint in fragment.hints)
     named = [f"{role} {view.name(term)}" for role, term in zip(ROLES, fragment.pattern) if term]
     url = fragment.request.with_page(fragment.page if fragment.page > 1 else None)
@@ -201,7 +202,7 @@ def fragment_page(fragment: Fragment) -> bytes:
 
 def description_page(request: Request, dataset: Dataset, loaded: Loaded, config: Config) -> bytes:
     """The description of a dataset: its counts and its predicates."""
-    view = _view(request, dataset, loaded, config)
+    view = _view(request, dataset, config)
     known = loaded.reader.predicates
     table = view.predicates(known, "The most used ones first") if known else (
         f'<p class="box none">There are more than {config.partitions:,} predicates, which are not counted here.</p>')

@@ -2,8 +2,11 @@
 
 from __future__ import annotations
 
+import array
 import threading
 from collections import OrderedDict
+from dataclasses import dataclass
+from functools import cached_property
 from typing import Callable, Generic, NamedTuple, Optional, TypeVar
 
 import hdt
@@ -14,8 +17,10 @@ K = TypeVar("K")
 V = TypeVar("V")
 
 _ROLES: tuple[hdt.Role, hdt.Role, hdt.Role] = ("subject", "predicate", "object")
-_KEPT = 10_000  # counts, and positions
-_LONGEST_KEPT = 400  # characters of a pattern whose counts and positions are kept
+_KEPT = 10_000  # counts
+_LONGEST_KEPT = 400  # characters of a pattern whose count is kept
+_KEPT_POSITIONS = 1_000  # patterns whose positions are kept
+_STRIDE = 1_000  # matches from one position that is kept to the next
 
 
 class Kept(Generic[K, V]):
@@ -39,12 +44,64 @@ class Kept(Generic[K, V]):
         return made
 
 
-class Page(NamedTuple):
+class Positions:
+    """The positions of every thousandth match of a pattern, as far as they were needed.
+
+    So all requests for far pages together walk over the matches once.
+    """
+
+    def __init__(self, graph: hdt.Graph, pattern: Pattern) -> None:
+        self._graph, self._pattern, self._lock = graph, pattern, threading.Lock()
+        self._known = array.array("Q", [0])
+
+    def after(self, skip: int) -> Optional[int]:
+        """The position of the match after the first `skip` ones; None where there is none."""
+        strides, rest = divmod(skip, _STRIDE)
+        with self._lock:
+            while len(self._known) <= strides:
+                found = self._graph.position(*self._pattern, skip=_STRIDE, start=self._known[-1])
+                if found is None:
+                    return None
+                self._known.append(found)
+        return self._graph.position(*self._pattern, skip=rest, start=self._known[strides])
+
+
+class Column(NamedTuple):
+    """The strings of a role by their IDs, and whether all are plain terms (`terms.are_plain`)."""
+
+    strings: dict[int, str]
+    is_plain: bool
+
+    def written(self, prefix: str) -> dict[int, str]:
+        """The strings as N-Triples, with blank nodes as IRIs of a prefix, if there is one."""
+        if self.is_plain:
+            return {number: term if term[0] == '"' else f"<{term}>" for number, term in self.strings.items()}
+        return {number: terms.written(terms.named(term, prefix)) for number, term in self.strings.items()}
+
+
+@dataclass
+class Page:
     """Triples of a graph, how many were left out, and the position of the next match; None where there is none."""
 
-    triples: list[Triple]
-    left_out: int
-    following: Optional[int]
+    ids: list[tuple[int, int, int]]
+    columns: list[Column]
+    left_out: int = 0
+    following: Optional[int] = None
+
+    @cached_property
+    def triples(self) -> list[Triple]:
+        """The triples as strings of the dictionary."""
+        if not self.ids:
+            return []
+        subjects, predicates, objects = (column.strings for column in self.columns)
+        return [(subjects[s], predicates[p], objects[o]) for s, p, o in self.ids]
+
+    def lines(self, prefix: str) -> str:
+        """The triples as N-Triples, with blank nodes as IRIs of a prefix, if there is one."""
+        if not self.ids:
+            return ""
+        subjects, predicates, objects = (column.written(prefix) for column in self.columns)
+        return "".join([f"{subjects[s]} {predicates[p]} {objects[o]} .\n" for s, p, o in self.ids])
 
 
 class Reader:
@@ -54,10 +111,10 @@ class Reader:
         """Read a graph. Its predicates are counted at once, where it has no more of them than `most_predicates`."""
         self._graph = graph
         self.counts = graph.counts
-        is_one = isinstance(graph, hdt.Graph)
-        self.objects = self.counts.shared + self.counts.objects if is_one else None  # (not known of a graph in parts)
+        self._is_one = isinstance(graph, hdt.Graph)  # (and not in parts, whose IDs are strings)
+        self.objects = self.counts.shared + self.counts.objects if self._is_one else None
         self._counted: Kept[Pattern, int] = Kept(_KEPT)
-        self._positions: Kept[tuple[Pattern, int], Optional[int]] = Kept(_KEPT)
+        self._positions: Kept[Pattern, Positions] = Kept(_KEPT_POSITIONS)
         self.predicates = self._by_count() if self.counts.predicates <= most_predicates else []
 
     def has(self, role: int, term: str) -> bool:
@@ -68,48 +125,49 @@ class Reader:
         """How many triples match. The counts that were asked for last are kept, as some take a walk over matches."""
         if pattern == (None, None, None):
             return self.counts.triples
-        if _is_long(pattern):
+        if sum(len(term) for term in pattern if term) > _LONGEST_KEPT:
             return self._graph.matching(*pattern)
         return self._counted.ask(pattern, lambda: self._graph.matching(*pattern))
 
-    def _position(self, pattern: Pattern, skip: int, known: Optional[int] = None) -> Optional[int]:
-        """The position of the match behind the first `skip` ones, if it is not known; None where there is none.
-
-        The last positions are kept, as some take a walk over the matches before them.
-        """
-        def made() -> Optional[int]:
-            return self._graph.position(*pattern, skip=skip) if known is None else known
-
+    def _position(self, pattern: Pattern, skip: int) -> Optional[int]:
+        """The position of the match after the first `skip` ones; None where there is none."""
         if not skip:
             return 0
-        return made() if _is_long(pattern) else self._positions.ask((pattern, skip), made)
+        s, p, o = (term is not None for term in pattern)
+        if s >= p >= o or not self._is_one:  # (it takes no walk, or one within a part)
+            return self._graph.position(*pattern, skip=skip)
+        return self._positions.ask(pattern, lambda: Positions(self._graph, pattern)).after(skip)
 
     def page(self, pattern: Pattern, skip: int, room: int, start: Optional[int] = None) -> Page:
         """Up to `room` matching triples behind the first `skip` ones; `start` is their position where it is known.
 
         A triple with a string that is no term is left out.
         """
-        position = self._position(pattern, skip, start)
+        position = self._position(pattern, skip) if start is None else start
         if position is None:
-            return Page([], 0, None)
+            return Page([], [])
         found, following = self._graph.page_ids(*pattern, start=position, limit=room)
-        if following is not None:
-            self._position(pattern, skip + room, following)
-        known = [self._strings(role, numbers) for role, numbers in enumerate(zip(*found))]
-        if not known:
-            return Page([], 0, None)
-        subjects, predicates, objects = known
-        triples = [(subjects[s], predicates[p], objects[o]) for s, p, o in found]
-        whole = triples
-        if any("" in each.values() for each in known):
-            whole = [triple for triple in triples if all(triple)]
-        return Page(whole, len(found) - len(whole), following)
+        columns = [self._column(role, numbers) for role, numbers in enumerate(zip(*found))]
+        whole = found
+        if not all(column.is_plain for column in columns):
+            known = [{number for number, string in column.strings.items() if string} for column in columns]
+            whole = [ids for ids in found if all(map(set.__contains__, known, ids))]
+        return Page(whole, columns, len(found) - len(whole), following)
 
-    def _strings(self, role: int, numbers: tuple[int, ...]) -> dict[int, str]:
+    def _column(self, role: int, numbers: tuple[int, ...]) -> Column:
         """The terms of these numbers; nothing where a string is no term."""
         ids = sorted(set(numbers))
         strings = self._graph.strings(_ROLES[role], ids)
-        return {number: string if terms.is_term(string, role) else "" for number, string in zip(ids, strings)}
+        if terms.are_plain(strings, role):
+            return Column(dict(zip(ids, strings)), True)
+        return Column({n: string if terms.is_term(string, role) else "" for n, string in zip(ids, strings)}, False)
+
+    def subjects(self, page: Page) -> set[str]:
+        """The objects of a page that are subjects, too."""
+        objects = page.columns[2].strings if page.columns else {}
+        if self._is_one:  # (the first IDs are those of such strings)
+            return {term for number, term in objects.items() if number <= self.counts.shared}
+        return {term for term in objects.values() if self.has(0, term)}
 
     def text(self, pattern: Pattern) -> Optional[str]:
         """All matching triples as N-Triples; None where not all strings are terms."""
@@ -122,8 +180,3 @@ class Reader:
         """The predicates with the counts of their triples, the most used first."""
         counted = [(name, count) for name, count in self._graph.predicates() if terms.is_term(name, 1)]
         return sorted(counted, key=lambda each: (-each[1], each[0]))
-
-
-def _is_long(pattern: Pattern) -> bool:
-    """Whether a pattern is too long to be kept."""
-    return sum(len(term) for term in pattern if term) > _LONGEST_KEPT

@@ -4,6 +4,7 @@ from __future__ import annotations
 
 import re
 from dataclasses import dataclass
+from functools import cached_property
 from typing import Any, Optional
 from urllib.parse import quote
 
@@ -14,6 +15,9 @@ Headers = list[tuple[str, str]]
 
 _HOST = re.compile(r"(?:[A-Za-z0-9._-]{1,253}|\[[0-9A-Fa-f:.]{2,45}\])(?::\d{1,5})?\Z")
 _PREFIX = re.compile(r"(?:/[A-Za-z0-9._~-]+)*/?\Z")
+_NOT_IN_URL = re.compile(rb'[^\x21-\x7e]|[<>"{}|^`\\]')
+_HALF_AN_ESCAPE = re.compile(rb"%(?![0-9A-Fa-f]{2})")
+_ESCAPE = re.compile(rb"%(..)", re.DOTALL)
 _PAGE = re.compile(r"[1-9][0-9]{0,14}\Z")
 
 
@@ -32,14 +36,14 @@ def bad(reason: str) -> Refusal:
 
 def _decoded(raw: bytes) -> str:
     plain = raw.replace(b"+", b" ")
-    return re.sub(rb"%(..)", lambda match: bytes([int(match[1], 16)]), plain, flags=re.DOTALL).decode()
+    return _ESCAPE.sub(lambda match: bytes([int(match[1], 16)]), plain).decode()
 
 
 def parameters(query: bytes) -> list[tuple[str, str, bytes]]:
     """The parameters of a query: names and values decoded, and the bytes as they came."""
     found = []
     for raw in query.split(b"&"):
-        if re.search(rb"%(?![0-9A-Fa-f]{2})", raw):
+        if _HALF_AN_ESCAPE.search(raw):
             raise bad("A percent sign of the query is not followed by two hexadecimal digits.")
         name, _, value = raw.partition(b"=")
         try:
@@ -55,7 +59,7 @@ def _url_text(raw: bytes) -> str:
 
     Nothing is normalised, since a client reads the controls of the URL that it asked for.
     """
-    return re.sub(rb'[^\x21-\x7e]|[<>"{}|^`\\]', lambda match: b"%%%02X" % match[0][0], raw).decode("ascii")
+    return _NOT_IN_URL.sub(lambda match: b"%%%02X" % match[0][0], raw).decode("ascii")
 
 
 @dataclass(frozen=True)
@@ -69,12 +73,12 @@ class Request:
     given: dict[str, str]
     without_page: bytes  # the query without its page and where that begins
 
-    @property
+    @cached_property
     def place(self) -> str:
         """The URL without its query."""
         return self.base + quote(self.path)
 
-    @property
+    @cached_property
     def url(self) -> str:
         """The URL as the client wrote it."""
         return self.place + ("?" + _url_text(self.query) if self.query else "")

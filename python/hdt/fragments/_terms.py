@@ -22,15 +22,18 @@ DCTERMS = "http://purl.org/dc/terms/"
 FOAF = "http://xmlns.com/foaf/0.1/"
 
 _IRI_START = re.compile(r"[A-Za-z][A-Za-z0-9+.-]*:")
-_IRI = re.compile(r'[A-Za-z][A-Za-z0-9+.-]*:[^\x00-\x20<>"{}|^`\\]*\Z')
+_PLAIN_IRI = r'[A-Za-z][A-Za-z0-9+.-]*:[^\x00-\x20<>"{}|^`\\]*'
+_IRI = re.compile(_PLAIN_IRI + r"\Z")
 _NOT_IN_IRI = re.compile(r'[\x00-\x20<>"{}|^`\\]')
 _NOT_IN_TEXT = re.compile(r'[\\"\n\r]')
 _TEXT_ESCAPES = {"\\": "\\\\", '"': '\\"', "\n": "\\n", "\r": "\\r"}
 _TAG = r"@[A-Za-z]+(?:-[A-Za-z0-9]+)*"
 _LABEL = re.compile(r"_:[^\s.<>\"@\\^`{|}-](?:[^\s<>\"@\\^`{|}]*[^\s.<>\"@\\^`{|}])?\Z")
 # What follows the last quote of a literal, in a dictionary and in a request.
-_STORED = re.compile(rf'(?:{_TAG}|\^\^<[A-Za-z][A-Za-z0-9+.-]*:[^<>"{{}}|^`\\\x00-\x20]*>)?\Z')
+_STORED = re.compile(rf"(?:{_TAG}|\^\^<{_PLAIN_IRI}>)?\Z")
 _ASKED = re.compile(rf'(?:{_TAG}|\^\^<([^<>"{{}}|^`\\\x00-\x20]+)>|\^\^([^<>"{{}}|^`\\\x00-\x20]+))?\Z')
+# An IRI, or a literal without escapes.
+_PLAIN = re.compile(rf'{_PLAIN_IRI}\Z|"[^\x00"\\\n\r]*"(?:{_TAG}|\^\^<{_PLAIN_IRI}>)?\Z')
 _ESCAPE = re.compile(r"\\(?:([tbnrf\"'\\])|u([0-9A-Fa-f]{4})|U([0-9A-Fa-f]{8}))")
 _CHARACTERS = {"t": "\t", "b": "\b", "n": "\n", "r": "\r", "f": "\f", '"': '"', "'": "'", "\\": "\\"}
 
@@ -86,6 +89,11 @@ def is_term(string: str, role: int) -> bool:
     return _IRI.match(string) is not None
 
 
+def are_plain(strings: list[str], role: int) -> bool:
+    """Whether all are terms in this role, and no blank nodes, that N-Triples writes without an escape."""
+    return all(map((_PLAIN if role == 2 else _IRI).match, strings))
+
+
 def _unescaped(match: re.Match[str]) -> str:
     if match[1]:
         return _CHARACTERS[match[1]]
@@ -126,6 +134,11 @@ def literals(text: str) -> Iterator[str]:
 def skolem_iri(label: str, prefix: str) -> str:
     """The IRI of a blank node, by the prefix of its dataset."""
     return prefix + quote(label[2:], safe="")
+
+
+def named(term: str, prefix: str) -> str:
+    """A dictionary string; the IRI of a blank node, if there is a prefix."""
+    return skolem_iri(term, prefix) if prefix and term.startswith("_:") else term
 
 
 def blank_node(iri: str, prefix: str) -> Optional[str]:

@@ -1,7 +1,8 @@
 """Data and statements about it, in each format of RDF.
 
 Data is N-Triples lines where the format takes them. The statements are in a graph of their own where the format has
-graphs.
+graphs. Those of the form, which are the same for all pages of a dataset, come apart from those of the page: what is
+written of them is kept.
 """
 
 from __future__ import annotations
@@ -9,11 +10,15 @@ from __future__ import annotations
 import functools
 import json
 import re
+from collections.abc import Iterable
+from itertools import chain
 from typing import Any
 
 from hdt.fragments import _terms as terms
 from hdt.fragments._formats import JSONLD, NQUADS, NTRIPLES, TRIG, TURTLE
 from hdt.fragments._terms import Triple
+
+Form = tuple[Triple, ...]
 
 _SPACES = {
     "rdf": terms.RDF, "hydra": terms.HYDRA, "void": terms.VOID, "dcterms": terms.DCTERMS, "foaf": terms.FOAF,
@@ -37,7 +42,7 @@ def _short(term: str) -> str:
 _known = functools.lru_cache(256)(_short)
 
 
-def _grouped(triples: list[Triple]) -> str:
+def _grouped(triples: Iterable[Triple]) -> str:
     """Triples in Turtle, with the statements of one subject together."""
     subjects: dict[str, list[str]] = {}
     for s, p, o in triples:
@@ -45,29 +50,39 @@ def _grouped(triples: list[Triple]) -> str:
     return "".join([f"\n{_short(s)}{' ;'.join(parts)} .\n" for s, parts in subjects.items()])
 
 
-def turtle(lines: str, statements: list[Triple], graph: str) -> str:
-    """Turtle: the data, then the statements about it."""
-    return f"{_HEAD}\n{lines}{_grouped(statements)}"
+@functools.lru_cache(64)
+def _grouped_form(form: Form) -> str:
+    return _grouped(form)
 
 
-def trig(lines: str, statements: list[Triple], graph: str) -> str:
+def turtle(lines: str, form: Form, statements: list[Triple], graph: str) -> str:
+    """Turtle: the data, then the form and the statements about the page."""
+    return f"{_HEAD}\n{lines}{_grouped_form(form)}{_grouped(statements)}"
+
+
+def trig(lines: str, form: Form, statements: list[Triple], graph: str) -> str:
     """TriG."""
-    return f"{_HEAD}\n{lines}\n<{terms.iri_text(graph)}> {{{_grouped(statements)}}}\n"
+    return f"{_HEAD}\n{lines}\n<{terms.iri_text(graph)}> {{{_grouped_form(form)}{_grouped(statements)}}}\n"
 
 
-def _line(triple: Triple, graph: str) -> str:
-    return f"{' '.join(map(terms.spelled, triple))} {graph}.\n"
+def _line(triple: Triple) -> str:
+    return " ".join(map(terms.spelled, triple))
 
 
-def ntriples(lines: str, statements: list[Triple], graph: str) -> str:
+@functools.lru_cache(64)
+def _form_lines(form: Form) -> list[str]:
+    return [_line(triple) for triple in form]
+
+
+def ntriples(lines: str, form: Form, statements: list[Triple], graph: str) -> str:
     """N-Triples."""
-    return lines + "".join(_line(triple, "") for triple in statements)
+    return lines + "".join([f"{each} .\n" for each in chain(_form_lines(form), map(_line, statements))])
 
 
-def nquads(lines: str, statements: list[Triple], graph: str) -> str:
+def nquads(lines: str, form: Form, statements: list[Triple], graph: str) -> str:
     """N-Quads."""
-    name = f"<{terms.iri_text(graph)}> "
-    return lines + "".join(_line(triple, name) for triple in statements)
+    end = f" <{terms.iri_text(graph)}> .\n"
+    return lines + "".join([each + end for each in chain(_form_lines(form), map(_line, statements))])
 
 
 LINES = {TURTLE: turtle, TRIG: trig, NTRIPLES: ntriples, NQUADS: nquads}
@@ -94,9 +109,9 @@ def _nodes(triples: list[Triple]) -> list[dict[str, Any]]:
     return list(nodes.values())
 
 
-def jsonld(data: list[Triple], statements: list[Triple], graph: str) -> str:
+def jsonld(data: list[Triple], form: Form, statements: list[Triple], graph: str) -> str:
     """JSON-LD, expanded, so that no context has to be fetched."""
-    controls = [{"@id": terms.iri_text(graph), "@graph": _nodes(statements)}] if statements else []
+    controls = [{"@id": terms.iri_text(graph), "@graph": _nodes([*form, *statements])}] if statements else []
     whole = [*_nodes(data), *controls]
     return json.dumps(whole, ensure_ascii=False, separators=(",", ":")) + "\n"
 

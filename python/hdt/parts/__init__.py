@@ -27,8 +27,12 @@ from hdt.parts._build import build
 from hdt.parts._errors import InputFault, PartFault, WorkerDied
 from hdt.parts._graph import Graph, Order, open
 from hdt.parts._manifest import Manifest, Part, part_of
+from hdt.parts._string_ids import open_any
 
-__all__ = ["Graph", "InputFault", "Manifest", "Order", "Part", "PartFault", "WorkerDied", "build", "open", "part_of"]
+__all__ = [
+    "Graph", "InputFault", "Manifest", "Order", "Part", "PartFault", "WorkerDied",
+    "build", "open", "open_any", "part_of",
+]
 
 for _name in __all__:
     if _name != "Order":

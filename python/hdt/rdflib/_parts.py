@@ -6,7 +6,8 @@ from collections.abc import Iterator
 from typing import Any
 
 import hdt
-from hdt.parts._string_ids import StringIds, open_any
+from hdt.parts import open_any
+from hdt.parts._string_ids import StringIds
 from hdt.rdflib._file import OpenFile, Search
 
 _LAST: Any = "\U0010ffff"  # no string of a term is greater

@@ -2,9 +2,10 @@
 
 from __future__ import annotations
 
-from collections.abc import Iterator
+from collections.abc import Iterable, Iterator
 from contextlib import contextmanager
 from itertools import product
+from operator import itemgetter
 from typing import Any, Optional, Union
 
 from hdt.rdflib._counts import counted
@@ -16,8 +17,13 @@ from rdflib.plugins.sparql.sparql import AlreadyBound, FrozenBindings
 
 _NAME = "hdt"
 _ANY: Ids = (None,)
+_DUE = 16  # searches for a pattern, after which it is asked whether its triples are read into a table,
+_READ = 16  # which takes about as long as one search for so many triples
+_MOST_READ = 100_000  # triples of the tables of a join
 # A place of a pattern: the IDs of a term that is given, or which variable is there.
 Place = Union[Ids, int]
+# The triples of a pattern by the IDs of its terms that have a value by then: an ID, or a tuple of them.
+Table = dict[Any, list[tuple[int, int, int]]]
 
 
 def plan_sparql(on: bool = True) -> None:
@@ -126,14 +132,32 @@ def _estimate(store: HDTStore, given: list[Any]) -> float:
 # ---- over IDs
 
 
+class _Solution(FrozenBindings):
+    """Bindings in a dictionary of their own, which isn't copied, and whose keys aren't checked where they are there."""
+
+    def __init__(self, ctx: Any, bindings: dict[Any, Any]) -> None:
+        self._d, self._hash, self.ctx = bindings, None, ctx
+
+    def items(self) -> Any:
+        return self._d.items()
+
+    def get(self, key: Any, default: Any = None) -> Any:
+        found = self._d.get(key)
+        return super().get(key, default) if found is None else found
+
+    def project(self, vars: Any) -> _Solution:
+        return _Solution(self.ctx, {variable: term for variable, term in self._d.items() if variable in vars})
+
+
 class _Option:
     """A pattern that may be the next one of a join.
 
     `ids` are those of its terms, `bound` the roles of variables that have a value by then, with these variables,
-    `slots` the places for the values of the others, and `rest` the patterns that are left after it.
+    `slots` the places for the values of the others, and `rest` the patterns that are left after it. After many searches
+    `table` has its triples, by their IDs in the roles of `bound`, which `key` gives.
     """
 
-    __slots__ = ("ids", "bound", "slots", "is_open", "loop", "rest")
+    __slots__ = ("ids", "bound", "slots", "is_open", "loop", "rest", "key", "searched", "due", "table")
 
     def __init__(self, pattern: list[Place], known: set[int], no_slot: int, rest: int) -> None:
         self.ids = [place if isinstance(place, tuple) else _ANY for place in pattern]
@@ -142,6 +166,9 @@ class _Option:
         self.is_open = any(slot != no_slot for slot in self.slots)
         self.loop = self.slots[0] == self.slots[2] != no_slot
         self.rest = rest
+        self.key: Any = itemgetter(*(role for role, _ in self.bound)) if self.bound else None
+        self.searched, self.due = 0, _DUE
+        self.table: Optional[Table] = None
 
 
 class _Step:
@@ -166,6 +193,7 @@ class _Join:
         self.patterns: list[list[Place]] = []
         self.values = [0] * (len(variables) + 1)
         self.steps: dict[int, _Step] = {}
+        self.room = _MOST_READ
 
     @classmethod
     def of(cls, file: OpenFile, ctx: Any, triples: Any) -> Optional[_Join]:
@@ -206,7 +234,7 @@ class _Join:
                     found[variable] = terms[row[at]]
                 for variable, at in others:
                     found[variable] = predicate[row[at]]
-                yield FrozenBindings(self.ctx, found)
+                yield _Solution(self.ctx, found)
 
     def _rows(self) -> Iterator[list[int]]:
         for _ in self._walk((1 << len(self.patterns)) - 1):
@@ -219,8 +247,9 @@ class _Join:
             step.taken = min(step.options, key=self._count)
         option = step.taken
         searches, rest = self._searches(option), option.rest
+        table = self._table(option, len(searches)) if option.table is None else option.table
         if not option.is_open:
-            if self.file.has(searches):
+            if self.file.has(searches) if table is None else any(option.key(search) in table for search in searches):
                 if rest:
                     yield from self._walk(rest)
                 else:
@@ -230,7 +259,9 @@ class _Join:
         at_s, at_p, at_o = option.slots
         seen: Optional[set[tuple[int, ...]]] = set() if len(searches) > 1 else None
         for search in searches:
-            for s, p, o in self.file.found(search):
+            found: Iterable[tuple[int, int, int]]
+            found = self.file.found(search) if table is None else table.get(option.key(search), [])
+            for s, p, o in found:
                 node = o if o <= shared else o + more
                 if loop and s != node:
                     continue
@@ -255,6 +286,22 @@ class _Join:
             if left >> at & 1
         ])
         return step
+
+    def _table(self, option: _Option, searches: int) -> Optional[Table]:
+        """The triples of a pattern by its bound terms, after so many searches that it takes less to read them all."""
+        option.searched += searches
+        if option.searched < option.due or not option.bound:
+            return None
+        option.due = 2 * option.searched
+        everything = [(s, p, o) for s, p, o in product(*option.ids)]
+        count = self.file.count(everything)
+        if len(everything) != 1 or count > min(_READ * option.searched, self.room):
+            return None
+        self.room -= count
+        option.table = {}
+        for triple in self.file.graph.find_ids(*everything[0]):
+            option.table.setdefault(option.key(triple), []).append(triple)
+        return option.table
 
     def _count(self, option: _Option) -> int:
         return self.file.count(self._searches(option))
