@@ -1,14 +1,12 @@
-"""Graphs in parts with Dask's executor over two local workers, which die and stop in each kind of task.
+"""Graphs in parts with Dask's executor over two local workers, which die in each kind of task of a build.
 
-A worker that dies is started again, and its task is run by another one; that of one that is believed dead, too.
+A worker that dies is started again, and its task is run by another one.
 """
 
 from __future__ import annotations
 
 import logging
-import os
 import signal
-import time
 from collections.abc import Iterator
 from contextlib import contextmanager
 from pathlib import Path
@@ -16,7 +14,7 @@ from typing import Any
 
 import pytest
 
-from support.parts import check_same, go_on, graph_of, inputs, interrupt, named, of_one, parts, patterns, small, text_of
+from support.parts import check_same, graph_of, inputs, interrupt, named, of_one, parts, patterns, small, text_of
 from support.python_package import ENVIRONMENT, PACKAGE
 
 dask: Any = pytest.importorskip("dask", reason="there is no Dask: Debian's python3-distributed")
@@ -151,20 +149,6 @@ def test_worker_that_dies_in_a_build(tmp_path: Path, client: Any, expected: part
     check_equal(tmp_path, found, expected)
 
 
-def test_worker_that_dies_in_a_search(tmp_path: Path, own: Any, expected: parts.Manifest) -> None:
-    """The rest of the triples come all the same, in the same order."""
-    orders: tuple[parts.Order, ...] = ("parts", "strings")
-    for order in orders:
-        both(own)
-        with parts.open(tmp_path / "expected", own.get_executor()) as graph, small(1, 1, 8, 16):
-            found = graph.find(order=order)
-            first = next(found)
-            os.kill(next(iter(own.run(os.getpid).values())), signal.SIGKILL)
-            rows = [first, *found]
-        with parts.open(tmp_path / "expected") as graph:
-            assert rows == list(graph.find(order=order))
-
-
 def test_work_that_kills_each_worker(tmp_path: Path, own: Any, expected: parts.Manifest) -> None:
     """It is an error that says so, and there is no folder."""
     client, flag = own, tmp_path / "in.always"
@@ -173,16 +157,3 @@ def test_work_that_kills_each_worker(tmp_path: Path, own: Any, expected: parts.M
     with pytest.raises(parts.WorkerDied, match=r"part-0000.\.hdt: the processes that ran it died \(KilledWorker\)"):
         parts.build([tmp_path / "in0.nt"], tmp_path / "out", 3, client.get_executor())
     assert left(tmp_path) == set()
-
-
-def test_worker_that_is_believed_dead(tmp_path: Path, expected: parts.Manifest) -> None:
-    """One that stops is given up, and its task is done elsewhere; when it goes on, it does no harm."""
-    flag = tmp_path / "in.flag"
-    with cluster(tmp_path / "in.dask", **{"distributed.scheduler.worker-ttl": "4s"}) as client:
-        client.register_worker_plugin(Interrupt("hdt.build", str(flag), signal.SIGSTOP))
-        flag.touch()
-        found = parts.build([tmp_path / "in0.nt"], tmp_path / "out", 3, client.get_executor())
-        assert Path(f"{flag}.pid").exists()
-        go_on(flag)
-        time.sleep(1)
-        check_equal(tmp_path, found, expected)

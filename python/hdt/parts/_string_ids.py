@@ -19,6 +19,9 @@ def open_any(path: Path, copy: Optional[bool] = None) -> hdt.Graph:
 
     A folder has the calls of `hdt.Graph` that `hdt.rdflib` and `hdt.fragments` use: see `StringIds`. Raises what
     `hdt.open` and `hdt.parts.open` raise.
+
+    >>> [len(hdt.parts.open_any(path)) for path in ("graph.hdt", "graph.parts")]
+    [3, 3]
     """
     if not os.path.isdir(path):
         return hdt.open(path, copy)
