@@ -310,7 +310,7 @@ USAGES: list[tuple[list[Word], bytes]] = [
      b"Usage: hdt dump [OPTIONS] <FILE>"),
     (["vierge", "a.hdt"], b"unrecognized subcommand 'vierge'\n\nUsage: hdt <COMMAND>"),
     (["head", "a.hdt", "b.hdt"], b"unexpected argument 'b.hdt' found\n\nUsage: hdt head [OPTIONS] <FILE>"),
-    ([], b"'hdt' requires a subcommand but one was not provided\n  [subcommands: head, verify, strings, string, "
+    ([], b"'hdt' requires a subcommand but one was not provided\n  [subcommands: head, verify, info, strings, string, "
          b"number, find, answer, dump, count, build, rewrite, explain, help]\n\nUsage: hdt <COMMAND>"),
     (["head", b"\xff"], b"an argument is not UTF-8"),
 ]

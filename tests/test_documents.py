@@ -6,7 +6,6 @@ import gzip
 import re
 import shutil
 import sys
-import textwrap
 from pathlib import Path
 from typing import NamedTuple
 
@@ -215,14 +214,13 @@ def examples() -> dict[str, list[str]]:
 
 
 def is_compiled(block: list[str]) -> bool:
-    """Whether the lines are consecutive lines of the program crates/example, indentation aside."""
-    wanted = "\n".join(block)
-    for path in TOP.glob("crates/example/src/*.rt"):
-        lines = path.read_text().splitlines()
-        windows = (lines[start:start + len(block)] for start in range(len(lines)))
-        if any(textwrap.dedent("\n".join(window)) == wanted for window in windows):
-            return True
-    return False
+    """Whether the lines are in the program crates/example, but for white space and commas before a closing bracket."""
+
+    def tokens(text: str) -> str:
+        return re.sub(r",(?=[)\]}])", "", re.sub(r"\s+", "", text))
+
+    wanted = tokens("\n".join(block))
+    return any(wanted in tokens(path.read_text()) for path in TOP.glob("crates/example/src/*.rt"))
 
 
 def test_examples_in_comments() -> None:

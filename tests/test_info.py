@@ -120,8 +120,11 @@ def test_files(tmp_path: Path, data: bytes) -> None:
 
 
 def test_samples(tmp_path: Path) -> None:
-    """The samples, as they are."""
-    for sample in sorted(SAMPLES.glob("*.hdt")):
+    """The samples that are whole files, as they are."""
+    samples = sorted(SAMPLES.glob("*.hdt"))
+    files = [it for it in samples if checks.error_of(reference.read_file, it.read_bytes()) is None]
+    assert {"three.hdt", "v1.hdt"} <= {it.name for it in files}
+    for sample in files:
         check(tmp_path / "graph.hdt", sample.read_bytes())
 
 
