@@ -197,8 +197,8 @@ class Application:
         request.page()
 
         def make() -> bytes:
-            fragment = fragments.fragment_of(request, dataset, loaded, self.config)
             kind = formats.KINDS[media]
+            fragment = fragments.fragment_of(request, dataset, loaded, self.config, kind in writers.LINES)
             if kind == HTML:
                 return pages.fragment_page(fragment)
             form, statements = fragments.form(dataset, request.base), fragments.controls(fragment)

@@ -13,7 +13,7 @@ from typing import Optional
 from hdt.fragments import _terms as terms
 from hdt.fragments._config import Config
 from hdt.fragments._dataset import Dataset, Loaded
-from hdt.fragments._reader import Page, Reader
+from hdt.fragments._reader import Page, PageText, Reader
 from hdt.fragments._request import Refusal, Request
 from hdt.fragments._terms import DCTERMS, FOAF, HYDRA, RDF, ROLES, VOID, Pattern, Triple
 
@@ -73,6 +73,7 @@ class Fragment:
     hints: list[str]
     count: int
     page: int
+    is_text: bool  # whether only `lines` is asked for, and no triples
 
     @property
     def pages(self) -> int:
@@ -112,10 +113,19 @@ class Fragment:
         """The triples of the page, as strings of the dictionary."""
         return self.loaded.reader.page(self.pattern, self.skip, self.config.page_size, self._start)
 
+    @cached_property
+    def text(self) -> Optional[PageText]:
+        """The page as the engine writes it; None where it can't be, or its blank nodes have to be renamed."""
+        found = self.loaded.reader.page_text(self.pattern, self.skip, self.config.page_size, self._start)
+        return None if found is None or self.skolem and "_:" in found.lines else found
+
     @property
     def next(self) -> Optional[str]:
         """The URL of the next page, which names its position; None where there is none."""
-        following = self.found.following if self.page < self.pages else None
+        if self.page >= self.pages:
+            return None
+        text = self.text if self.is_text else None
+        following = text.following if text else self.found.following
         if following is None:
             return None
         return self.request.with_page(self.page + 1, self._begins(self.page + 1, following))
@@ -127,12 +137,10 @@ class Fragment:
 
     def lines(self) -> str:
         """The triples of the page as N-Triples, with blank nodes as the server names them."""
-        prefix = self.skolem
-        text = self.loaded.reader.text(self.pattern) if self.count <= self.config.page_size else None
-        return self.found.lines(prefix) if text is None or prefix and "_:" in text else text
+        return self.text.lines if self.text else self.found.lines(self.skolem)
 
 
-def fragment_of(request: Request, dataset: Dataset, loaded: Loaded, config: Config) -> Fragment:
+def fragment_of(request: Request, dataset: Dataset, loaded: Loaded, config: Config, is_text: bool) -> Fragment:
     """The fragment that a request asks for. Raises Refusal where it has no such page."""
     page, prefix, reader = request.page(), skolem_prefix(request, dataset, config), loaded.reader
     s, p, o = (
@@ -140,7 +148,7 @@ def fragment_of(request: Request, dataset: Dataset, loaded: Loaded, config: Conf
     )
     pattern = s.term, p.term, o.term
     hints = [each.hint for each in (s, p, o) if each.hint]
-    fragment = Fragment(dataset, loaded, request, config, pattern, hints, reader.count(pattern), page)
+    fragment = Fragment(dataset, loaded, request, config, pattern, hints, reader.count(pattern), page, is_text)
     if page > max(1, fragment.pages):
         raise Refusal("404 Not Found", f"There is no page {page:,}: {fragment.count:,} triples match, "
                       f"on {fragment.pages:,} pages.")

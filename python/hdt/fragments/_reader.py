@@ -79,6 +79,13 @@ class Column(NamedTuple):
         return {number: terms.written(terms.named(term, prefix)) for number, term in self.strings.items()}
 
 
+class PageText(NamedTuple):
+    """Triples of a graph as N-Triples, and the position of the next match; None where there is none."""
+
+    lines: str
+    following: Optional[int]
+
+
 @dataclass
 class Page:
     """Triples of a graph, how many were left out, and the position of the next match; None where there is none."""
@@ -169,10 +176,13 @@ class Reader:
             return {term for number, term in objects.items() if number <= self.counts.shared}
         return {term for term in objects.values() if self.has(0, term)}
 
-    def text(self, pattern: Pattern) -> Optional[str]:
-        """All matching triples as N-Triples; None where not all strings are terms."""
+    def page_text(self, pattern: Pattern, skip: int, room: int, start: Optional[int] = None) -> Optional[PageText]:
+        """The same page as the engine writes it; None where a string is no term, and of a graph in parts."""
+        position = self._position(pattern, skip) if start is None else start
+        if position is None or not self._is_one:
+            return None
         try:
-            return self._graph.text(*pattern)
+            return PageText(*self._graph.page_text(*pattern, start=position, limit=room))
         except hdt.NotATerm:
             return None
 
