@@ -332,6 +332,16 @@ def test_formats_agree(site: Site, target: str) -> None:
     assert pages["text/turtle"] == pages["application/n-triples"] == (wanted | said, set())
 
 
+@pytest.mark.parametrize("kind", ["text/turtle", "application/trig", "application/n-quads", "application/n-triples"])
+def test_a_page_of_lines_is_one_call(site: Site, kind: str) -> None:
+    """A page of lines is the engine's text of it: nothing asks for IDs and strings."""
+    target = url(predicate="http://odd.example/n", page=2)
+    wanted = site.ask(target, Accept=kind)
+    unwanted = mock.Mock(side_effect=AssertionError)
+    with mock.patch.object(hdt.Graph, "page_ids", unwanted), mock.patch.object(hdt.Graph, "strings", unwanted):
+        assert site.ask(target, Accept=kind).body == wanted.body
+
+
 def test_strings_that_are_no_terms(tmp_path: Path) -> None:
     """Triples with strings that are no terms of RDF are left out; the rest is there, in all formats."""
     strings = [(b"u:a", b"u:p", b"u:b"), (b"u:a", b"u:q", b"rel"), (b"u:a", b"u:q", b'"x"@'), (b"u:a", b"u:q", b'"x'),
