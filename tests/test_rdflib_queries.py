@@ -224,6 +224,7 @@ def test_distinct_counts(name: str) -> None:
     """COUNT of different terms is what rdflib counts over the file: for it tags of either case are one."""
     objects = [tagged("x", "en"), tagged("x", "EN"), tagged("y", "en"), plain("x"), iri("u:b"), blank("b"), iri("u:a")]
     triples = [(iri(s), iri(p), o) for s in ("u:a", "u:b") for p in ("u:p", "u:q") for o in objects]
+    triples.append((iri("u:c"), iri("u:q"), iri("u:z")))  # (a group with other counts)
     with stored(triples) as graph:
         wanted = under("rdflib", graph, DISTINCT[name])
         assert {mode: under(mode, graph, DISTINCT[name]) for mode in rdf.MODES} == dict.fromkeys(rdf.MODES, wanted)
