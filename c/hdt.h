@@ -14,7 +14,7 @@
  * - The arrays that results are written to (out, room) are yours. A call changes nothing in them but what its result says.
  *
  * What you must ensure, since nothing checks it: no pointer is null, even for zero bytes or in a part of a pattern that is not a
- * string (use any address: `at` of an empty hdt_bytes is null, and data() of an empty C++ vector may be); arrays have the room that
+ * string (use any address: data() of an empty C++ vector may be null, and so may `at` of an empty hdt_bytes); arrays have the room that
  * you state, and the alignment of their type; parameters don't overlap, except for two that are only read, so the input is not in
  * `out`; no call is made in a signal handler, or in the forked child of a process with threads.
  *
@@ -152,7 +152,7 @@ typedef struct {
     uint64_t second[2]; /* IDs of the other subjects or objects, which are greater; empty for predicates */
 } hdt_ranges;
 
-/* Bytes that the library made: `len` bytes from `at`, without a zero byte after them. State is 1 if there are bytes to free, else 0;
+/* Bytes that the library made: `len` bytes from `at`, without a zero byte after them; if len is 0, `at` may be any address. State is 1 if there are bytes to free, else 0;
  * then len is 0, too. A call that makes bytes first frees those that `out` had, even if it fails. */
 typedef struct {
     const uint8_t *at;
@@ -236,17 +236,18 @@ uint64_t hdt_pattern_find(hdt_graph *graph, const hdt_pattern *pattern, uint64_t
 uint64_t hdt_pattern_matching(hdt_graph *graph, const hdt_pattern *pattern);
 void hdt_pattern_text(hdt_graph *graph, const hdt_pattern *pattern, hdt_bytes *out, hdt_telling *telling);
 
-/* A page of the matches of a pattern: those from triple `from` on, from 0, in the order of the file. Writes the first of
- * them to out, as many as fit, and returns their number. `next` is the index of the next match, from which the next page
- * goes on, or HDT_ABSENT if there is none; 0 and 1,000 as `from` and `room`, then each `next` as `from`, give all matches
- * once, in pages of 1,000. Each page is found by binary search, so pages of one size take time in proportion to the
+/* A page of the matches of a pattern, in the order of the file. `from` and `next` are indexes of triples of the file,
+ * counted from 0, not of matches. Writes the first matches from triple `from` on to out, as many as fit, and returns their
+ * number. `next` is the index of the next match, from which the next page goes on, or HDT_ABSENT if there is none; 0 and
+ * 1,000 as `from` and `room`, then each `next` as `from`, give all matches once, in pages of 1,000. With `room` 0 `next`
+ * is the first match from `from` on, so a loop needs a room of at least 1. From the number of triples on there is none. Each page is found by binary search, so pages of one size take time in proportion to the
  * matches. HDT_NO_MEMORY, HDT_CLOSED; then out is unchanged, and `next` is HDT_ABSENT. Memory of the size of the page,
  * which is freed. */
 uint64_t hdt_page(hdt_graph *graph, const hdt_pattern *pattern, uint64_t from, uint64_t (*out)[3], size_t room,
                   uint64_t *next);
 
-/* The N-Triples text of a page: a line for each of the first `most` matches of a pattern from triple `from` on, from 0, as
- * of hdt_text. `next` is the index of the next match, as of hdt_page, or HDT_ABSENT if there is none. A page with a string
+/* The N-Triples text of a page: a line for each of the first `most` matches of a pattern from triple `from` on, as of
+ * hdt_text. `from` and `next` are as of hdt_page; with `most` 0 there is no line, and `next` is the first match. A page with a string
  * that is no term in its role has no text: HDT_NOT_A_TERM, with the role and number of the first such string of the first
  * such match, as of hdt_text. HDT_OUT_OF_MEMORY, HDT_IS_CLOSED. With any reason but HDT_DONE out has nothing, and `next` is
  * HDT_ABSENT. The page is found as by hdt_page; then time is in proportion to the page, its text and the blocks of its

@@ -159,6 +159,13 @@ def test_arguments_that_install_does_not_take(words: list[str], tree: Path, tmp_
     assert installed_files(tmp_path) == set()
 
 
+def test_a_prefix_that_is_relative(tree: Path) -> None:
+    """A PREFIX that the shell has not expanded is refused, and nothing is made."""
+    result = run([tree / "tools/install"], cwd=tree, env={"PREFIX": "~/.local"})
+    assert result == Result(2, b"", b"install: PREFIX has to be an absolute path: ~/.local\n")
+    assert not (tree / "~").exists()
+
+
 @pytest.fixture
 def open_folder() -> Iterator[Path]:
     """A folder that another user may read."""
