@@ -151,7 +151,7 @@ def fragment_of(request: Request, dataset: Dataset, loaded: Loaded, config: Conf
     fragment = Fragment(dataset, loaded, request, config, pattern, hints, reader.count(pattern), page, is_text)
     if page > max(1, fragment.pages):
         raise Refusal("404 Not Found", f"There is no page {page:,}: {fragment.count:,} triples match, "
-                      f"on {fragment.pages:,} pages.")
+                      f"on {fragment.pages:,} page{'' if fragment.pages == 1 else 's'}.")
     return fragment
 
 
