@@ -20,11 +20,11 @@ import pytest
 
 from support.parts import (check_same, go_on, graph_of, inputs, interrupt, named, of_one, parts, patterns, ranges,
                            small, split, text_of)
-from support.python_package import ENVIRONMENT
+from support.python_package import ENVIRONMENT, PACKAGE
 
 GRAPH = graph_of(300)
 TEXT = text_of(GRAPH)
-FORK = multiprocessing.get_context("fork")
+SPAWN = multiprocessing.get_context("spawn")
 # A function that is called in the middle of a task, by the kind of task.
 MIDDLES = {"split": "hdt.parts._build.split", "build": "hdt.build"}
 
@@ -32,8 +32,16 @@ MIDDLES = {"split": "hdt.parts._build.split", "build": "hdt.build"}
 def pool(where: str = "", flag: str = "", how: int = 0) -> ProcessPoolExecutor:
     """Two processes, of which one dies or stops in a function, if it is named."""
     if not where:
-        return ProcessPoolExecutor(2, mp_context=FORK)
-    return ProcessPoolExecutor(2, mp_context=FORK, initializer=interrupt, initargs=(where, flag, how))
+        return ProcessPoolExecutor(2, mp_context=SPAWN)
+    return ProcessPoolExecutor(2, mp_context=SPAWN, initializer=interrupt, initargs=(where, flag, how))
+
+
+@pytest.fixture(autouse=True)
+def environment(monkeypatch: pytest.MonkeyPatch) -> None:
+    """New processes find the package and the library. (They are not forked: a fork of pytest's threads may hang.)"""
+    for name, value in ENVIRONMENT.items():
+        monkeypatch.setenv(name, value)
+    monkeypatch.syspath_prepend(PACKAGE)
 
 
 @pytest.fixture
