@@ -19,8 +19,8 @@
  * `out`; no call is made in a signal handler, or in the forked child of a process with threads.
  *
  * What is checked: the bytes of files, texts and strings, whatever they are; graphs that are not open (HDT_CLOSED, HDT_IS_CLOSED)
- * or, in hdt_open, already open (HDT_IS_OPEN); roles above 2 and IDs that no string has (HDT_ABSENT); block sizes and base IRIs
- * (HDT_BAD_OPTIONS); running out of memory, which leaves a graph as it was. A part of a pattern with an unknown kind, or with an ID
+ * or, in hdt_open, already open (HDT_IS_OPEN); roles above 2 and IDs that no string has (HDT_ABSENT); block sizes, base IRIs and numbers
+ * of parts (HDT_BAD_OPTIONS); running out of memory, which leaves a graph as it was. A part of a pattern with an unknown kind, or with an ID
  * that no string has, matches nothing.
  */
 #ifndef HDT_H
@@ -43,7 +43,8 @@ enum {
     HDT_NOT_A_TERM = 250,   /* calls that make a text: a string of the graph is not a term of N-Triples in its role;
                              * hdt_term: no term has the string */
     HDT_NO_TRIPLES = 251,   /* hdt_build: the text has no triples, so no file is built */
-    HDT_BAD_OPTIONS = 252,  /* hdt_build, hdt_rewrite: the block size isn't 1 to 65535, or the base is not an absolute IRI */
+    HDT_BAD_OPTIONS = 252,  /* hdt_build, hdt_rewrite: the block size isn't 1 to 65535, or the base is not an absolute IRI;
+                             * hdt_split: the number of parts isn't 1 to 65536 */
     HDT_IS_CLOSED = 253,    /* hdt_text, hdt_pattern_text, hdt_page_text: the graph isn't open */
     HDT_IS_OPEN = 254,      /* hdt_open: the graph is open already, and is unchanged */
     HDT_OUT_OF_MEMORY = 255 /* out of memory: the input may be valid or not; the call may be made again */
@@ -65,10 +66,10 @@ enum {
     HDT_FILE_NO_TRIPLES = 24, HDT_FILE_LENGTHS_DIFFER = 25, HDT_FILE_LAST_MARK = 26, HDT_FILE_MARK_COUNT = 27,
     HDT_FILE_SUBJECT_RANGE = 28, HDT_FILE_PREDICATE_RANGE = 29, HDT_FILE_OBJECT_RANGE = 30,
     HDT_FILE_PREDICATES_NOT_ASCENDING = 31, HDT_FILE_OBJECTS_NOT_ASCENDING = 32, HDT_FILE_TRAILING_BYTES = 33,
-    HDT_FILE_UNUSED = 34 /* of hdt_verify_tight alone */
+    HDT_FILE_UNUSED = 34 /* only of hdt_verify_tight */
 };
 
-/* and those of a text, by their names in docs/NTRIPLES.md. hdt_build reports neither HDT_TEXT_READ nor
+/* and those of a text, by their names in docs/NTRIPLES.md. hdt_build and hdt_split report neither HDT_TEXT_READ nor
  * HDT_TEXT_OUT_OF_MEMORY. */
 enum {
     HDT_TEXT_SYNTAX = 1, HDT_TEXT_NOT_UTF8 = 2, HDT_TEXT_BAD_ESCAPE = 3, HDT_TEXT_RELATIVE_IRI = 4,
@@ -92,6 +93,16 @@ typedef struct {
     uint64_t column;    /* its column, in bytes of the line, from 1; 0 if the error has none */
     uint64_t counts[5]; /* as in a verdict: of the file that was built */
 } hdt_report;
+
+/* The result of splitting a text. */
+typedef struct {
+    uint32_t reason;          /* HDT_DONE if it was split, else the first error of the text or a general reason */
+    uint32_t has_blank_nodes; /* 1 if the subject or the object of a triple is a blank node, else 0; 0 without HDT_DONE */
+    uint64_t line;            /* as in a report */
+    uint64_t column;          /* as in a report */
+    uint64_t lines;           /* the number of lines of the text, with those without a triple; 0 without HDT_DONE */
+    uint64_t triples;         /* the number of lines with a triple; 0 without HDT_DONE */
+} hdt_split_report;
 
 /* The result of making a text of a graph. */
 typedef struct {
@@ -152,8 +163,8 @@ typedef struct {
     uint64_t second[2]; /* IDs of the other subjects or objects, which are greater; empty for predicates */
 } hdt_ranges;
 
-/* Bytes that the library made: `len` bytes from `at`, without a zero byte after them; if len is 0, `at` may be any address. State is 1 if there are bytes to free, else 0;
- * then len is 0, too. A call that makes bytes first frees those that `out` had, even if it fails. */
+/* Bytes that the library made: `len` bytes from `at`, without a zero byte after them; if len is 0, `at` may be any address. State is 1
+ * if there are bytes to free, else 0; then len is 0, too. A call that makes bytes first frees those that `out` had, even if it fails. */
 typedef struct {
     const uint8_t *at;
     uint64_t len;
@@ -171,7 +182,7 @@ void hdt_verify(const uint8_t *bytes, size_t len, hdt_verdict *verdict);
  * HDT_OUT_OF_MEMORY. Time is linear in the bytes, memory in the triples and strings; all of it is freed. */
 void hdt_verify_tight(const uint8_t *bytes, size_t len, hdt_verdict *verdict);
 
-/* Checks a file as hdt_verify does and opens it. The graph is open with HDT_DONE alone; with any other reason it is unchanged.
+/* Checks a file as hdt_verify does and opens it. The graph is open only with HDT_DONE; with any other reason it is unchanged.
  * HDT_IS_OPEN. Time and memory are linear in the file: the call builds indexes. */
 void hdt_open(const uint8_t *bytes, size_t len, hdt_graph *graph, hdt_verdict *verdict);
 
@@ -214,8 +225,8 @@ uint64_t hdt_header(hdt_graph *graph, uint8_t *out, size_t room);
 /* The triples that have each given string in its role. If has_s is 0, any subject matches, and s isn't read (but may not be null);
  * so for p and o. Writes the matches after the first `skip` ones to out, at most `room`, in the order of the file (by subject,
  * predicate, object), each as its three IDs. Returns how many: fewer than `room` if there are no more. If nothing is given, or s, or
- * s and p, the first match to write is found by binary search. Otherwise each call scans the skipped matches, so pages of one size
- * take quadratic time: use hdt_page. HDT_CLOSED, which is greater than any room. */
+ * s and p, or only o, the first match to write is found without the skipped ones. Otherwise each call scans those, so pages of one
+ * size take quadratic time: use hdt_page. HDT_CLOSED, which is greater than any room. */
 uint64_t hdt_find(hdt_graph *graph, uint32_t has_s, const uint8_t *s, size_t s_len, uint32_t has_p, const uint8_t *p, size_t p_len,
                   uint32_t has_o, const uint8_t *o, size_t o_len, uint64_t skip, uint64_t (*out)[3], size_t room);
 
@@ -240,9 +251,9 @@ void hdt_pattern_text(hdt_graph *graph, const hdt_pattern *pattern, hdt_bytes *o
  * counted from 0, not of matches. Writes the first matches from triple `from` on to out, as many as fit, and returns their
  * number. `next` is the index of the next match, from which the next page goes on, or HDT_ABSENT if there is none; 0 and
  * 1,000 as `from` and `room`, then each `next` as `from`, give all matches once, in pages of 1,000. With `room` 0 `next`
- * is the first match from `from` on, so a loop needs a room of at least 1. From the number of triples on there is none. Each page is found by binary search, so pages of one size take time in proportion to the
- * matches. HDT_NO_MEMORY, HDT_CLOSED; then out is unchanged, and `next` is HDT_ABSENT. Memory of the size of the page,
- * which is freed. */
+ * is the first match from `from` on, so a loop needs a room of at least 1. From the number of triples on there is none.
+ * Each page is found by binary search, so pages of one size take time in proportion to the matches. HDT_NO_MEMORY,
+ * HDT_CLOSED; then out is unchanged, and `next` is HDT_ABSENT. Memory of the size of the page, which is freed. */
 uint64_t hdt_page(hdt_graph *graph, const hdt_pattern *pattern, uint64_t from, uint64_t (*out)[3], size_t room,
                   uint64_t *next);
 
@@ -268,6 +279,18 @@ uint64_t hdt_predicates(hdt_graph *graph, uint64_t *counts, size_t room);
  * Linear time, except for sorting. */
 void hdt_build(const uint8_t *text, size_t len, const uint8_t *base, size_t base_len, uint32_t block_size, hdt_bytes *out,
                hdt_report *report);
+
+/* Splits an N-Triples text by subject, so that all triples of a subject are in one part: the part of a triple is the CRC-32 (that of
+ * gzip) of its subject's dictionary string, modulo `parts`, which is 1 to 65536. With HDT_DONE out has the texts of the parts, from
+ * part 0, one after another; else it has nothing. The text of a part is the lines with its triples, as they are and with their ends,
+ * in their order; a last line without an end gets a line feed. Lines without a triple are left out. If the prefix has bytes, they are
+ * put before each label of a blank node (after `_:`), before its part is computed; nothing checks that they may be in a label. Writes
+ * to ends where each part ends, in bytes from the start of out: those of the first `room` parts (`parts` for all); with any reason
+ * but HDT_DONE ends is unchanged. A text without triples is split into empty parts. HDT_BAD_OPTIONS; the first error of the text, by
+ * line and column, as hdt_build reports it; HDT_OUT_OF_MEMORY. Linear time; memory of some three times the size of the result, and 100
+ * bytes for each part, all of which is freed but out. */
+void hdt_split(const uint8_t *text, size_t len, uint32_t parts, const uint8_t *prefix, size_t prefix_len, hdt_bytes *out,
+               uint64_t *ends, size_t room, hdt_split_report *report);
 
 /* Rewrites a file as the canonical file of the same triples, with the same header and without unused strings. `block_size` is the
  * number of strings in a block, 1 to 65535. With HDT_DONE out has the new file, and the verdict its counts; else out has nothing, and

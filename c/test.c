@@ -832,6 +832,20 @@ static int call_build(const job *it) {
     return answer;
 }
 
+static int call_split(const job *it) {
+    hdt_bytes made = HDT_BYTES_INIT;
+    hdt_split_report told;
+    uint64_t ends[3] = {7, 7, 7};
+    int answer;
+    hdt_split(it->document.at, it->document.len, 3, (const uint8_t *)"", 0, &made, ends, 3, &told);
+    answer = told.reason == HDT_OUT_OF_MEMORY ? (has_nothing(&made) && ends[0] == 7 && told.line == 0 ? TOLD : WRONG) : WRONG;
+    if (told.reason == HDT_DONE) { /* the document has a line for each triple */
+        answer = made.len == it->document.len && ends[2] == made.len && told.triples == it->ample.counts[0] ? AMPLE : WRONG;
+    }
+    hdt_free(&made);
+    return answer;
+}
+
 static int call_rewrite(const job *it) {
     hdt_bytes made = HDT_BYTES_INIT;
     hdt_verdict told;
@@ -899,6 +913,7 @@ static void refuse(const guarded *file, const hdt_verdict *verdict) {
     if (telling.reason == HDT_DONE) {
         hdt_build(it.document.at, it.document.len, base, sizeof base - 1, 16, &it.built, &report);
         refuse_each("build", call_build, &it);
+        refuse_each("split", call_split, &it);
     }
     hdt_rewrite(file->at, file->len, 16, &it.rewritten, &told);
     refuse_each("rewrite", call_rewrite, &it);
@@ -1088,6 +1103,8 @@ static void all_of(const document *it, const uint8_t *name, size_t name_len, uin
     hdt_telling telling;
     hdt_verdict verdict;
     hdt_report report;
+    hdt_split_report split;
+    uint64_t ends[3];
     long before = live;
     seal(&written);
     hdt_build(written.at, written.len, name, name_len, 16, &made, &report);
@@ -1096,6 +1113,9 @@ static void all_of(const document *it, const uint8_t *name, size_t name_len, uin
     }
     file = guarded_copy(made.at, made.len);
     seal(&file);
+    hdt_split(written.at, written.len, 3, base, 0, &made, ends, 3, &split);
+    CHECK(split.reason == HDT_DONE && split.triples == triples && split.lines == triples && made.len == written.len && ends[2] == made.len);
+    CHECK(ends[0] <= ends[1] && ends[1] <= ends[2]);
     hdt_free(&made);
     CHECK(live == before);
     hdt_verify(file.at, file.len, &verdict);
@@ -1154,6 +1174,45 @@ static void large(void) {
     free(longest);
 }
 
+/* What hdt_split says of a text that it splits. */
+static int splits(const hdt_split_report *report, uint64_t lines, uint64_t triples, uint32_t has_blank_nodes) {
+    return report->reason == HDT_DONE && report->line == 0 && report->column == 0 && report->lines == lines && report->triples == triples &&
+           report->has_blank_nodes == has_blank_nodes;
+}
+
+/* Splitting into five parts: the CRC-32 of u:s is 41DE8D56, so its part is 4; that of _:b is 1EB46E92, so its part is 1; and that of
+ * _:xb is DF8C5324, so its part is 2. */
+static void split_texts(void) {
+    static const char given[] = "<u:s> <u:p> _:b .\r\n# none\n_:b<u:p><u:o>. # last\n\n<\\u0075:s> <u:p> \"1\" .";
+    static const char plain[] = "_:b<u:p><u:o>. # last\n<u:s> <u:p> _:b .\r\n<\\u0075:s> <u:p> \"1\" .\n";
+    static const char prefixed[] = "_:xb<u:p><u:o>. # last\n<u:s> <u:p> _:xb .\r\n<\\u0075:s> <u:p> \"1\" .\n";
+    static const uint32_t bad[] = {0, 65537, UINT32_MAX};
+    guarded text = guarded_copy(given, sizeof given - 1), prefix = guarded_copy("x", 1);
+    hdt_bytes out = HDT_BYTES_INIT;
+    hdt_split_report report;
+    uint64_t ends[6] = {7, 7, 7, 7, 7, 7};
+    size_t i;
+    long before = live;
+    hdt_split(text.at, text.len, 5, prefix.at, 0, &out, ends, 6, &report);
+    CHECK(splits(&report, 5, 3, 1) && out.len == sizeof plain - 1 && memcmp(out.at, plain, out.len) == 0);
+    CHECK(ends[0] == 0 && ends[1] == 22 && ends[2] == 22 && ends[3] == 22 && ends[4] == out.len && ends[5] == 7);
+    ends[3] = 7;
+    hdt_split(text.at, text.len, 5, prefix.at, 1, &out, ends, 3, &report);
+    CHECK(splits(&report, 5, 3, 1) && out.len == sizeof prefixed - 1 && memcmp(out.at, prefixed, out.len) == 0);
+    CHECK(ends[0] == 0 && ends[1] == 0 && ends[2] == 23 && ends[3] == 7);
+    hdt_split(text.at, 19, 65536, prefix.at, 0, &out, ends, 0, &report);
+    CHECK(splits(&report, 1, 1, 1) && out.len == 19 && memcmp(out.at, given, 19) == 0 && ends[0] == 0);
+    for (i = 0; i < 3; i++) { /* what out had is freed */
+        hdt_split(text.at, text.len, 1, prefix.at, 0, &out, ends, 0, &report);
+        CHECK(splits(&report, 5, 3, 1) && out.state == 1 && live > before);
+        hdt_split(text.at, text.len, bad[i], prefix.at, 0, &out, ends, 6, &report);
+        CHECK(report.reason == HDT_BAD_OPTIONS && report.line == 0 && report.column == 0 && report.lines == 0 && report.triples == 0);
+        CHECK(report.has_blank_nodes == 0 && has_nothing(&out) && ends[5] == 7 && live == before);
+    }
+    let_go(&text);
+    let_go(&prefix);
+}
+
 /* Texts and what is said of them. */
 static void texts(void) {
     static const struct {
@@ -1173,9 +1232,12 @@ static void texts(void) {
     };
     hdt_bytes out = HDT_BYTES_INIT;
     hdt_report report;
+    hdt_split_report split;
+    uint64_t ends[2] = {7, 7};
     size_t i;
     long before = live;
     current = "texts";
+    split_texts();
     for (i = 0; i < sizeof cases / sizeof *cases; i++) {
         guarded text = guarded_copy(cases[i].text, strlen(cases[i].text));
         hdt_build((const uint8_t *)"<u:s> <u:p> <u:o> .", 19, base, sizeof base - 1, 16, &out, &report);
@@ -1183,6 +1245,15 @@ static void texts(void) {
         hdt_build(text.at, text.len, base, sizeof base - 1, 16, &out, &report);
         CHECK(report.reason == cases[i].reason && report.line == cases[i].line && report.column == cases[i].column);
         CHECK(report.counts[0] == 0 && has_nothing(&out) && live == before);
+        hdt_split(text.at, text.len, 2, base, 0, &out, ends, 2, &split);
+        if (cases[i].reason == HDT_NO_TRIPLES) {
+            CHECK(splits(&split, i ? 2 : 0, 0, 0) && out.len == 0 && ends[0] == 0 && ends[1] == 0);
+            ends[0] = ends[1] = 7;
+            hdt_free(&out);
+        } else {
+            CHECK(split.reason == cases[i].reason && split.line == cases[i].line && split.column == cases[i].column);
+            CHECK(split.lines == 0 && split.triples == 0 && has_nothing(&out) && ends[0] == 7 && ends[1] == 7 && live == before);
+        }
         let_go(&text);
     }
     hdt_free(&out);

@@ -16,30 +16,32 @@ _hdt() {
     compopt +o default
     COMPREPLY=()
     if ((${#words[@]} == 1)); then
-        mapfile -t COMPREPLY < <(compgen -W "head verify info strings string number find answer dump count build rewrite explain help --help --version" -- "$word")
+        mapfile -t COMPREPLY < <(compgen -W "head verify info strings string number find answer dump count build rewrite lint split explain help --help --version" -- "$word")
         return
     fi
     # The options of the command, and how each of its arguments is completed.
     case ${words[1]} in
-    head) options="--verbose --help" arguments=".hdt" ;;
-    verify) options="--verbose --tight --progress --help" arguments=".hdt" ;;
-    info) options="--verbose --json --help" arguments=".hdt" ;;
-    strings) options="--verbose --prefix --terms --help" arguments=".hdt subject|predicate|object" ;;
-    string) options="--verbose --help" arguments=".hdt subject|predicate|object |" ;;
-    number) options="--verbose --raw --help" arguments=".hdt subject|predicate|object |" ;;
-    find) options="--verbose --raw --numbers --count --quiet --most --help" arguments=".hdt | | |" ;;
-    answer) options="--verbose --raw --numbers --count --most --longest-request --help" arguments=".hdt" ;;
-    dump) options="--verbose --help" arguments=".hdt" ;;
-    count) options="--verbose --top --raw --help" arguments=".hdt subject|predicate|object" ;;
-    build) options="--verbose --base --block-size --progress --help" arguments=".nt .hdt" ;;
-    rewrite) options="--verbose --block-size --progress --help" arguments=".hdt .hdt" ;;
+    head) options="--verbose --no-progress --help" arguments=".hdt" ;;
+    verify) options="--verbose --no-progress --tight --terms --progress --help" arguments=".hdt" ;;
+    info) options="--verbose --no-progress --json --help" arguments=".hdt" ;;
+    strings) options="--verbose --no-progress --prefix --terms --help" arguments=".hdt subject|predicate|object" ;;
+    string) options="--verbose --no-progress --help" arguments=".hdt subject|predicate|object |" ;;
+    number) options="--verbose --no-progress --raw --help" arguments=".hdt subject|predicate|object |" ;;
+    find) options="--verbose --no-progress --raw --numbers --count --quiet --skip-non-terms --most --help" arguments=".hdt | | |" ;;
+    answer) options="--verbose --no-progress --raw --numbers --count --most --longest-request --help" arguments=".hdt" ;;
+    dump) options="--verbose --no-progress --skip-non-terms --help" arguments=".hdt" ;;
+    count) options="--verbose --no-progress --top --raw --help" arguments=".hdt subject|predicate|object" ;;
+    build) options="--verbose --no-progress --base --block-size --progress --help" arguments=".nt .hdt" ;;
+    rewrite) options="--verbose --no-progress --block-size --progress --help" arguments=".hdt .hdt" ;;
+    lint) options="--keep --most --verbose --help" arguments=".nt" ;;
+    split) options="--parts --of --blank-nodes --verbose --help" arguments=".nt .nt" ;;
     explain) options="--help" arguments="|" ;;
-    help) options="" arguments="head|verify|info|strings|string|number|find|answer|dump|count|build|rewrite|explain|help" ;;
+    help) options="" arguments="head|verify|info|strings|string|number|find|answer|dump|count|build|rewrite|lint|split|explain|help" ;;
     esac
     for i in "${words[@]:2}"; do
         case $skip$i in
         =*) skip="" ;;
-        --prefix | --most | --longest-request | --top | --base | --block-size) skip="=" ;;
+        --prefix | --most | --longest-request | --top | --base | --block-size | --parts | --of | --blank-nodes) skip="=" ;;
         -?*) ;;
         *) count=$((count + 1)) ;;
         esac

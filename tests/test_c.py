@@ -206,6 +206,9 @@ WRONG = {
     "hdt_build": Wrong("void", "const uint8_t *x, size_t n, const uint8_t *b, size_t bn, uint32_t k, hdt_bytes *out, "
                                "hdt_report *r",
                        "RIGHT(x, n, b, bn, k, out, r); if (r->column > 20) r->column = 20;"),
+    "hdt_split": Wrong("void", "const uint8_t *x, size_t n, uint32_t parts, const uint8_t *p, size_t pn, "
+                               "hdt_bytes *out, uint64_t *ends, size_t room, hdt_split_report *r",
+                       "RIGHT(x, n, parts, p, pn, out, ends, room, r); if (room > 1) ends[1] = out->len;"),
     "hdt_rewrite": Wrong("void", "const uint8_t *b, size_t n, uint32_t k, hdt_bytes *out, hdt_verdict *v",
                          "if (k > 65535) k = 65535; RIGHT(b, n, k, out, v);"),
     "hdt_free": Wrong("void", "hdt_bytes *b", "memset(b, 0, sizeof *b);"),

@@ -241,8 +241,8 @@ STATUSES = """Exit status:
   0  success
   1  invalid input, with the first error and its position on standard error; no triples to build
      from; no such term or ID; a string that has no form in N-Triples; an invalid request of
-     `answer`
-  2  usage error, or `build` would overwrite its input
+     `answer`; a faulty line for `lint`
+  2  usage error, or `build` or `lint` would write to its input
   3  reading or writing failed; a closed pipe is a failed write
   4  out of memory
 """
@@ -311,7 +311,7 @@ USAGES: list[tuple[list[Word], bytes]] = [
     (["vierge", "a.hdt"], b"unrecognized subcommand 'vierge'\n\nUsage: hdt <COMMAND>"),
     (["head", "a.hdt", "b.hdt"], b"unexpected argument 'b.hdt' found\n\nUsage: hdt head [OPTIONS] <FILE>"),
     ([], b"'hdt' requires a subcommand but one was not provided\n  [subcommands: head, verify, info, strings, string, "
-         b"number, find, answer, dump, count, build, rewrite, explain, help]\n\nUsage: hdt <COMMAND>"),
+         b"number, find, answer, dump, count, build, rewrite, lint, split, explain, help]\n\nUsage: hdt <COMMAND>"),
     (["head", b"\xff"], b"an argument is not UTF-8"),
 ]
 
@@ -622,11 +622,13 @@ def test_requests(probe: Probe) -> None:
 
 
 def test_requests_with_progress(probe: Probe) -> None:
-    """`--progress` changes nothing of what a command line asks for."""
+    """`--progress` and `--no-progress`, which wins, change nothing of what a command line asks for."""
     lines = [("verify a.hdt --tight", f"{A} none verify_tight"), ("verify a.hdt", f"{A} none verify"),
              ("build a.hdt b.hdt", f"{A} {B} build 16 {DEFAULT}"), ("rewrite a.hdt b.hdt", f"{A} {B} rewrite 16")]
-    cases = [*((words, f"ok false {wanted}") for words, wanted in REQUESTS),
-             *((f"{words} --progress", f"ok true {wanted}") for words, wanted in lines)]
+    cases = [*((words, f"ok automatic {wanted}") for words, wanted in REQUESTS),
+             *((f"{words} --no-progress", f"ok off {wanted}") for words, wanted in REQUESTS),
+             *((f"{words} --progress", f"ok lines {wanted}") for words, wanted in lines),
+             *((f"{words} --no-progress --progress", f"ok off {wanted}") for words, wanted in lines)]
     asked: list[Request] = [["parse_all_words", b"hdt", *words.encode().split(b" ")] for words, _ in cases]
     assert [(words, " ".join(answer)) for (words, _), answer in zip(cases, probe.send(*asked))] == cases
 

@@ -17,11 +17,12 @@ from support.program import hdt, run
 from support.terminal import Terminal
 from tools import completions
 
-COMMANDS = "head verify info strings string number find answer dump count build rewrite explain help".split()
+COMMANDS = "head verify info strings string number find answer dump count build rewrite lint split explain help".split()
 SHELLS = ["bash", "zsh", "fish"]
 # The program that reads each file: a warning is a line on standard error.
 READERS = {
     "man/hdt.1": ("man", "--warnings", "-l"),
+    "man/hdt-errors.7": ("man", "--warnings", "-l"),
     "completions/hdt.bash": ("bash", "-n"),
     "completions/_hdt": ("zsh", "-n"),
     "completions/hdt.fish": ("fish", "-n"),
@@ -60,12 +61,18 @@ TYPED = {
     "hdt build --base gr": "hdt build --base gr",
     "hdt build --base http://a/ do": "hdt build --base http://a/ document.nt ",
     "hdt build --block-size=gr": "hdt build --block-size=gr",
+    "hdt lint --ke": "hdt lint --keep ",
+    "hdt lint do": "hdt lint document.nt ",
+    "hdt lint --most do": "hdt lint --most do",
 }
 # What is typed, and all that is offered then, folders without their slash.
 OFFERED: dict[str, list[str]] = {
     "hdt re": ["rewrite"],
-    "hdt verify --t": ["--tight"],
-    "hdt find --": ["--count", "--help", "--most", "--numbers", "--quiet", "--raw", "--verbose"],
+    "hdt verify --t": ["--terms", "--tight"],
+    "hdt find --": [
+        "--count", "--help", "--most", "--no-progress", "--numbers", "--quiet", "--raw", "--skip-non-terms",
+        "--verbose",
+    ],
     "hdt string x.hdt o": ["object"],
     "hdt build --b": ["--base", "--block-size"],
     "hdt rewrite --p": ["--progress"],
@@ -77,6 +84,8 @@ OFFERED: dict[str, list[str]] = {
     "hdt count --t": ["--top"],
     "hdt info --j": ["--json"],
     "hdt i": ["info"],
+    "hdt l": ["lint"],
+    "hdt lint --": ["--help", "--keep", "--most", "--verbose"],
 }
 
 # An interactive zsh that prints what it offers between two marks, and ends then.

@@ -1,4 +1,8 @@
-"""The documents: programs and commands run as they are written, links lead somewhere, and errors are the engine's."""
+"""The documents: programs and commands run as they are written, links lead somewhere, words are spelled as in English.
+
+The blocks of docs/RUST.md are run by test_rust, those of docs/RATTLE.md compared by `tools.promises`, and the servers
+of README and docs/GUIDE.md run by test_fragments_servers.
+"""
 
 from __future__ import annotations
 
@@ -15,19 +19,29 @@ from support.built import PROGRAM, STATIC_LIBRARY, TOP
 from support.c_library import CC, HEADER, WARNINGS, file_reasons, succeeds, text_reasons
 from support.clone import copied
 from support.probe import Probe
-from support.program import run
+from support.program import Word, run
 from support.python_package import ENVIRONMENT, faults
 from tools import contracts, promises
 
 # The blocks that each document has, by language: a document with fewer fails, so that none is silently left untested.
 BLOCKS = {
-    "README.md": {"c": 1, "python": 1, "sh": 3},
     "CONTRIBUTING.md": {"sh": 1},
+    "README.md": {"c": 1, "python": 1, "sh": 3, "text": 1},
     "docs/C.md": {"c": 1, "sh": 1},
-    "docs/GUIDE.md": {"python": 2, "sh": 5, "text": 5},
+    "docs/GUIDE.md": {"python": 3, "sh": 5, "text": 7},
     "docs/PROBES.md": {"sh": 1},
+    "docs/PYTHON.md": {"python": 8},
     "docs/RATTLE.md": {"rust": 5, "text": 3},
+    "docs/RUST.md": {"rs": 1, "toml": 1},
 }
+# At least so many commands do the documents have in their text, besides these blocks.
+COMMANDS = 54
+# Words that are not in the dictionary of British English. Names with capitals or digits are not looked up.
+WORDS = set("""
+Dask Jena Tickmarl allocator cgroup checksums cpp datatype endian enum glibc gunicorn hdt inode lossy mpi nginx ns
+nullable numpy ontologies prefetching prover py pytest rdflib seq serdi syntaxes toolchain txt umask unescaped untrusted
+utils xored
+""".split())
 # At least so many examples in Rust do the comments of the sources have.
 EXAMPLES = 36
 # Shell commands that end with a status other than 0, by how they begin.
@@ -53,7 +67,8 @@ class Block(NamedTuple):
 
 def documents() -> list[str]:
     """The documents' names."""
-    return [str(path.relative_to(TOP)) for path in (*sorted(TOP.glob("*.md")), *sorted(TOP.glob("docs/*.md")))]
+    paths = (path for folder in ("", "docs/", "tests/") for path in sorted(TOP.glob(f"{folder}*.md")))
+    return [str(path.relative_to(TOP)) for path in paths]
 
 
 def blocks(document: str, *languages: str) -> list[Block]:
@@ -90,6 +105,12 @@ def environment(folder: Path) -> dict[str, str]:
 
 
 # ---- blocks
+
+
+def test_all_documents_are_listed() -> None:
+    """Each document that has blocks is in the list above, with each of its languages."""
+    languages = {name: {block.language for block in blocks(name)} for name in documents()}
+    assert {name: found for name, found in languages.items() if found} == {name: set(it) for name, it in BLOCKS.items()}
 
 
 @pytest.mark.parametrize("document", BLOCKS)
@@ -181,15 +202,106 @@ def test_printed_commands_are_documented() -> None:
     assert [command for command in PRINTED if command not in lines] == []
 
 
+def block_with(document: str, words: str) -> str:
+    """The one block of output or configuration of a document that has these words."""
+    found = [block.text for block in blocks(document, "text") if words in block.text]
+    assert len(found) == 1
+    return found[0]
+
+
+@pytest.mark.skipif(not (shutil.which("serdi") and shutil.which("rapper")), reason="there is no serdi, or no rapper")
+def test_converters_of_the_guide(clone: Path) -> None:
+    """Turtle and RDF/XML, with relative IRIs, are converted and built by the commands of the guide."""
+    (clone / "data.ttl").write_text("@prefix : <#> . <a> :p 5 , 'x'@en .\n")
+    xml = '<rdf:RDF xmlns:rdf="http://www.w3.org/1999/02/22-rdf-syntax-ns#" xmlns:u="u:"><rdf:Description {}</rdf:RDF>'
+    (clone / "data.rdf").write_text(xml.format('rdf:about="a"><u:p rdf:resource="b"/></rdf:Description>'))
+    commands = block_with("docs/GUIDE.md", "serdi -i turtle").splitlines()
+    count = "./hdt find data.hdt --count '<http://example.org/a>' '?' '?'"
+    printed = [shell(f"{line} && {count}", clone) for line in commands]
+    assert [(status, out.split()[1:6], out.split()[-1]) for status, out in printed] == [
+        (0, ["2", "0", "1", "1", "2"], "2"), (0, ["1", "0", "1", "1", "1"], "1")]
+
+
+def test_labels_of_the_guide(clone: Path) -> None:
+    """The filter of the guide finds the labels of one language, with or without a region, and no others."""
+    label = "<http://www.w3.org/2000/01/rdf-schema#label>"
+    tags = {"@de": True, "@DE": True, "@de-AT": True, "@den": False, "@en": False, "": False, "^^<u:de>": False}
+    lines = [f'<u:{n}> {label} "x@de{n}"{tag} .' for n, tag in enumerate(tags)]
+    (clone / "labels.nt").write_text("\n".join(lines))
+    found = shell("./hdt build labels.nt labels.hdt >&2; " + block_with("docs/GUIDE.md", "labels.hdt"), clone)
+    assert found == (0, "".join(f"{line}\n" for line, is_german in zip(lines, tags.values()) if is_german))
+
+
+def test_examples_of_the_man_page(clone: Path) -> None:
+    """The commands in the section EXAMPLES of man/hdt.1 run one after another."""
+    found = re.search(r"^\.SH EXAMPLES\n\.nf\n(.*?)^\.fi$", (TOP / "man/hdt.1").read_text(), re.M | re.S)
+    assert found and found[1].count("\n") >= 4
+    text = found[1].replace("\\-", "-").replace("\\(aq", "'").replace("\\en", "\\n")
+    (clone / "dirty.nt").write_bytes(GRAPH)
+    status, out = shell(f"PATH={clone}:$PATH\n{text}", clone)
+    assert (status, out.splitlines()[2:]) == (0, ["ok 2 0 2 1 2", GRAPH.decode().splitlines()[0], "1", ""])
+
+
+# ---- commands in the text
+
+
+def commands_in_text() -> list[str]:
+    """The commands of this project in the documents' text: spans of code that begin with its programs."""
+    found = set()
+    for name in documents():
+        text = re.sub(r"^```.*?^```$", "", (TOP / name).read_text(), flags=re.M | re.S)
+        spans = re.findall(r"`((?:\./)?hdt [^`]*|python3 -m tools\.[^`]*|make [^`]*)`", text)
+        found |= {" ".join(span.split()) for span in spans}
+    return sorted(it for it in found if not it.startswith("hdt: "))
+
+
+@pytest.mark.parametrize("command", commands_in_text())
+def test_commands_exist(command: str) -> None:
+    """A command in the text exists, and so do its options."""
+    program, *words = re.sub(r"(?:\||&&|;|>).*", "", command).split()
+    if program == "make":
+        assert re.search(rf"^{words[0]}:", (TOP / "Makefile").read_text(), re.M)
+        return
+    if re.search(r"\b(COMMAND|NAME)\b", command):  # (as in `hdt COMMAND --help`)
+        return
+    called: list[Word] = [sys.executable, *words[:2]] if program == "python3" else [PROGRAM, words[0]]
+    done = run([*called, "--help"], cwd=TOP)
+    assert done.status == 0
+    options = [word for word in words if word.startswith("--") and word != "--help"]
+    assert [option for option in options if not re.search(rf"{option}\b", done.out.decode())] == []
+
+
+def test_how_many_commands() -> None:
+    """The documents have at least as many commands in their text as they had."""
+    assert len(commands_in_text()) >= COMMANDS
+
+
 # ---- spelling
+
+
+def plain_text(document: str) -> str:
+    """The text of a document without code, comments of code, and targets of links."""
+    text = re.sub(r"^```.*?^```$", "", (TOP / document).read_text(), flags=re.M | re.S)
+    return re.sub(r"`[^`]*`|\]\([^)]*\)|https?://\S+|\b\w+\.(?:md|org)\b", " ", text)
 
 
 def test_spelling() -> None:
     """The documents have none of the misspellings that codespell knows."""
     if shutil.which("codespell") is None:
-        pytest.skip("there is no codespell")
+        pytest.skip("there is no codespell (Debian: codespell)")
     done = run(["codespell", "-L", "crate", *documents()], cwd=TOP)
     assert done.out.decode() == ""
+
+
+@pytest.mark.parametrize("document", [name for name in documents() if name != "tests/PROBES.md"])
+def test_words(document: str) -> None:
+    """Each word of a document, names aside, is one of British English, or a term that is listed above."""
+    if shutil.which("aspell") is None:
+        pytest.skip("there is no aspell (Debian: aspell, aspell-en)")
+    done = run(["aspell", "--lang=en_GB", "--encoding=utf-8", "list"], stdin=plain_text(document).encode())
+    unknown = {word[:-2] if word.endswith("'s") else word for word in done.out.decode().split()}
+    assert done.status == 0
+    assert {word for word in unknown if word.islower() or word[1:].islower()} - WORDS == set()
 
 
 # ---- examples in comments
@@ -268,6 +380,13 @@ def test_proofs_name_all_parts() -> None:
     found = len(functions), sum(it[2].count("`") // 2 for it in functions), len(DEFINED.findall(PROOFS))
     assert all(have >= least for have, least in zip(found, NAMED)), found
     assert len(re.findall(r"\]\([^)]*\.(?:rt|antt)\)", PROOFS)) == found[0] + found[2]
+
+
+def test_files_of_the_architecture() -> None:
+    """Each file of a crate that ARCHITECTURE names is in a crate."""
+    named_files = set(re.findall(r"`((?:src|specs)/\w+\.\w+)`", (TOP / "docs/ARCHITECTURE.md").read_text()))
+    assert [name for name in sorted(named_files) if not any(TOP.glob(f"crates/*/{name}"))] == []
+    assert len(named_files) > 50
 
 
 def anchors(document: str) -> set[str]:

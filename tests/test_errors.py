@@ -23,7 +23,7 @@ WIRE, TERMS, PROBE = "crates/hdt_wire", "crates/hdt_terms", "crates/hdt_probe"
 
 # Commands of remedies, which have to succeed. `bad.hdt` is the damaged file of the error.
 REMEDIES = {
-    "NotHdt": "gzip -c samples/three.hdt | zcat | hdt verify /dev/stdin",
+    "NotHdt": "gzip -c samples/three.hdt | zcat | hdt verify -",
     "NotUtf8": r"""printf '<u:a> <u:p> "caf\351" .\n' > IN; iconv -f LATIN1 -t UTF-8 IN > OUT; hdt build OUT new.hdt""",
     "TrailingBytes": "head -c 457 bad.hdt > new.hdt; hdt verify new.hdt; cmp new.hdt samples/three.hdt",
     "Unused": "hdt rewrite bad.hdt new.hdt; hdt verify --tight new.hdt",
@@ -106,9 +106,9 @@ def test_example_without_an_error(monkeypatch: pytest.MonkeyPatch) -> None:
 def test_damaged_file(name: str) -> None:
     """The reference finds the same error, at the same byte offset, as the page says of the program."""
     entry = next(it for it in ENTRIES if (it.kind, it.name) == ("file", name))
-    printed = re.search(r"`hdt: fault (\d+) (\w+) at (\d+)`\n$", entry.example)
+    offset = re.search(r"; at (\d+)\n$", entry.example)
     error = checks.error_of(model.read_file, errors.FILES[name][1], name == "Unused")
-    assert printed and error == (int(printed[1]), printed[2], int(printed[3]))
+    assert offset and error == (entry.number, entry.name, int(offset[1]))
 
 
 def test_files_are_printed() -> None:
@@ -171,8 +171,8 @@ def test_texts_are_short(entry: errors.Entry) -> None:
 
 
 @pytest.mark.parametrize("text", [
-    "## Other messages\n\n### no triples\n\nA.\n\n- **Cause:** B.\n- **Remedy:** C.\n- **Example:** `d`:\n  `e`\n",
-    "## Other messages\n\n### no triples (status 1)\n\nA.\n\n- **Cause:** B.\n- **Example:** `d`:\n  `e`\n"])
+    "## Other messages\n\n### no triples\n\nA.\n\n- Cause: B.\n- Remedy: C.\n- Example: `d`:\n  `e`\n",
+    "## Other messages\n\n### no triples (status 1)\n\nA.\n\n- Cause: B.\n- Example: `d`:\n  `e`\n"])
 def test_entries_of_another_form(text: str) -> None:
     """A heading or an error of another form is refused."""
     with pytest.raises(ValueError, match="another form|without one of its parts"):

@@ -22,8 +22,10 @@ def entries() -> list[errors.Entry]:
 
 
 def printed(found: list[errors.Entry]) -> Result:
-    """The result of explaining these errors."""
-    return done("\n\n".join(map(errors.explanation, found)).encode() + b"\n")
+    """The result of explaining these errors: a line first that names them, if there are two."""
+    names = [f"{entry.number} {entry.name} of {errors.TABLES[entry.kind][1]}" for entry in found]
+    heading = [f"Two errors: {names[0]}, and {names[1]}."] if len(found) == 2 else []
+    return done("\n\n".join([*heading, *map(errors.explanation, found)]).encode() + b"\n")
 
 
 @pytest.mark.parametrize("number", range(1, 35))

@@ -259,6 +259,7 @@ def test_objects(site: Site, text: str, count: Optional[int]) -> None:
     ("http://odd.example/a+b", 1), ("http://odd.example/a?q=1&r=2#frag", 1), ("http://odd.example/J%C3%A4ger", 1),
     ("http://odd.example/J\u00e4ger", 1), ("<http://odd.example/s2>", 1), ("_:b.2-x", 1), (GENID + "b.2-x", 1),
     (GENID + "%C3%A9t%C3%A9", 1), (GENID + "\u00e9t\u00e9", 1), ("_:\u00e9t\u00e9", 1), ("javascript:alert(1)", 1),
+    ("<<http://odd.example/s2>>", 1), ("<<u:a>>", 0), ("<<>>", 0), ("<>", 0),
     ('"x"', 0), ("_:", 0), (GENID, 0), (BASE + ".well-known/genid/other/b1", 0),
 ])
 def test_subjects(site: Site, text: str, count: int) -> None:

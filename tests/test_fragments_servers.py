@@ -17,7 +17,7 @@ from typing import Any, Optional
 
 import pytest
 
-from support.built import PROGRAM, TOP
+from support.built import PROGRAM, SAMPLES, TOP
 from support.fragments import GUNICORN, ODD, PATIENCE, Answer, Served, Site, build, fragments, served, url
 from support.python_package import ENVIRONMENT
 
@@ -249,31 +249,80 @@ def test_behind_nginx(odd: Path, tmp_path: Path) -> None:
             proxy.wait(PATIENCE)
 
 
-@pytest.mark.skipif(not shutil.which("curl"), reason="there is no curl (Debian: curl)")
-def test_four_lines_of_readme(tmp_path: Path) -> None:
-    """README's four lines, in an empty folder, on another port: Turtle, and a page for people."""
-    found = re.search(r"\*\*On the web\*\*.*?```text\n(.*?)```", (TOP / "README.md").read_text(), re.DOTALL)
-    assert found and found[1].count("\n") == 4
+def free_port() -> int:
+    """A port of 127.0.0.1 that nothing listens on."""
     with socket.socket() as free:
         free.bind(("127.0.0.1", 0))
-        port = free.getsockname()[1]
+        port: int = free.getsockname()[1]
+        return port
+
+
+@pytest.mark.skipif(not shutil.which("curl"), reason="there is no curl (Debian: curl)")
+def test_four_lines_of_readme(tmp_path: Path) -> None:
+    """README's four lines, in a clone, on another port: Turtle, and a page for people."""
+    found = re.search(r"\*\*On the web\*\*.*?```text\n(.*?)```", (TOP / "README.md").read_text(), re.DOTALL)
+    assert found and found[1].count("\n") == 4
+    (tmp_path / "hdt").symlink_to(PROGRAM)
+    (tmp_path / "python").symlink_to(TOP / "python")
     lines = re.sub(r"\bcurl ", f"curl -s --retry {PATIENCE:.0f} --retry-delay 1 --retry-connrefused ", found[1])
     done = subprocess.run(
-        ["bash", "-euo", "pipefail", "-c", "trap 'kill %1' EXIT\n" + lines.replace("8080", str(port))],
-        capture_output=True, text=True, timeout=3 * PATIENCE, cwd=tmp_path,
-        env={**os.environ, **ENVIRONMENT, "PATH": f"{PROGRAM.parent}:{os.environ['PATH']}"})
+        ["bash", "-euo", "pipefail", "-c", "trap 'kill %1' EXIT\n" + lines.replace("8080", str(free_port()))],
+        capture_output=True, text=True, timeout=3 * PATIENCE, cwd=tmp_path, env={**os.environ, **ENVIRONMENT})
     assert done.stdout.startswith("built 1 0 1 1 1 "), done.stderr
     assert '<http://a/tea> <http://a/colour> "green"@en .\n' in done.stdout and "hydra:totalItems 1 ;" in done.stdout
     assert "1</b> triple<" in done.stdout and done.stdout.endswith("</html>\n")
 
 
-def test_command(tmp_path: Path) -> None:
-    """`python -m hdt.fragments` says what is wrong with its words."""
-    def said(*words: str) -> tuple[int, str]:
+@pytest.mark.parametrize("server", ["trial", "gunicorn", "nginx"])
+def test_servers_of_the_guide(server: str, tmp_path: Path) -> None:
+    """The commands and configurations of the guide serve the sample, on other ports and paths."""
+    if server != "trial" and not (os.path.exists(GUNICORN) and sys.version_info >= (3, 11)):
+        pytest.skip("there is no gunicorn (Debian: gunicorn), or no TOML")
+    if server == "nginx" and not os.path.exists(NGINX):
+        pytest.skip("there is no nginx (Debian: nginx-light)")
+    section = (TOP / "docs/GUIDE.md").read_text().partition("## Serve files on the web")[2]
+    trial, config, gunicorn, location = re.findall(r"^```text\n(.*?)^```$", section, re.M | re.S)
+    port, front = free_port(), free_port()
+    url_of = f"http://127.0.0.1:{front if server == 'nginx' else port}"
+    (tmp_path / "samples").symlink_to(SAMPLES)
+    (tmp_path / "fragments.toml").write_text(
+        config.replace("/srv/", f"{SAMPLES}/").replace("https://data.example.org", url_of))
+    before, after = NGINX_CONFIGURATION.format(folder=tmp_path, port=front, to="").split("    location /lod/")
+    (tmp_path / "nginx.conf").write_text(before + location.replace("8000", str(port)) + after.partition("    }\n")[2])
+    command = trial.replace("8080", str(port)) if server == "trial" else gunicorn.replace("8000", str(port))
+    command = command.replace("python3", sys.executable).replace("/etc/", f"{tmp_path}/")
+    words = [["bash", "-c", f"exec env {command}"], [NGINX, "-c", str(tmp_path / "nginx.conf")]]
+    environ = {**os.environ, **ENVIRONMENT, "PATH": f"{os.path.dirname(GUNICORN)}:{os.environ['PATH']}"}
+    running = [subprocess.Popen(it, cwd=tmp_path, env=environ, stderr=subprocess.DEVNULL)
+               for it in words[:2 if server == "nginx" else 1]]
+    try:
+        Served.at(f"http://127.0.0.1:{port}")
+        answer = Served.at(url_of).nquads("/three?page=1")
+        assert (answer.status, answer.total) == (200, 3) and f"<{url_of}/three" in answer.text
+    finally:
+        for process in reversed(running):
+            process.terminate()
+            process.wait(PATIENCE)
+
+
+def test_command(odd: Path, tmp_path: Path) -> None:
+    """`python -m hdt.fragments` says what is wrong with its words, and in one line what it can't open."""
+    def all_said(*words: str) -> tuple[int, str]:
         command = [sys.executable, "-m", "hdt.fragments", *words]
         done = subprocess.run(command, capture_output=True, text=True, timeout=PATIENCE,
                               env={**os.environ, **ENVIRONMENT}, cwd=tmp_path)
-        return done.returncode, done.stderr.strip().split("\n")[-1]
+        return done.returncode, done.stderr
+
+    def said(*words: str) -> tuple[int, str]:
+        status, text = all_said(*words)
+        return status, text.strip().split("\n")[-1]
+
+    (tmp_path / "cut.hdt").write_bytes(odd.read_bytes()[:-1])
+    for file, why in (("nosuch.hdt", "No such file or directory"), (".", "No such file or directory"),
+                      ("cut.hdt", "fault 1 Truncated at ")):
+        status, text = all_said(f"odd={odd}", f"tea={file}")
+        assert status == 2 and text.count("\n") == 1
+        assert text.startswith(f"hdt.fragments: tea={file}: {why}")
 
     assert said() == (2, "hdt.fragments: error: there is no dataset")
     assert said("odd") == (2, "hdt.fragments: 'odd' is not NAME=FILE")

@@ -35,6 +35,7 @@ FILES = {
     "share/bash-completion/completions/hdt",
     "share/fish/vendor_completions.d/hdt.fish",
     "share/man/man1/hdt.1",
+    "share/man/man7/hdt-errors.7",
     "share/zsh/site-functions/_hdt",
 }
 AS_NOBODY = ("setpriv", "--reuid=65534", "--regid=65534", "--clear-groups")
@@ -391,7 +392,7 @@ def check_root(root: Path, tmp_path: Path) -> None:
     example = compile_program(tmp_path / "example", EXAMPLE, *options)
     done = run([example, SAMPLES / "three.hdt"], env={"LD_LIBRARY_PATH": str(library.parent)})
     assert (done.status, done.out.count(b"\n")) == (0, 4)
-    assert list(root.glob("usr/share/man/man1/hdt.1*"))
+    assert list(root.glob("usr/share/man/man1/hdt.1*")) and list(root.glob("usr/share/man/man7/hdt-errors.7*"))
 
 
 @needs_dpkg

@@ -41,7 +41,7 @@ COMMANDS: dict[str, tuple[list[Word], int]] = {
     "head": (["head", SAMPLES / "v1.hdt"], 0),
     "head, cut": (["head", "cut.hdt"], 0),
     "head, missing": (["head", "missing.hdt"], 0),
-    "no command": (["summon"], 51),
+    "no command": (["summon"], 58),
     "not UTF-8": (["head", b"\xff"], 0),
     "verify": (["verify", THREE], 0),
     "verify, cut": (["verify", "cut.hdt"], 0),
@@ -90,6 +90,8 @@ COMMANDS: dict[str, tuple[list[Word], int]] = {
     "rewrite, bad options": (["rewrite", "--block-size", "0", "unused.hdt", "7.hdt"], 0),
     "rewrite, cut": (["rewrite", "cut.hdt", "8.hdt"], 0),
     "rewrite, a folder": (["rewrite", "unused.hdt", "."], 3),
+    "lint, missing": (["lint", "missing.nt"], 0),
+    "split, bad line": (["split", "bad.nt", "9.parts", "--parts", "2"], 0),
     "build to standard output": (["build", LINES, "/dev/stdout"], 3),
     "rewrite to standard output": (["rewrite", THREE, "/dev/stdout"], 3),
 }
@@ -97,6 +99,7 @@ COMMANDS: dict[str, tuple[list[Word], int]] = {
 HELP: list[list[Word]] = [
     ["--help"], ["--version"], ["-V"], ["help"], ["head", "--help"], ["head", "-h"], ["help", "head"],
     ["find", "--help"], ["build", "--help"], ["verify", "--help"], ["rewrite", "--help"], ["help", "dump"],
+    ["lint", "--help"],
     ["explain", "2"],
 ]
 # Command lines that are refused, and words that aren't terms.
@@ -109,15 +112,20 @@ REFUSED: list[tuple[list[Word], int]] = [
     (["strings", "a.hdt"], 0),
     (["head"], 0),
     (["verify", "--tight"], 0),
-    (["head", "--tight", "a.hdt"], 7),
+    (["head", "--tight", "a.hdt"], 12),
     (["rewrite", "a.hdt"], 0),
-    (["rewrite", "a.hdt", "b.hdt", "--base", "x"], 12),
+    (["split", "a.nt"], 0),
+    (["split", "a.nt", "--of", "2/2"], 0),
+    (["split", "a.nt", "--parts", "2"], 0),
+    (["rewrite", "a.hdt", "b.hdt", "--base", "x"], 16),
     (["rewrite", "a.hdt", "b.hdt", "--block-size", "x"], 0),
     (["find", "a.hdt", "?", "?", "?", "--most", "x"], 0),
     (["find", "a.hdt", "x", "y"], 0),
     (["dump", "a.hdt", "x"], 0),
-    (["dump", "--numbers", "a.hdt"], 7),
-    (["vierge", "a.hdt"], 51),
+    (["lint"], 0),
+    (["lint", "a.nt", "--most", "x"], 0),
+    (["dump", "--numbers", "a.hdt"], 17),
+    (["vierge", "a.hdt"], 58),
     (["head", "a.hdt", "b.hdt"], 0),
     ([], 0),
     (["number", "a.hdt", "subject", "rel"], 2),
@@ -131,6 +139,20 @@ REFUSED: list[tuple[list[Word], int]] = [
     (["find", "a.hdt", "<u:a>", "x", "z"], 2),
     (["find", "a.hdt", "?", "?", "<u:aaaaaaaaaaaaaaaa\\u0020>"], 2),
 ]
+# Command lines that check documents: the reports and the lines that were written before memory runs out stay.
+LINTS: dict[str, list[Word]] = {
+    "without an error": ["lint", LINES],
+    "without an error, kept": ["lint", "--keep", LINES],
+    "faulty lines": ["lint", "dirty.nt"],
+    "faulty lines, kept": ["lint", "--keep", "dirty.nt"],
+    "faulty lines, most": ["lint", "--keep", "--most", "2", "dirty.nt"],
+}
+# Command lines that print a part of documents: what is written before memory runs out stays. (With a folder, a copy of
+# the program that ends would remove the unfinished folder of the others.)
+SPLITS: dict[str, list[Word]] = {
+    "one part": ["split", "--of", "0/1", LINES, LINES],
+    "the second of three": ["split", "--of", "1/3", LINES, "dirty.nt", "--blank-nodes", "apart"],
+}
 # Command lines that read requests: what they print before memory runs out stays.
 DIALOGUES: dict[str, list[Word]] = {
     "lines": ["answer", THREE],
@@ -149,6 +171,8 @@ def folder(tmp_path: Path) -> Path:
     same = b"http://a/"
     (tmp_path / "unused.hdt").write_bytes(reference.loose([(same,) * 3], [same, b"u:x"], [same], [same]).data)
     (tmp_path / "bad.nt").write_bytes(b"<u:a> <u:p> <u:b> .\n<u:a>")
+    long = b"<u:" + b"a" * 100_000 + b"> <u:p> <u:b> ."
+    (tmp_path / "dirty.nt").write_bytes(b"<u:a> <u:p> <u:b> .\n<u:a>\r\n" + long + b"\n" + long + b"x\n<a>")
     return tmp_path
 
 
@@ -187,6 +211,38 @@ def test_help(words: list[Word], refuser: Refuser, folder: Path) -> None:
 def test_refused_command_lines(words: list[Word], unchanged: int, refuser: Refuser, folder: Path) -> None:
     """So does a command line that is refused."""
     check_refused(refuser, words, unchanged, folder)
+
+
+@pytest.mark.parametrize("name", LINTS)
+def test_lint(name: str, refuser: Refuser, folder: Path) -> None:
+    """A program that checks a document writes some first reports and lines, and then reports the refused allocation."""
+    command: list[Word] = [PROGRAM, *LINTS[name]]
+    refusals = refuser.run(command, cwd=folder)
+    ample = run(command, cwd=folder)
+    assert refusals.ample == ample
+    assert len(refusals.refused) > 0
+
+    def is_reported(result: Result) -> bool:
+        before, last = result.err[:-len(OUT_OF_MEMORY.err)], result.err[-len(OUT_OF_MEMORY.err):]
+        return (result.status == 4 and last == OUT_OF_MEMORY.err and ample.err.startswith(before)
+                and ample.out.startswith(result.out))
+
+    assert wrong(refusals, is_reported) == []
+
+
+@pytest.mark.parametrize("name", SPLITS)
+def test_split(name: str, refuser: Refuser, folder: Path) -> None:
+    """A program that prints a part writes some first lines, and then reports the refused allocation."""
+    command: list[Word] = [PROGRAM, *SPLITS[name]]
+    refusals = refuser.run(command, cwd=folder)
+    ample = run(command, cwd=folder)
+    assert refusals.ample == ample
+    assert len(refusals.refused) > 0
+
+    def is_reported(result: Result) -> bool:
+        return result.status == 4 and result.err == OUT_OF_MEMORY.err and ample.out.startswith(result.out)
+
+    assert wrong(refusals, is_reported) == []
 
 
 @pytest.mark.parametrize("name", DIALOGUES)

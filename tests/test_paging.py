@@ -9,6 +9,7 @@ from collections.abc import Iterator, Sequence
 from itertools import product
 from pathlib import Path
 from random import Random
+from time import process_time
 from typing import Optional
 
 import pytest
@@ -21,6 +22,9 @@ from reference.hdt import MAX, Pattern, Triple
 from support.built import SAMPLES
 from support.probe import Answer, Probe, ok
 from support.program import Word, hdt
+from support.python_package import hdt as hdt_package
+from support.python_package import pattern_of
+from support.timing import is_linear, measure
 
 THREE = (SAMPLES / "three.hdt").read_bytes()
 THREE_IDS = [(1, 1, 2), (1, 2, 3), (2, 1, 1)]
@@ -283,3 +287,50 @@ def test_matches_after_many(probe: Probe, many: Graph) -> None:
         count = len(many.places(pattern))
         for skip in (0, 1, random.randrange(count + 1), max(count - 1, 0), count, count + 1, MAX):
             assert probe.ask("search_after", skip, *pattern) == ok(*after(many, pattern, skip)), (pattern, skip)
+
+
+# The least and the greatest of the sizes that are compared, and how often as long the greatest may take.
+SIZES, RATIO, FLOOR = (7_000, 112_000), 4, 0.002
+JUMPING: dict[str, tuple[Optional[int], Optional[int], Optional[int]]] = {
+    "nothing given": (None, None, None),
+    "a subject": (1, None, None),
+    "a subject and a predicate": (1, 1, None),
+    "an object": (None, None, 1),
+}
+
+
+@pytest.fixture(scope="module", name="sized")
+def fixture_sized(tmp_path_factory: pytest.TempPathFactory) -> Iterator[dict[int, hdt_package.Graph]]:
+    """For each size a graph, open in Python, in which one subject and one object have so many triples each."""
+    folder = tmp_path_factory.mktemp("sized")
+    graphs = {}
+    for size in SIZES:
+        lines = [b"<u:a> <u:p> <u:%d> .\n<u:b%d> <u:p> <u:0> .\n" % (n, n) for n in range(size)]
+        (folder / "in.nt").write_bytes(b"".join(lines))
+        assert hdt("build", folder / "in.nt", folder / f"{size}.hdt").status == 0
+        graphs[size] = hdt_package.open(folder / f"{size}.hdt")
+    yield graphs
+    for graph in graphs.values():
+        graph.close()
+
+
+@pytest.mark.parametrize("parts", JUMPING.values(), ids=JUMPING)
+def test_a_skip_jumps(sized: dict[int, hdt_package.Graph],
+                      parts: tuple[Optional[int], Optional[int], Optional[int]]) -> None:
+    """Skipping all matches but the last one takes as long for 112,000 matches as for 7,000."""
+    pattern = pattern_of(*parts)
+
+    def seconds(size: int) -> float:
+        graph = sized[size]
+        before_last = graph._matching(pattern) - 1
+        assert before_last >= size - 1
+        began = process_time()
+        for _ in range(200):
+            last = graph._matches(pattern, before_last, 2)
+        taken = process_time() - began
+        assert tuple(last) == list(graph.find_ids(*parts))[-1]
+        return taken
+
+    small, large = SIZES
+    measured = measure(lambda: seconds(small), lambda: seconds(large), RATIO, FLOOR)
+    assert is_linear(measured, RATIO, FLOOR), measured

@@ -39,15 +39,17 @@ def nothing_but(folder: Path, *names: str) -> bool:
 @example((b"_:a <u:p> <u:o> .\n_:a.b <u:p> <u:o> .\n_:ab<u:p><u:o>.\r<u:a> <u:p> _:a.", []), 6)
 @example((b"# <u:a> <u:p> <u:o> .\r\n\n \t#", []), 2)
 def test_split(document: tuple[bytes, Any], count: int) -> None:
-    """Each line with a triple is in the part of its subject's string, as it is, in the order of the text."""
+    """Each line with a triple is in the part of its subject's string, with its end, in the order of the text."""
     text = document[0]
+    whole = [line if line.endswith((b"\n", b"\r")) else line + b"\n" for line in text.splitlines(keepends=True)]
     expected: list[list[bytes]] = [[] for _ in range(count)]
     blank, last = False, 0
     for last, line in reference_lines(text):
         triple = parse_line(line)
         if triple is not None:
             strings = triple_strings(triple)
-            expected[zlib.crc32(strings[0]) % count].append(line + b"\n")
+            assert whole[last - 1].rstrip(b"\r\n") == line
+            expected[zlib.crc32(strings[0]) % count].append(whole[last - 1])
             blank = blank or strings[0].startswith(b"_:") or strings[2].startswith(b"_:")
     found = split(text, count)
     assert (found.texts, found.has_blank_nodes) == ([b"".join(each) for each in expected], blank)
@@ -84,6 +86,14 @@ def test_split_errors(text: bytes) -> None:
     with pytest.raises(hdt.LineFault) as fault:
         split(text, 3, b"f0_")
     assert (fault.value.reason, fault.value.line, fault.value.column) == (int(error.reason), error.line, error.column)
+
+
+@pytest.mark.parametrize("count", [0, 65_537])
+def test_split_into_no_number_of_parts(count: int) -> None:
+    """The number of parts is 1 to 65,536."""
+    with pytest.raises(ValueError, match="number of parts"):
+        split(b"", count)
+    assert split(b"", 65_536) == ([b""] * 65_536, 0, False)
 
 
 def test_published_parts() -> None:

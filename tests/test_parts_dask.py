@@ -7,14 +7,16 @@ from __future__ import annotations
 
 import logging
 import signal
-from collections.abc import Iterator
+import time
+from collections.abc import Callable, Iterator
 from contextlib import contextmanager
 from pathlib import Path
 from typing import Any
 
 import pytest
 
-from support.parts import check_same, graph_of, inputs, interrupt, named, of_one, parts, patterns, small, text_of
+from support.parts import (check_same, go_on, graph_of, inputs, interrupt, named, of_one, parts, patterns, small,
+                           text_of)
 from support.python_package import ENVIRONMENT, PACKAGE
 
 dask: Any = pytest.importorskip("dask", reason="there is no Dask: Debian's python3-distributed")
@@ -147,6 +149,44 @@ def test_worker_that_dies_in_a_build(tmp_path: Path, client: Any, expected: part
     assert Path(f"{flag}.pid").exists()
     client.unregister_worker_plugin(where)
     check_equal(tmp_path, found, expected)
+
+
+SEARCHES: dict[str, Callable[[parts.Graph], Any]] = {
+    "find": lambda graph: list(graph.find()),
+    "find in the order of strings": lambda graph: list(graph.find(order="strings")),
+    "text": lambda graph: graph.text(),
+    "page": lambda graph: graph.page(limit=50),
+    "matching": lambda graph: graph.matching(p="u:p1"),
+}
+
+
+def test_worker_that_dies_in_a_search(tmp_path: Path, own: Any, expected: parts.Manifest) -> None:
+    """Its task is done by another one, and the answer is what it is without an executor."""
+    with parts.open(tmp_path / "expected") as graph:
+        wanted = {name: call(graph) for name, call in SEARCHES.items()}
+    flag = tmp_path / "in.flag"
+    own.register_worker_plugin(Interrupt("hdt.parts._files.run", str(flag), signal.SIGKILL))
+    for name, call in SEARCHES.items():
+        both(own)
+        flag.touch()
+        with parts.open(tmp_path / "expected", own.get_executor()) as graph, small(1, 1, 8, 16):
+            assert call(graph) == wanted[name], name
+        assert not flag.exists(), name
+        assert Path(f"{flag}.pid").read_text()
+
+
+def test_worker_that_is_believed_dead(tmp_path: Path, expected: parts.Manifest) -> None:
+    """One that stops is given up, and its task is done elsewhere; when it goes on, it does no harm."""
+    flag = tmp_path / "in.flag"
+    # (a worker that is only slow may take some seconds to say that it lives)
+    with cluster(tmp_path / "in.dask", **{"distributed.scheduler.worker-ttl": "20s"}) as client:
+        client.register_worker_plugin(Interrupt("hdt.build", str(flag), signal.SIGSTOP), name="stops")
+        flag.touch()
+        found = parts.build([tmp_path / "in0.nt"], tmp_path / "out", 3, client.get_executor())
+        assert Path(f"{flag}.pid").exists()
+        go_on(flag)
+        time.sleep(1)
+        check_equal(tmp_path, found, expected)
 
 
 def test_work_that_kills_each_worker(tmp_path: Path, own: Any, expected: parts.Manifest) -> None:

@@ -109,6 +109,8 @@ def test_wrong_calls(folder: Path) -> None:
             for wrong in ((1, None, None), (None, b"x", None), (None, None, 1.0)):
                 with pytest.raises(TypeError):
                     call(*wrong)
+            with pytest.raises(ValueError, match=r"no brackets: write 'u:p' for '<u:p>'"):
+                call(None, "<u:p>", None)
         for options in ({"start": -1}, {"limit": -1}, {"order": "numbers"}):
             with pytest.raises(ValueError):
                 graph.find(**options)  # type: ignore[arg-type]

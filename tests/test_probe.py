@@ -53,15 +53,15 @@ def test_help(program: Program) -> None:
 
 
 def documented(name: str) -> set[str]:
-    """The words that docs/PROBES.md has of a program, without the common ones."""
-    text = (TOP / "docs/PROBES.md").read_text()
+    """The words that tests/PROBES.md has of a program, without the common ones."""
+    text = (TOP / "tests/PROBES.md").read_text()
     parts = re.findall(rf"^## {name}: .*?(?=^## |\Z)", text, re.M | re.S)
     rows = [row for part in parts for row in re.findall(r"^\| ([a-z0-9_, ]+) \|", part, re.M)]
     return {word for row in rows for word in row.split(", ")} - {"word"}
 
 
 def test_words_are_documented(probe: Probe) -> None:
-    """docs/PROBES.md has each word of each program, and no other."""
+    """tests/PROBES.md has each word of each program, and no other."""
     assert {name: set(probe.words(name)) - COMMON for name in probe.paths} == {
         name: documented(name) for name in probe.paths
     }

@@ -63,6 +63,47 @@ def numbers_of(graph: hdt.Graph, triple: Triple) -> Ids:
     return s, p, o
 
 
+# ---- terms in brackets
+
+SEARCHES: dict[str, Callable[..., Any]] = {
+    name: getattr(hdt.Graph, name)
+    for name in ("matching", "matching_ids", "find", "find_ids", "id_array", "page", "page_ids", "page_text",
+                 "position", "text", "text_pieces")
+}
+
+
+@pytest.mark.parametrize("call", SEARCHES)
+def test_terms_in_brackets(three: hdt.Graph, call: str) -> None:
+    """An IRI as N-Triples writes it is a ValueError that says what to write, and not a search without a match."""
+    for pattern in (("<u:a>",), (None, "<u:p>"), ("u:a", "u:p", "<u:b>")):
+        with pytest.raises(ValueError, match=r"no brackets: write '(u:\w)' for '<\1>'"):
+            SEARCHES[call](three, *pattern)
+    for other in ("<", ">", "<u:a", "u:a>", '"<x>"', "", "u:none"):
+        SEARCHES[call](three, other)
+    with pytest.raises(ValueError, match="no brackets"):
+        ("<u:a>", "u:p", "u:b") in three
+    with pytest.raises(ValueError, match="no brackets"):
+        three.write_text(io.BytesIO(), "<u:a>")
+
+
+def test_brackets_in_a_file() -> None:
+    """A file of another program that has such a string, in that role, is searched for it."""
+    data, *_ = reference.graph([(b"<u:a>", b"u:p", b"u:b")], b"u:base", 16)
+    with hdt.Graph(data) as graph:
+        assert list(graph.find("<u:a>")) == [("<u:a>", "u:p", "u:b")] == graph.page("<u:a>")[0]
+        assert graph.matching("<u:a>") == graph.matching_ids("<u:a>", 1) == 1 and ("<u:a>", "u:p", "u:b") in graph
+        with pytest.raises(ValueError, match="no brackets"):
+            graph.find(o="<u:a>")
+
+
+def test_pages_without_triples(three: hdt.Graph) -> None:
+    """A page with the limit 0 has no triples, and the position of the first match."""
+    for position, ids in enumerate(three.find_ids()):
+        assert three.page_ids(*ids, limit=0) == ([], position) == three.page_ids(*ids, start=position, limit=0)
+        assert three.page_ids(*ids, start=position + 1, limit=0) == ([], None)
+    assert three.page(p="u:q", limit=0) == ([], 1) and three.page("u:none", limit=0) == ([], None)
+
+
 # ---- parts of results, and searches by IDs
 
 

@@ -2,13 +2,13 @@
 
 from __future__ import annotations
 
-import os
-import pty
 import subprocess
 from pathlib import Path
 
 import pytest
 
+from reference import hdt as model
+from support import terminal_errors
 from support.built import BUILT, SAMPLES
 from support.program import Result, Word, hdt
 from tools import errors
@@ -20,19 +20,7 @@ TURTLE = b"@prefix a: <http://a/> .\n"
 
 def on_terminal(*words: Word, cwd: Path) -> list[str]:
     """Run the program with a terminal as standard error; return the lines that it prints there."""
-    leader, follower = pty.openpty()
-    env = {**os.environ, "COLUMNS": "80"}
-    with subprocess.Popen([HDT, *words], cwd=cwd, env=env, stderr=follower, stdout=subprocess.DEVNULL) as process:
-        process.wait(60)
-    os.close(follower)
-    text = b""
-    try:
-        while part := os.read(leader, 65_536):
-            text += part
-    except OSError:  # (the end of a terminal whose other side is closed)
-        pass
-    os.close(leader)
-    return text.decode().splitlines()
+    return terminal_errors.on_terminal(*words, cwd=cwd).text.decode().splitlines()
 
 
 def verbose(*words: Word, cwd: Path, stdin: bytes = b"", columns: int = 80) -> list[str]:
@@ -73,13 +61,45 @@ def test_folder(tmp_path: Path) -> None:
 
 
 def test_full_disk(tmp_path: Path) -> None:
-    """An output that cannot be written is named."""
+    """An output that cannot be written is named, with the system's reason."""
     (tmp_path / "in.nt").write_bytes(LINE)
-    assert verbose("build", "in.nt", "/dev/full", cwd=tmp_path) == ["hdt: writing failed", "  /dev/full"]
+    full_device = "  /dev/full: No space left on device"
+    assert verbose("build", "in.nt", "/dev/full", cwd=tmp_path) == ["hdt: writing failed", full_device]
     with open("/dev/full", "wb") as full:
         ran = subprocess.run([HDT, "dump", "--verbose", SAMPLES / "v1.hdt"], stdout=full, stderr=subprocess.PIPE,
                              check=False)
-    assert (ran.returncode, ran.stderr) == (3, b"hdt: writing failed\n  standard output\n")
+    assert (ran.returncode, ran.stderr) == (3, b"hdt: writing failed\n  standard output: No space left on device\n")
+
+
+@pytest.mark.parametrize("out, reason", [
+    ("none/out.hdt", "No such file or directory"), ("file/out.hdt", "Not a directory"), ("folder", "Is a directory"),
+    ("x" * 300, "File name too long")])
+def test_out_that_cannot_be_made(out: str, reason: str, tmp_path: Path) -> None:
+    """The path of OUT, and the system's reason."""
+    (tmp_path / "in.nt").write_bytes(LINE)
+    (tmp_path / "file").touch()
+    (tmp_path / "folder").mkdir()
+    assert verbose("build", "in.nt", out, cwd=tmp_path) == ["hdt: writing failed", f"  {out}: {reason}"]
+
+
+def test_folder_that_may_not_be_written(public_folder: Path) -> None:
+    """A new file cannot be made beside OUT."""
+    (public_folder / "in.nt").write_bytes(LINE)
+    public_folder.chmod(0o555)
+    ran = subprocess.run([HDT, "build", "--verbose", "in.nt", "out.hdt"], cwd=public_folder, capture_output=True,
+                         user=65_534, check=False)
+    assert (ran.returncode, ran.stderr) == (3, b"hdt: writing failed\n  out.hdt: Permission denied\n")
+
+
+def test_closed_streams(tmp_path: Path) -> None:
+    """Standard streams that are closed, and a pipe that nobody reads."""
+    def ended(line: str) -> bytes:
+        return subprocess.run(["sh", "-c", line, HDT, SAMPLES / "v1.hdt"], cwd=tmp_path, capture_output=True,
+                              check=False).stderr
+    assert ended('"$0" verify --verbose - <&-') == b"hdt: reading failed\n  -: Bad file descriptor\n"
+    assert ended('"$0" dump --verbose "$1" >&-') == b"hdt: writing failed\n  standard output: Bad file descriptor\n"
+    piped = '{ sleep 0.2; "$0" dump --verbose "$1"; } | true'
+    assert ended(piped) == b"hdt: writing failed\n  standard output: Broken pipe\n"
 
 
 # ---- errors of documents
@@ -111,10 +131,45 @@ def test_line_ends(end: bytes, shown: bool, tmp_path: Path) -> None:
 
 @pytest.mark.parametrize("path", ["-", "/dev/stdin"])
 def test_standard_input(path: str, tmp_path: Path) -> None:
-    """Standard input is not read again: there is a place, and no line. A file named - is not taken for it."""
+    """Standard input is not read again: its last lines are kept. A file named - is not taken for it."""
     (tmp_path / "-").write_bytes(b"$HDT")
     lines = verbose("build", path, "out.hdt", cwd=tmp_path, stdin=LINE + b"<u:a>")
-    assert lines == ["hdt: line 2 column 6: 1 Syntax", f"  {path}:2:6", *explained("Syntax", "text")]
+    assert lines[:2] == ["hdt: line 2 column 6: 1 Syntax", f"  {path}:2:6"]
+    assert lines[2:] == ["  <u:a>", "       ^", *explained("Syntax", "text")]
+
+
+@pytest.mark.parametrize("before", [0, 1, 3000, 3276, 3277, 3278, 40_000])
+@pytest.mark.parametrize("end", [b"\n", b"\r\n"])
+def test_line_of_a_pipe(before: int, end: bytes, tmp_path: Path) -> None:
+    """The line of a pipe is that of the document, wherever it is in the pieces that are read."""
+    document = LINE.replace(b"\n", end) * before + b"<u:a> <u:p> <b> ." + end + LINE * 10_000
+    (tmp_path / "in.nt").write_bytes(document)
+    lines = verbose("build", "-", "out.hdt", cwd=tmp_path, stdin=document)
+    assert lines[1:3] == [f"  -:{before + 1}:13", "  <u:a> <u:p> <b> ."]
+    assert [lines[0], *lines[2:]] == [line for line in verbose("build", "in.nt", "out.hdt", cwd=tmp_path)
+                                      if "in.nt:" not in line]
+
+
+def test_long_line_of_a_pipe(tmp_path: Path) -> None:
+    """A line longer than what is read at once."""
+    document = LINE * 5000 + b'<u:a> <u:p> "' + b"x" * 300_000 + b"\\q\" .\n" + LINE
+    lines = verbose("build", "-", "out.hdt", cwd=tmp_path, stdin=document)
+    assert lines[1] == f"  -:5001:{300_000 + 14}"
+    assert lines[2][lines[3].index("^"):].startswith('\\q" .')
+
+
+def test_line_of_a_pipe_with_carriage_returns_alone(tmp_path: Path) -> None:
+    """Where lines end with carriage returns alone, no line is shown."""
+    document = LINE.replace(b"\n", b"\r") * 5000 + LINE * 5000 + b"x\n"
+    lines = verbose("build", "-", "out.hdt", cwd=tmp_path, stdin=document)
+    assert lines[1] == "  -:10001:1" and lines[2:] == explained("Syntax", "text")
+
+
+def test_named_pipe(tmp_path: Path) -> None:
+    """A pipe with a path is not opened again."""
+    ran = subprocess.run(["bash", "-c", '"$0" build --verbose <(printf "# one\\nx\\n") out.hdt', HDT], cwd=tmp_path,
+                         capture_output=True, check=False)
+    assert ran.stderr.decode().splitlines()[2:4] == ["  x", "  ^"]
 
 
 @pytest.mark.parametrize("front, hint", [
@@ -135,7 +190,8 @@ def test_hint_for_a_line(tmp_path: Path) -> None:
 
 def test_no_triples(tmp_path: Path) -> None:
     """The document without triples is named."""
-    assert verbose("build", "/dev/null", "out.hdt", cwd=tmp_path) == ["hdt: no triples", "  /dev/null"]
+    wanted = ["hdt: no triples", "  /dev/null", "  The input is empty, or has only blank lines and comments."]
+    assert verbose("build", "/dev/null", "out.hdt", cwd=tmp_path) == wanted
 
 
 # ---- errors of files
@@ -172,7 +228,70 @@ def test_not_a_term(tmp_path: Path) -> None:
     """How the string is printed that is no term."""
     (tmp_path / "bad.hdt").write_bytes(errors.NOT_A_TERM)
     assert verbose("dump", "bad.hdt", cwd=tmp_path) == [
-        "hdt: object 3 is not a term", "  bad.hdt", "  hdt string FILE object 3 prints the string"]
+        "hdt: object 3 is not a term", "  bad.hdt", "  object 3: x",
+        "  hdt string FILE object 3 prints the string"]
+
+
+def tight_error(data: bytes, cwd: Path) -> list[str]:
+    """What `verify --tight` prints of a string that is not used, but for the message and the path."""
+    (cwd / "in.hdt").write_bytes(data)
+    _, _, *lines = verbose("verify", "--tight", "in.hdt", cwd=cwd)
+    assert lines[1:] == explained("Unused", "file")
+    return lines[:1]
+
+
+@pytest.mark.parametrize("role, place", [*((role, place) for role in ("predicate", "object")
+                                           for place in (0, 1, 15, 16, 17, 40)), ("subject", 40)])
+@pytest.mark.parametrize("block_size", [1, 16])
+def test_unused(role: str, place: int, block_size: int, tmp_path: Path) -> None:
+    """The string that no triple uses, with a role and an ID, is found by its offset."""
+    strings = {name: [f"u:{name}{n:02}".encode() for n in range(41)] for name in ("subject", "predicate", "object")}
+    unused, another = strings[role][place], strings[role][place - 1]
+    used = [[another if it == unused else it for it in column] for column in strings.values()]
+    triples = [(s, p, o) for s, p, o in zip(*used)]
+    subjects, predicates, objects = strings.values()
+    data = model.loose(triples, subjects, predicates, objects, block_size=block_size).data
+    assert tight_error(data, tmp_path) == [f"  {role} {place + 1}: {unused.decode()}"]
+
+
+def test_shared_string_used_once(tmp_path: Path) -> None:
+    """A shared string has its ID as subject."""
+    data = model.loose([(b"u:b", b"u:p", b"u:c")], [b"u:b", b"u:c"], [b"u:p"], [b"u:b", b"u:c"]).data
+    assert tight_error(data, tmp_path) == ["  subject 1: u:b"]
+
+
+def test_long_unused_string(tmp_path: Path) -> None:
+    """A string is cut to the width of the terminal, and bytes that are not ASCII are escaped."""
+    text = '"' + "\u00e9\n" + "x" * 100 + '"'
+    data = model.loose([(b"u:a", b"u:p", b"u:b")], [b"u:a"], [b"u:p"], [b"u:b", text.encode()]).data
+    assert tight_error(data, tmp_path) == [f"  object 1: {shown(text)}"[:80]]
+
+
+def shown(string: str) -> str:
+    """A string as a message shows it: printable ASCII, and escapes for other bytes."""
+    return "".join(chr(byte) if 32 <= byte <= 126 else f"\\{byte:03o}" for byte in string.encode())
+
+
+# ---- hints
+
+
+@pytest.mark.parametrize("prefix, hint", [
+    ("<http://a", "an IRI has no < and > in a dictionary"), ("Kat", "a literal begins with a double quote"),
+    ("5", "a literal begins with a double quote"), ("http://none", ""), ("_:none", ""), ('"none', "")])
+def test_hint_for_a_prefix(prefix: str, hint: str, tmp_path: Path) -> None:
+    """A prefix that finds nothing and looks like a term has a hint, on a terminal or with `--verbose`."""
+    words: list[Word] = ["strings", SAMPLES / "three.hdt", "object", "--prefix", prefix]
+    assert hdt(*words) == Result(0, b"", b"")
+    lines = [line.strip() for line in on_terminal(*words, cwd=tmp_path)]
+    assert lines == hdt(*words, "--verbose").err.decode().replace("  ", "").splitlines()
+    assert [line.startswith(hint) for line in lines] == ([True] if hint else [])
+
+
+def test_no_hint_for_a_prefix_that_finds_something(tmp_path: Path) -> None:
+    """There is no hint where a string is printed, or no prefix is given."""
+    file = SAMPLES / "three.hdt"
+    assert on_terminal("strings", file, "object", "--prefix", "u", cwd=tmp_path) == []
+    assert on_terminal("strings", file, "object", "--terms", cwd=tmp_path) == []
 
 
 # ---- when
@@ -225,7 +344,7 @@ def test_argument_on_a_terminal(tmp_path: Path) -> None:
     """On a terminal the lines about an argument are those of `--verbose`."""
     words = ("number", SAMPLES / "three.hdt", "subject", "u:a")
     assert on_terminal(*words, cwd=tmp_path) == verbose(*words, cwd=tmp_path)
-    assert len(verbose(*words, cwd=tmp_path)) == 6
+    assert len(verbose(*words, cwd=tmp_path)) == 7
 
 
 def test_other_usage_errors(tmp_path: Path) -> None:

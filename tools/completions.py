@@ -22,7 +22,7 @@ from typing import NamedTuple
 from tools.repository import TOP
 
 # The arguments that are paths.
-PATHS = {"FILE", "IN", "OUT"}
+PATHS = {"FILE", "IN", "OUT", "PATHS"}
 FOLDER = TOP / "completions"
 NOTE = "Completes the words of hdt in {}. Made by tools/completions.py from the program's help."
 

@@ -205,7 +205,7 @@ def request(draw: random.Random) -> Request:
     words = [command, "a.hdt"]
     role = draw.randrange(3)
     if command == "verify":
-        words += options(draw, ["--tight", "--progress"])
+        words += options(draw, ["--tight", "--progress", "--no-progress"])
     elif command == "strings":
         words += [ROLES[role]]
     elif command == "string":

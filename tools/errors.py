@@ -1,14 +1,15 @@
 """Make the examples in docs/ERRORS.md: run the program on each, and write or check what it prints.
 
-    python3 -m tools.errors                 write the examples into docs/ERRORS.md
-    python3 -m tools.errors --check         check that they are there, word for word
+    python3 -m tools.errors                 write the examples into docs/ERRORS.md, and man/hdt-errors.7 of that page
+    python3 -m tools.errors --check         check that the examples are there, word for word, and the man page
     python3 -m tools.errors --file Width    print the damaged file of an example to standard output
     python3 -m tools.errors --rattle        write the texts of `hdt explain`, crates/hdt_usage/src/*_errors.rt
 
 The page is the source of the texts. An error is a heading (`### 13 Width`), one paragraph of meaning, and a list of its
-cause, its remedy and its example; `entries` reads them. The example alone is made here: a line that says what is wrong
-with a file, or a shell command, and the line that the program prints. The program is that of the folder HDT_BUILT, else
-the one that belongs to the sources (tools/current). The last line is 'N passed, M failed', the status 1 if one failed.
+cause, its remedy and its example; `entries` reads them. The example alone is made here: what is wrong with a file, and
+the offset of the error; or a shell command, and the line that the program prints. The program is that of the folder
+HDT_BUILT, else the one that belongs to the sources (tools/current). The last line is 'N passed, M failed', the status 1
+if one failed.
 """
 
 from __future__ import annotations
@@ -45,8 +46,7 @@ SECTIONS = {
 }
 ENTRY = re.compile(
     r"### (?P<title>.*)\n\n(?P<meaning>(?:.+\n)+)\n"
-    r"- \*\*Cause:\*\* (?P<cause>(?:.+\n)+?)- \*\*Remedy:\*\* (?P<remedy>(?:.+\n)+?)"
-    r"- \*\*Example:\*\*(?P<example>.*\n(?:.+\n)*)"
+    r"- Cause: (?P<cause>(?:.+\n)+?)- Remedy: (?P<remedy>(?:.+\n)+?)- Example:(?P<example>.*\n(?:.+\n)*)"
 )
 
 
@@ -151,6 +151,51 @@ def entries(page: str) -> list[Entry]:
 def joined(text: str) -> str:
     """Return a text of the page in one line."""
     return " ".join(text.split())
+
+
+# ---- the man page
+
+MAN_PAGE = TOP / "man/hdt-errors.7"
+# What is not in docs/ERRORS.md.
+MAN_HEAD = """\
+.\\" `python3 -m tools.errors` makes this of docs/ERRORS.md.
+.TH HDT-ERRORS 7 2026-11-28 "hdt 1.0.0" "Errors"
+.SH NAME
+hdt\\-errors \\- the errors of hdt and its libraries: meaning, cause and remedy
+.SH DESCRIPTION
+.BR hdt (1)
+reports the first error of its input on standard error. In a message
+.RB \\(lq "hdt: fault 13 Width at 440" \\(rq
+13 is the number of an error of a file, and 440 the byte offset, from 0, at which the wrong item begins. In
+.RB \\(lq "hdt: line 1 column 18: 1 Syntax" \\(rq
+1 is the number of an error of an N-Triples text; lines and columns count from 1, and columns count bytes. With
+.B \\-\\-verbose
+more lines follow, and
+.B hdt explain
+prints these texts for a number or a name. FORMAT.md and NTRIPLES.md in the sources have all checks, in their order.
+"""
+MAN_TAIL = """\
+.SH SEE ALSO
+.BR hdt (1)
+"""
+
+
+def roff(text: str) -> str:
+    """Return a text of the page as roff has it: in one line, commands bold."""
+    escaped = text.replace("\\", "\\e").replace("-", "\\-").replace("'", "\\(aq").replace("^", "\\(ha")
+    return re.sub(r"`([^`]*)`", r"\\fB\1\\fR", escaped)
+
+
+def man_page(found: list[Entry]) -> str:
+    """Return the man page of the errors."""
+    page = MAN_HEAD
+    for title, kind in SECTIONS.items():
+        page += f".SH {title.upper()}\n"
+        for it in (entry for entry in found if entry.kind == kind):
+            heading = f"{it.name} (status {it.number})" if kind == "message" else f"{it.number} {it.name}"
+            meaning, cause, remedy = roff(it.meaning), roff(it.cause), roff(it.remedy)
+            page += f".TP\n.B {heading}\n{meaning}\n.br\nCause: {cause}\n.br\nRemedy: {remedy}\n"
+    return page + MAN_TAIL
 
 
 # ---- files
@@ -270,12 +315,12 @@ NOT_A_TERM = having(objects=model.write_section([b"x"]))
 
 # What gives each error of a text. `hdt build` reports the seventh and the eighth in other words.
 TEXTS = {
-    "Syntax": r"printf '<u:a> <u:p> <u:b>\n' | hdt build /dev/stdin new.hdt",
-    "NotUtf8": r"""printf '<u:a> <u:p> "caf\351" .\n' | hdt build /dev/stdin new.hdt""",
-    "BadEscape": r"""printf '%s\n' '<u:a> <u:p> "C:\Users" .' | hdt build /dev/stdin new.hdt""",
-    "RelativeIri": "echo '<u:a> <u:p> <b> .' | hdt build /dev/stdin new.hdt",
-    "IriCharacter": r"printf '%s\n' '<u:a> <u:p> <u:a\u0020b> .' | hdt build /dev/stdin new.hdt",
-    "ZeroCharacter": r"""printf '%s\n' '<u:a> <u:p> "x\u0000" .' | hdt build /dev/stdin new.hdt""",
+    "Syntax": r"printf '<u:a> <u:p> <u:b>\n' | hdt build - new.hdt",
+    "NotUtf8": r"""printf '<u:a> <u:p> "caf\351" .\n' | hdt build - new.hdt""",
+    "BadEscape": r"""printf '%s\n' '<u:a> <u:p> "C:\Users" .' | hdt build - new.hdt""",
+    "RelativeIri": "echo '<u:a> <u:p> <b> .' | hdt build - new.hdt",
+    "IriCharacter": r"printf '%s\n' '<u:a> <u:p> <u:a\u0020b> .' | hdt build - new.hdt",
+    "ZeroCharacter": r"""printf '%s\n' '<u:a> <u:p> "x\u0000" .' | hdt build - new.hdt""",
     "Read": "hdt build samples new.hdt",
     "OutOfMemory": "ulimit -v 100000; hdt build /dev/zero new.hdt",
     "TooLong": "echo '? ? ?' | hdt answer samples/three.hdt --longest-request 4",
@@ -301,7 +346,7 @@ def file_example(name: str) -> Example:
     """Return the example of an error of a file."""
     wrong, data = FILES[name]
     tight = "--tight " if name == "Unused" else ""
-    return Example(f"`samples/three.hdt` {wrong}", f"hdt verify {tight}bad.hdt", data)
+    return Example(wrong, f"hdt verify {tight}bad.hdt", data)
 
 
 def example(entry: Entry) -> Example:
@@ -380,7 +425,9 @@ def tried(entry: Entry) -> Tried:
     wanted_status, pattern = expected(entry)
     is_right = status == wanted_status and re.fullmatch(pattern, line)
     wrong = "" if is_right else f"the example ends with status {status} and prints: {line}"
-    return Tried(f" {it.shown}:\n  `{line}`\n", wrong)
+    offset = line.rpartition(" ")[2]
+    shown = f" {it.shown}; at {offset}\n" if entry.kind == "file" else f" {it.shown}:\n  `{line}`\n"
+    return Tried(shown, wrong)
 
 
 def with_examples(page: str, examples: list[str]) -> str:
@@ -415,6 +462,9 @@ def main() -> int:
         wrong += [f"{entry.number} {entry.name}: {it.wrong}"] if it.wrong else []
     if not options.check:
         PAGE.write_text(with_examples(page, [it.text for it in outcomes]))
+        MAN_PAGE.write_text(man_page(found))
+    elif MAN_PAGE.read_text() != man_page(found):
+        wrong.append(f"{MAN_PAGE.name} is not made of the page")
     for why in wrong:
         print(why, file=sys.stderr)
     print(f"{len(found) - len(wrong)} passed, {len(wrong)} failed")

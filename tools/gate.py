@@ -29,7 +29,7 @@ from tools.repository import TOP, NoKit, kit, kit_line
 Counts = tuple[int, int]
 
 # What checks the scripts and packages; a user who runs the tests does without.
-MORE_PACKAGES = "flake8 git lintian mypy shellcheck"
+MORE_PACKAGES = "aspell aspell-en codespell flake8 git lintian mypy python3-typeshed raptor2-utils serdi shellcheck"
 
 
 def run(*words: str, env: Mapping[str, str] | None = None) -> Counts:

@@ -470,6 +470,9 @@ class Trial:
 
         def one(crate: Crate) -> None:
             with tempfile.TemporaryDirectory(prefix="hdt-kept-") as kept:
+                own = crate.folder / "out/incremental"
+                if own.is_dir():  # (what an `rt check` of this crate kept saves the first check)
+                    shutil.copytree(own, kept, dirs_exist_ok=True)
                 of_crate = crate.inputs()
                 self.crate(crate, work[crate], Path(kept))
                 if crate.inputs() == of_crate and self.given.folder == "wrong":

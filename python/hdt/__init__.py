@@ -10,15 +10,16 @@
 
 A term is a dictionary string everywhere, as `str`: an IRI without its brackets (`http://a/b`), a blank node with its
 label (`_:b`), a literal with its quotes and without escapes, followed by nothing, a tag or a datatype (`"x"`, `"x"@en`,
-`"1"^^<http://www.w3.org/2001/XMLSchema#integer>`). So `<http://a/b>`, with brackets, finds nothing. `Term` takes such a
-string apart, and makes N-Triples of it and back. `Graph.text` gives N-Triples.
+`"1"^^<http://www.w3.org/2001/XMLSchema#integer>`). A search for `<http://a/b>`, with brackets, raises ValueError.
+`Term` takes such a string apart, and makes N-Triples of it and back. `Graph.text` gives N-Triples.
 
 A role is `"subject"`, `"predicate"` or `"object"`; another one raises ValueError. The strings of a role have IDs from
 1, by which triples are found and counted, too.
 
-Files of 64 MiB and more are mapped, not read (`open` says more): such a file must stay as it is while a graph of it is
-open or a call looks at it. Exceptions: `Fault` (the file is none), `LineFault` (the text isn't N-Triples), `NoTriples`,
-`NotATerm`, all of them ValueError; MemoryError; OSError of files. After an exception a graph is as it was.
+Files of 64 MiB and more are mapped, not read (`open` says more): such a file must not change while a graph of it is
+open or a call reads it. Exceptions: `Fault` (the file is not valid), `LineFault` (the text isn't N-Triples),
+`NoTriples`, `NotATerm`, all of them ValueError; MemoryError; OSError of files. After an exception a graph is as it
+was.
 
 `__version__` is the version of the package, `LIBHDT_VERSION` that of the library, as "1.1".
 """

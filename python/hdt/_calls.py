@@ -57,6 +57,16 @@ def encoded(term: str) -> bytes:
     return term.encode("utf-8", "surrogatepass")
 
 
+def is_bracketed(term: str) -> bool:
+    """Whether a term looks like an IRI of N-Triples, with brackets: no string of a dictionary that has terms only."""
+    return term[:1] == "<" and term[-1:] == ">"
+
+
+def bracketed(term: str) -> ValueError:
+    """What a search for such a term raises."""
+    return ValueError(f"a dictionary string has no brackets: write {term[1:-1]!r} for {term!r}")
+
+
 class Pattern(NamedTuple):
     """A pattern as calls take it: the bytes of an hdt_pattern, which point to the strings, and its parts."""
 

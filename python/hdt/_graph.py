@@ -56,8 +56,9 @@ class Graph(OpenHandle):
     and must not change while the graph is open. Errors: those of `open`, TypeError.
 
     Its length is the number of its triples; iterating gives them as `find` does. `(s, p, o) in graph` looks for one.
-    A pattern is three parts, of which None is any: strings, and in calls on IDs also the IDs of strings. Once it is
-    closed, every call but `close` raises ValueError.
+    A pattern is three parts, of which None is any: strings, and in calls on IDs also the IDs of strings. A string in
+    brackets, `<u:a>`, raises ValueError if the file lacks it: dictionary strings have none. Once a graph is closed,
+    every call but `close` raises ValueError.
 
     A graph can't be copied. One that `open` made is pickled as its path and options: it opens the file again, and
     raises ValueError there if the path leads to another file by then, or the file was written to.
@@ -225,13 +226,13 @@ class Graph(OpenHandle):
     # ---- searches
 
     def matching(self, s: Given = None, p: Given = None, o: Given = None) -> int:
-        """How many triples `find` gives. Raises TypeError. It takes at most a walk over them, and often less.
+        """How many triples `find` gives. Raises TypeError. It takes at most a scan of them, and often less.
 
         >>> with hdt.open("graph.hdt") as graph:
         ...     graph.matching(), graph.matching(p="u:p")
         (3, 2)
         """
-        return self._matching(matched(s, p, o))
+        return self._matching(self._checked(matched(s, p, o)))
 
     def matching_ids(self, s: Part = None, p: Part = None, o: Part = None) -> int:
         """How many triples `find_ids` gives for these parts, in the time of `matching`. Raises TypeError.
@@ -240,7 +241,7 @@ class Graph(OpenHandle):
         ...     graph.matching_ids(p=1), graph.matching_ids(1, "u:q"), graph.matching_ids(9)
         (2, 1, 0)
         """
-        return self._matching(pattern_of(s, p, o))
+        return self._matching(self._checked(pattern_of(s, p, o)))
 
     def __contains__(self, triple: object) -> bool:
         if not (isinstance(triple, tuple) and len(triple) == 3 and all(isinstance(term, str) for term in triple)):
@@ -264,7 +265,7 @@ class Graph(OpenHandle):
         ([('u:a', 'u:p', 'u:b'), ('u:a', 'u:q', '"x"')], [('u:b', 'u:p', 'u:a')])
         """
         self._check_open()
-        pattern, (first, most) = matched(s, p, o), window(start, limit)
+        pattern, (first, most) = self._checked(matched(s, p, o)), window(start, limit)
         return Columns(self, (s, p, o), pattern).triples(first, most)
 
     def __iter__(self) -> Iterator[StringTriple]:
@@ -283,7 +284,7 @@ class Graph(OpenHandle):
         ([(1, 1, 2), (2, 1, 1)], [(2, 1, 1)])
         """
         self._check_open()
-        pages = self._pages(pattern_of(s, p, o), *window(start, limit))
+        pages = self._pages(self._checked(pattern_of(s, p, o)), *window(start, limit))
         return chain.from_iterable(map(rows, pages))
 
     find_numbers = find_ids
@@ -299,22 +300,21 @@ class Graph(OpenHandle):
         ...     graph.id_array().column("predicate").tolist()
         [1, 2, 1]
         """
-        return IdArray(self._page_of_all(pattern_of(s, p, o), *window(start, limit)))
+        return IdArray(self._page_of_all(self._checked(pattern_of(s, p, o)), *window(start, limit)))
 
     def page(
         self, s: Given = None, p: Given = None, o: Given = None, *, start: int = 0, limit: int = 100
     ) -> tuple[list[StringTriple], Optional[int]]:
         """The triples of `find` from position `start` on, at most `limit`, and where the next page begins.
 
-        The position of a triple is its index in the file, from 0. The second value is the position of the next match,
-        or None if there are no more. `start` may be any position. A page takes the same time wherever it is. Errors:
-        those of `find`.
+        The position of a triple is its index in the file, from 0. The second value is that of the next match, or None
+        if there are no more; `limit=0` gives that of the first. A page takes the same time anywhere. Errors: as `find`.
 
         >>> with hdt.open("graph.hdt") as graph:
         ...     graph.page(p="u:p", limit=1), graph.page(p="u:p", limit=1, start=2)
         (([('u:a', 'u:p', 'u:b')], 2), ([('u:b', 'u:p', 'u:a')], None))
         """
-        pattern, (first, most) = matched(s, p, o), window(start, operator.index(limit))
+        pattern, (first, most) = self._checked(matched(s, p, o)), window(start, operator.index(limit))
         ids, following = self._page(pattern, first, most or 0)
         return Columns(self, (s, p, o), pattern).page(ids), following
 
@@ -328,7 +328,7 @@ class Graph(OpenHandle):
         (([(1, 1, 2), (1, 2, 3)], 2), ([(2, 1, 1)], None))
         """
         first, most = window(start, operator.index(limit))
-        ids, following = self._page(pattern_of(s, p, o), first, most or 0)
+        ids, following = self._page(self._checked(pattern_of(s, p, o)), first, most or 0)
         return list(rows(ids)), following
 
     def position(
@@ -343,7 +343,7 @@ class Graph(OpenHandle):
         ...     graph.position(p="u:p", skip=1), graph.position("u:a", skip=2), graph.position(p="u:p", start=1)
         (2, None, 2)
         """
-        return self._position(pattern_of(s, p, o), window(skip, None)[0], window(start, None)[0])
+        return self._position(self._checked(pattern_of(s, p, o)), window(skip, None)[0], window(start, None)[0])
 
     def text(self, s: Given = None, p: Given = None, o: Given = None) -> str:
         """Return the triples of `find` as N-Triples, one a line.
@@ -356,7 +356,7 @@ class Graph(OpenHandle):
         <u:a> <u:p> <u:b> .
         <u:a> <u:q> "x" .
         """
-        return self._text(matched(s, p, o))
+        return self._text(self._checked(matched(s, p, o)))
 
     def page_text(
         self, s: Part = None, p: Part = None, o: Part = None, *, start: int = 0, limit: int = 100
@@ -368,7 +368,7 @@ class Graph(OpenHandle):
         ('<u:a> <u:p> <u:b> .\\n', 2)
         """
         first, most = window(start, operator.index(limit))
-        return self._page_text(pattern_of(s, p, o), first, most or 0)
+        return self._page_text(self._checked(pattern_of(s, p, o)), first, most or 0)
 
     def text_pieces(self, s: Given = None, p: Given = None, o: Given = None) -> Iterator[str]:
         """Iterate over the text of `text` in pieces of up to 1,024 lines, none of them empty.
@@ -381,7 +381,7 @@ class Graph(OpenHandle):
         58
         """
         self._check_open()
-        return self._pieces(matched(s, p, o))
+        return self._pieces(self._checked(matched(s, p, o)))
 
     def write_text(self, file: IO[Any], s: Given = None, p: Given = None, o: Given = None) -> None:
         """Write the text of `text` to a file that is open for bytes, as UTF-8, or for text, piece by piece.

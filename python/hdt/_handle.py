@@ -9,7 +9,7 @@ from collections.abc import Iterable, Iterator
 from typing import Any, Optional
 
 from . import _library
-from ._calls import ROLES, Pattern, closed, counts_of, pattern_of
+from ._calls import ROLES, Pattern, bracketed, closed, counts_of, encoded, is_bracketed, pattern_of
 from ._faults import NotATerm
 from ._library import Handle, Lent, Made, Ranges, Telling, Verdict, library
 
@@ -144,6 +144,13 @@ class OpenHandle:
         return counts
 
     # ---- searches
+
+    def _checked(self, pattern: Pattern) -> Pattern:
+        """The same pattern. Raises ValueError if a string of it has brackets, and its role doesn't have the string."""
+        for role, part in enumerate(pattern.parts):
+            if isinstance(part, str) and is_bracketed(part) and self._number(role, encoded(part)) is None:
+                raise bracketed(part)
+        return pattern
 
     def _matching(self, pattern: Pattern) -> int:
         """How many triples match."""

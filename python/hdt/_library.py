@@ -32,6 +32,19 @@ class Report(ctypes.Structure):
     ]
 
 
+class SplitReport(ctypes.Structure):
+    """An hdt_split_report."""
+
+    _fields_ = [
+        ("reason", ctypes.c_uint32),
+        ("has_blank_nodes", ctypes.c_uint32),
+        ("line", ctypes.c_uint64),
+        ("column", ctypes.c_uint64),
+        ("lines", ctypes.c_uint64),
+        ("triples", ctypes.c_uint64),
+    ]
+
+
 class Telling(ctypes.Structure):
     """An hdt_telling."""
 
@@ -119,6 +132,7 @@ def _load() -> Any:
     pattern, room = ctypes.c_void_p, ctypes.c_void_p  # (a pattern is given as its bytes)
     made, ranges = ctypes.POINTER(Made), ctypes.POINTER(Ranges)
     verdict, report, telling = ctypes.POINTER(Verdict), ctypes.POINTER(Report), ctypes.POINTER(Telling)
+    split_report = ctypes.POINTER(SplitReport)
     for name, parameters, answer in (
         ("hdt_verify", [*bytes_of, verdict], None),
         ("hdt_verify_tight", [*bytes_of, verdict], None),
@@ -138,6 +152,7 @@ def _load() -> Any:
         ("hdt_page", [graph, pattern, number, room, size, room], number),
         ("hdt_page_text", [graph, pattern, number, number, made, room, telling], None),
         ("hdt_build", [*bytes_of, *bytes_of, ctypes.c_uint32, made, report], None),
+        ("hdt_split", [*bytes_of, ctypes.c_uint32, *bytes_of, made, room, size, split_report], None),
         ("hdt_rewrite", [*bytes_of, ctypes.c_uint32, made, verdict], None),
         ("hdt_free", [made], None),
         ("hdt_version", [], ctypes.c_uint32),

@@ -16,6 +16,11 @@ from support.rdflib_mutants import Wrong, first_test_that_sees, judge
 TESTS = [f"tests/test_python{name}.py" for name in ("_calls", "_terms", "_files", "")]
 
 WRONG = [
+    Wrong("a term in brackets is searched for", "_handle", "raise bracketed(part)", "pass"),
+    Wrong("a string in brackets that a role has raises", "_handle",
+          " and self._number(role, encoded(part)) is None:", ":"),
+    Wrong("a string in brackets that another role has is searched for", "_handle",
+          "self._number(role, encoded(part)) is None", "self._number(0, encoded(part)) is None"),
     Wrong("an ID of a pattern of no string is a string's", "_calls",
           "number if 0 <= number < 2**64 else 0, _ADDRESS", "number if 0 <= number < 2**64 else 1, _ADDRESS"),
     Wrong("IDs of a pattern wrap", "_calls",
@@ -61,8 +66,8 @@ WRONG = [
           "return text, None if following[0] == _library.ABSENT else following[0]",
           "return text, following[0] % 2**63"),
     Wrong("a page takes IDs", "_graph",
-          "pattern, (first, most) = matched(s, p, o), window(start, operator.index(limit))",
-          "pattern, (first, most) = pattern_of(s, p, o), window(start, operator.index(limit))"),
+          "self._checked(matched(s, p, o)), window(start, operator.index(limit))",
+          "self._checked(pattern_of(s, p, o)), window(start, operator.index(limit))"),
     Wrong("strings of a page are by role 0", "_columns",
           "self._looked_up(role, ids[role::3]) for role", "self._looked_up(0, ids[role::3]) for role"),
     Wrong("text is written as text only", "_graph",

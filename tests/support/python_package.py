@@ -1,6 +1,6 @@
 """The Python package `hdt` of this repository, over the shared library under test.
 
-`faults` is its module with the names of errors.
+`faults` is its module with the names of errors, `pattern_of` its function that packs a pattern.
 """
 
 from __future__ import annotations
@@ -18,5 +18,6 @@ with mock.patch.dict("os.environ", ENVIRONMENT), mock.patch.object(sys, "dont_wr
         mock.patch.object(sys, "path", [str(PACKAGE), *sys.path]):
     import hdt
     from hdt import _faults as faults
+    from hdt._calls import pattern_of
 
-__all__ = ["ENVIRONMENT", "PACKAGE", "faults", "hdt"]
+__all__ = ["ENVIRONMENT", "PACKAGE", "faults", "hdt", "pattern_of"]

@@ -137,7 +137,6 @@ WRONG = [
           "Literal(distinct.get(aggregate.res, count))", "Literal(count)"),
     Wrong("a path is counted", "_counts", "isinstance(triple[1], Path) or len(set", "len(set"),
     Wrong("a loop is counted as all", "_counts", "or len(set(variables)) < len(variables)", "or False"),
-    Wrong("counts forget bindings", "_counts", "if any(ctx[term] is not None for term in variables) or not", "if not"),
     Wrong("counts take any variable", "_counts", "and aggregate.vars in triple)", ")"),
     Wrong("distinct literals are distinct strings", "_counts",
           "if file.is_literal(role, number)}", "if False}"),

@@ -577,7 +577,7 @@ def command_lines() -> Iterator[Request]:
     for line in COMMAND_LINES:
         yield "run", *READER, *WRITER, *words_of(line)
     yield "parse_all_words", *words_of(["build", "--progress", "f", "g"])
-    yield "parse_all_words", *words_of(["dump", "f"])
+    yield "parse_all_words", *words_of(["dump", "--no-progress", "f"])
     yield "table", b"subject", b"predicate", b"object", *words_of(["dump", "f"])
     yield "table", b"subject", b"predicate", b"object", *words_of(["summon"])
     yield "run", *READER, 5, 2, *words_of(["dump", "f"])

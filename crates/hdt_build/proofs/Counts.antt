@@ -1,32 +1,15 @@
 -- A section has at least as many bytes as strings, so the number of strings of a file is less than its length.
-use Rattle.std.proofs.Common.{ℕ, ◌+◌, ◌≤◌, Bool, true, false, List, [], ◌∷◌, ◌++◌, length, drop, nat_eq, arith, length-append}
-use Rattle.std.specs.List.{concat, common_prefix_len}
+use Rattle.std.proofs.Common.{ℕ, ◌+◌, ◌≤◌, List, [], ◌∷◌, ◌++◌, length, arith, length-append}
 use Rattle.std.specs.Int.{bytes_low_first}
 use Rattle.hdt_wire.specs.Crc.{crc8, crc32}
 use Rattle.hdt_seq.specs.Numbers.{numbers_encoding}
 use Rattle.hdt_front.specs.SectionWriting.{section_preamble}
-use Rattle.hdt_wire.specs.VByte.{vbyte}
 use Rattle.hdt_wire.specs.Control.{control}
 use Rattle.hdt_wire.specs.declared.control.Kind.TheVariants as kinds
-use Rattle.hdt_front.specs.Canonical.{encode_entry, encode_entries, packed_of, starts_of, canonical}
-use Rattle.hdt_front.specs.Decoding.{is_head}
+use Rattle.hdt_front.specs.Canonical.{packed_of, starts_of, canonical}
+use Rattle.hdt_front.specs.Laws.Canonical.{enough_bytes}
 use Rattle.hdt_dict.specs.Dictionary.{SectionLists}
 use Rattle.hdt_dict.specs.Writing.{mapping, canonical_dictionary}
-
--- an entry has at least one byte
-some_byte : (h : Bool) (before string : List ℕ) → 1 ≤ length (encode_entry h before string)
-unfolding encode_entry
-some_byte true before string = omega (arith, length-append string (0 ∷ []))
-some_byte false before string =
-    let k : ℕ = common_prefix_len nat_eq before string in
-    omega (arith, length-append (vbyte k) (drop k string ++ 0 ∷ []), length-append (drop k string) (0 ∷ []))
-
-enough_bytes : (b i : ℕ) (before : List ℕ) (strings : List (List ℕ)) → length strings ≤ length (concat (encode_entries b i before strings))
-unfolding encode_entries
-enough_bytes b i before [] = omega arith
-enough_bytes b i before (s ∷ strings) =
-    let p : List ℕ = encode_entry (is_head b i) before s in
-    omega (arith, length-append p (concat (encode_entries b (i + 1) s strings)), some_byte (is_head b i) before s, enough_bytes b (i + 1) s strings)
 
 section_bytes : (b : ℕ) (strings : List (List ℕ)) → length strings ≤ length (canonical b strings)
 unfolding canonical

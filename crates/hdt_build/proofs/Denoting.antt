@@ -5,10 +5,9 @@ use Rattle.std.specs.List.{Contains}
 use Rattle.std.proofs.lemmas.Bool.{cases_lt}
 use Rattle.std.proofs.lemmas.Cmp.{tied_itself}
 use Rattle.std.proofs.lemmas.List.{get_or-map, length-map, get_or_default}
-use Rattle.std.proofs.lemmas.List.Elements.{All-contains, All-map, Contains-append_left, Contains-append_right, Contains-append_cases, Contains-get_or}
+use Rattle.std.proofs.lemmas.List.Elements.{All-contains, All-map, Contains-append_cases, Contains-get_or}
 use Rattle.std.proofs.lemmas.Map.Keys.{Less-from_sorted}
 use Rattle.hdt_dict.specs.Strings.{SameMembers}
-use Rattle.hdt_dict.specs.Laws.Strings.{member_cases}
 use Rattle.hdt_dict.specs.Split.{IsSplit}
 use Rattle.hdt_dict.specs.Laws.Members.{SameMembers-map, Contains-map, Contains-from_map, All-from_members, All-same_members}
 use Rattle.hdt_build.specs.Inside.Ids.{string_of_id}
@@ -29,25 +28,11 @@ use Rattle.hdt_file.specs.File.{role_counts}
 
 -- the strings of a role are those of its sections
 module _ {ss ps os : List (List ℕ)} (d : SectionLists) (h : IsSplit ss ps os d) where
-  pub subject_member : (x : List ℕ) → Contains ss x → Contains (role_strings d Subject) x
-  subject_member x a =
-      elim (member_cases os x) as (λ _. Contains (role_strings d Subject) x) [
-        | inl b ↦ Contains-append_left d.shared d.subjects x ((h.shared x).1 (a, b))
-        | inr b ↦ Contains-append_right d.shared d.subjects x ((h.subjects x).1 (a, b))
-      ]
-
   pub subject_term : (x : List ℕ) → Contains (role_strings d Subject) x → Contains ss x
   subject_term x a =
       elim (Contains-append_cases d.shared d.subjects x a) as (λ _. Contains ss x) [
         | inl b ↦ ((h.shared x).0 b).0
         | inr b ↦ ((h.subjects x).0 b).0
-      ]
-
-  pub object_member : (x : List ℕ) → Contains os x → Contains (role_strings d Object) x
-  object_member x a =
-      elim (member_cases ss x) as (λ _. Contains (role_strings d Object) x) [
-        | inl b ↦ Contains-append_left d.shared d.objects x ((h.shared x).1 (b, a))
-        | inr b ↦ Contains-append_right d.shared d.objects x ((h.objects x).1 (a, b))
       ]
 
 -- the string triples that the IDs denote

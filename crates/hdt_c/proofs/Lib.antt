@@ -1,4 +1,5 @@
 mod AsBox
+mod JoinLaws
 pub mod Counting
 pub mod HandleLaws
 pub mod MatchLaws

@@ -11,6 +11,7 @@ pub mod Pages
 pub mod PageTexts
 pub mod Ranges
 pub mod Rewriting
+pub mod Splitting
 pub mod CallerBuffer
 pub mod TermParts
 pub mod Texts

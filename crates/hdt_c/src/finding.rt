@@ -79,8 +79,8 @@ pub(crate) fn count_matches(graph: &Graph<'static>, pattern: Option<Pattern>) ->
 }
 
 /// `hdt_find`: writes the matches after the first `skip` to the buffer, three IDs each, as many as fit, and returns
-/// their number: fewer than fit if no more follow. If the pattern gives an object, or a predicate without a subject, the
-/// skipped matches are scanned at each call, so pages of one size take quadratic time.
+/// their number: fewer than fit if no more follow. If the pattern gives an object and another part, or only a predicate,
+/// the skipped matches are scanned at each call, so pages of one size take quadratic time.
 #[unsafe(no_mangle)]
 pub extern "C" fn hdt_find(
     alloc: Global,

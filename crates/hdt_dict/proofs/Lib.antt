@@ -3,6 +3,7 @@ pub mod Splitting
 pub mod Merging
 pub mod Overlaps
 pub mod DisjointChecks
+pub mod LocatedStrings
 pub mod Numbering
 pub mod Dictionaries
 pub mod IterationSteps

@@ -1,5 +1,5 @@
 -- The first string that is in another list, if both ascend.
-use Rattle.std.proofs.Common.{◌≡◌, ◌≢◌, ℕ, ◌<◌, ◌||◌, Bool, true, false, cond, List, [], ◌∷◌, length, drop, Option, Some, refl, sym, ap, ◌∙◌, subst, arith, Ordering}
+use Rattle.std.proofs.Common.{◌≡◌, ℕ, ◌||◌, Bool, true, false, cond, List, [], ◌∷◌, drop, Option, Some, refl, sym, ap, ◌∙◌, subst, Ordering}
 use Rattle.std.specs.Prelude.{Result, Ok, Err, IfOk}
 use Rattle.std.specs.declared.alloc.AllocError.{AllocError}
 use Rattle.std.specs.Str.{bytes_eq}
@@ -9,18 +9,14 @@ use Rattle.std.specs.Cmp.Lexicographic.{slice_cmp}
 use Rattle.std.proofs.lemmas.Cmp.{nat_list_cmp_total, alike_right}
 use Rattle.std.proofs.lemmas.Map.Text.{is_eq-slice_cmp}
 use Rattle.hdt_front.specs.StringChecks.{precedes}
-use Rattle.hdt_front.specs.Iteration.{LocatedString, After, LocatedAscend, first_order, first_string, next_offset}
+use Rattle.hdt_front.specs.Iteration.{LocatedString, After, LocatedAscend, first_string, next_offset}
 use Rattle.hdt_dict.specs.Inside.Overlap.{contains_string, first_offset, drop_less, is_first}
+use Rattle.hdt_front.specs.Laws.FrontCoding.{less_from}
 
 abbrev order : List ℕ → List ℕ → Ordering
 order x y = slice_cmp nat_cmp x y
 
 -- ---- the order of two strings
-
-less_is : (o : Ordering) → is_lt o ≡ true → o ≡ Less
-less_is Less e = refl
-less_is Equal e = absurd (cc)
-less_is Greater e = absurd (cc)
 
 not_eq : (o : Ordering) → is_lt o ≡ true → is_eq o ≡ false
 not_eq Less e = refl
@@ -31,7 +27,7 @@ apart : (y x : List ℕ) → precedes y x ≡ true → bytes_eq y x ≡ false
 apart y x h = sym (is_eq-slice_cmp y x) ∙ not_eq (order y x) h
 
 trans : (x y z : List ℕ) → precedes x y ≡ true → precedes y z ≡ true → precedes x z ≡ true
-trans x y z h k = ap is_lt (nat_list_cmp_total.trans x y z (less_is (order x y) h) (less_is (order y z) k))
+trans x y z h k = ap is_lt (nat_list_cmp_total.trans x y z (less_from (order x y) h) (less_from (order y z) k))
 
 -- a string that is not greater than s is none of those that are
 not_after : (s p x : List ℕ) (o : Ordering) → order p x ≡ o → precedes s p ≡ true → precedes s x ≡ false → (bytes_eq p x ≡ false) × (precedes p x ≡ false)
@@ -86,23 +82,6 @@ ascends_left x [] a = tt
 ascends_left x (p ∷ ps) a = ascends_left_by (precedes p.string x) x p ps a (ascends_left x ps (ascends_tail p.string ps a))
 
 -- ---- one iteration of `reaches`
-
-pub passes : (x : List ℕ) (v : List LocatedString) → first_order v x ≡ Less → drop_less x (drop 1 v) ≡ drop_less x v
-passes x [] e = absurd (cc)
-passes x (p ∷ ps) e = sym (ap (λ o. cond (is_lt o) (drop_less x ps) (p ∷ ps)) e)
-
-pub fewer : (x : List ℕ) (v : List LocatedString) → first_order v x ≡ Less → length (drop 1 v) < length v
-fewer x [] e = absurd (cc)
-fewer x (p ∷ ps) e = omega arith
-
-not_lt : (o : Ordering) → o ≢ Less → is_lt o ≡ false
-not_lt Less ne = absurd (ne refl)
-not_lt Equal ne = refl
-not_lt Greater ne = refl
-
-pub stops : (x : List ℕ) (v : List LocatedString) → first_order v x ≢ Less → v ≡ drop_less x v
-stops x [] ne = refl
-stops x (p ∷ ps) ne = sym (ap (λ b. cond b (drop_less x ps) (p ∷ ps)) (not_lt (first_order (p ∷ ps) x) ne))
 
 -- ---- one iteration over a list, for any test
 

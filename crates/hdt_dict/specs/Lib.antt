@@ -5,6 +5,7 @@ pub mod Cost
 pub mod StringBatch
 pub mod Views
 pub mod Iteration
+pub mod Located
 pub mod Following
 pub mod Strings
 pub mod Split

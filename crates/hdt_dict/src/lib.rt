@@ -26,6 +26,7 @@ mod arena;
 mod dictionary;
 mod disjoint;
 mod laws;
+mod located;
 mod merge;
 mod overlap;
 mod parts;
@@ -37,7 +38,7 @@ mod writing;
 
 pub use arena::Arena;
 pub use dictionary::Dictionary;
-pub use hdt_front::SectionWriter;
+pub use hdt_front::{SectionIter, SectionWriter};
 pub use hdt_wire::Role;
 pub use laws::{
     dictionaries_are_exact, dictionary_is_read_again, one_dictionary, split_makes_sections,

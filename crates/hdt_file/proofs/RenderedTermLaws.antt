@@ -1,5 +1,5 @@
 -- The terms of each role as they are written in a line, and the lines put together from them.
-use Rattle.std.proofs.Common.{◌≡◌, ℕ, zero, suc, ◌+◌, ◌<◌, ◌≤◌, Bool, true, List, [], ◌∷◌, ◌++◌, length, map, set, get_or, take, drop, Option, Some, refl, sym, ap, ◌∙◌, append_assoc, append-nil, subst, inl, inr, arith}
+use Rattle.std.proofs.Common.{◌≡◌, ℕ, zero, suc, ◌+◌, ◌<◌, ◌≤◌, Bool, true, List, [], ◌∷◌, ◌++◌, length, map, get_or, take, drop, Option, Some, refl, sym, ap, ◌∙◌, append_assoc, append-nil, subst, inl, inr, arith}
 use Rattle.std.specs.Option.{unwrap_or}
 use Rattle.std.proofs.lemmas.List.{get_or-drop, get_or-map, get_or-take, length-append, length-drop, length-map, length-take}
 use Rattle.hdt_dict.specs.Arena.{AreStringStarts, arena_strings}
@@ -27,7 +27,7 @@ use Rattle.hdt_file.proofs.TextByLine.{are_terms}
 -- ---- one entry
 
 -- no term has the empty string, and no entry of a term is empty
-empty_none : (role : Role) → HasNoTerm role []
+pub empty_none : (role : Role) → HasNoTerm role []
 unfolding dictionary_string
 empty_none role (Iri iri) h = let e : is_absolute [] ≡ true = subst (λ (x : List ℕ). is_absolute x ≡ true) h.is h.dictionary.1 in absurd cc
 empty_none role (Blank label) h = let e = h.is in absurd cc
@@ -88,26 +88,6 @@ tables_of_rest g ts tables n h = record {
 
 pub same_rendered : (role : Role) (string p q : List ℕ) → p ≡ q → IsRendered role string q → IsRendered role string p
 same_rendered role string p q e h = subst (IsRendered role string) (sym e) h
-
--- ---- marks
-
--- marking an ID keeps the other marks; an ID out of range counts as marked
-pub more_marked : (marks : List Bool) (number n : ℕ) → is_marked marks n ≡ true → is_marked (set marks number true) n ≡ true
-more_marked [] number n h = h
-more_marked (x ∷ xs) zero zero h = refl
-more_marked (x ∷ xs) zero (suc n) h = h
-more_marked (x ∷ xs) (suc k) zero h = h
-more_marked (x ∷ xs) (suc k) (suc n) h = more_marked xs k n h
-
-pub now_marked : (marks : List Bool) (n : ℕ) → is_marked (set marks n true) n ≡ true
-now_marked [] n = refl
-now_marked (x ∷ xs) zero = refl
-now_marked (x ∷ xs) (suc n) = now_marked xs n
-
-pub past_marks : (marks : List Bool) (n : ℕ) → length marks ≤ n → is_marked marks n ≡ true
-past_marks [] n h = refl
-past_marks (x ∷ xs) zero h = absurd (omega (arith, h))
-past_marks (x ∷ xs) (suc n) h = past_marks xs n (omega (arith, h))
 
 -- the entry of the triple with index i, in a list with the entries of all triples
 pub found_at : {B : Type 0} (now : B → List ℕ) (rendered : Triple → List ℕ) (rendered_list : List B) (ts : List Triple) (i : ℕ) (b : B) (t : Triple) → map now rendered_list ≡ map rendered ts → i < length ts

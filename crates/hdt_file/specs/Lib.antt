@@ -8,12 +8,15 @@ pub mod Graph
 pub mod Head
 pub mod Info
 pub mod LayoutView
+pub mod NonTerms
 pub mod Paging
 pub mod LayoutParts
 pub mod LayoutPartsViews
 pub mod Search
 pub mod StringLengths
+pub mod SkippedLines
 pub mod StringTriples
+pub mod TermFlags
 pub mod Text
 pub mod TextWriting
 pub mod Tight

@@ -1,5 +1,5 @@
 -- Pages of matches.
-use Rattle.std.specs.Prelude.{◌≡◌, ℕ, ◌+◌, ◌≤◌, ◌<◌, List, length, drop, true}
+use Rattle.std.specs.Prelude.{◌≡◌, ◌⊎◌, ℕ, ◌+◌, ◌≤◌, ◌<◌, List, length, drop, true, None}
 use Rattle.hdt_triples.specs.declared.pattern.Pattern.{Pattern}
 use Rattle.hdt_triples.specs.TripleSequences.{Triple}
 use Rattle.hdt_triples.specs.Order.{nth_triple}
@@ -13,3 +13,9 @@ pub record IsNextMatch (ts : List Triple) (pattern : Pattern) (from most next : 
   pub rest : matches pattern (drop next ts) ≡ drop most (matches pattern (drop from ts))
   -- there are at least `most` triples before it
   pub later : from + most ≤ next
+
+-- Each match is reached by its number among the matches: the pattern gives nothing, a subject, a subject and a predicate
+-- (then they are consecutive triples), or only an object (then they are its list).
+pub record HasPositions (p : Pattern) : Type 0 where
+  pub predicate : p.s ≡ None → p.p ≡ None
+  pub object : (p.s ≡ None) ⊎ (p.o ≡ None)

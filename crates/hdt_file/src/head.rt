@@ -107,6 +107,7 @@ pub fn read_head<'a>(bytes: &'a [u8]) -> Result<Head<'a>, Fault>
 }
 
 /// At most one head is encoded at the start of fewer than 2^64 bytes.
+#[tactic(auto, using(crate::proofs::HeadLaws::head_unique))]
 pub fn one_head()
     ensures { (bytes : List ℕ) (a b : HeadParts) → IsBytes bytes → length bytes < 2 ^ 64
         → IsHead a bytes → IsHead b bytes → a ≡ b }

@@ -39,6 +39,7 @@ pub fn text_is_a_document()
 /// A search by strings is a filter of the denoted graph: the matches of the pattern of the given strings denote exactly
 /// the triples that have each given string in its role, in the same order. If there is no such pattern, no triple has
 /// the strings.
+#[tactic(auto, using(crate::proofs::StringSearchLaws::matches_denoted, crate::proofs::StringSearchLaws::none_denoted))]
 pub fn search_is_a_filter()
     ensures some { (g : GraphParts) (given : List (Option BorrowedString)) (p : Pattern) → IsGraph g → IsPattern g given p →
         denoted g (matches p g.triples) ≡ filter (has_given_strings given) (denoted g g.triples) }
@@ -47,6 +48,7 @@ pub fn search_is_a_filter()
 {}
 
 /// No triple of strings occurs twice in the denoted graph, so a search finds none twice.
+#[tactic(auto, using(crate::proofs::StringSearchLaws::denoted_triples_are_distinct))]
 pub fn denoted_triples_are_distinct()
     ensures { (g : GraphParts) → IsGraph g → AreDistinctTriples (denoted g g.triples) }
 {}

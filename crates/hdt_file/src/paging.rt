@@ -1,7 +1,7 @@
 //! Pages of matches.
 ghost use Rattle.std.specs.Prelude.{◌≡◌, ◌≤◌, ◌<◌, ◌+◌, ◌*◌, ◌^◌, ◌++◌, [], ℕ, None, IfOk, IfSome, OnErr, length, take, drop, slice_get};
 ghost use Rattle.hdt_triples.specs.Bounds.{most_steps, shorter_list_steps, start_cost};
-ghost use Rattle.hdt_triples.specs.Remaining.{remaining_matches, step_limit, shorter_list_step_limit};
+ghost use Rattle.hdt_triples.specs.Remaining.{remaining_matches, step_limit, shorter_list_step_limit, steps_taken};
 ghost use Rattle.hdt_triples.specs.Patterns.{matches};
 ghost use Rattle.hdt_file.specs.LayoutParts.{parts_bitmap};
 ghost use Rattle.hdt_file.specs.LayoutPartsViews.{parts_of_graph};
@@ -54,6 +54,8 @@ impl<'a> Graph<'a> {
         // The steps of all items together are at most those of `search`,
         ensures few { step_limit result ≤ most_steps (parts_bitmap (parts_of_graph self.now)) pattern }
         ensures short { shorter_list_step_limit result ≤ shorter_list_steps (parts_bitmap (parts_of_graph self.now)) pattern }
+        // none of which is taken yet,
+        ensures fresh { steps_taken result ≡ 0 }
         // and those of this call at most these.
         ensures cost { steps.new ≤ steps.old + start_cost (parts_bitmap (parts_of_graph self.now)) }
         ensures more { steps.old ≤ steps.new }

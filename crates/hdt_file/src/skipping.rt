@@ -1,11 +1,11 @@
 //! Matches after the first ones.
-ghost use Rattle.std.specs.Prelude.{◌≡◌, ◌≤◌, ◌<◌, ◌+◌, ◌*◌, ◌^◌, [], None, IfSome, IsTrue, drop, length};
+ghost use Rattle.std.specs.Prelude.{◌≡◌, ◌↔◌, ◌≤◌, ◌<◌, ◌+◌, ◌*◌, ◌^◌, [], None, IfSome, IsTrue, drop, length};
 ghost use Rattle.hdt_triples.specs.Bounds.{most_steps, shorter_list_steps, start_cost};
-ghost use Rattle.hdt_triples.specs.Remaining.{remaining_matches, step_limit, shorter_list_step_limit};
+ghost use Rattle.hdt_triples.specs.Remaining.{remaining_matches, step_limit, shorter_list_step_limit, steps_taken};
 ghost use Rattle.hdt_triples.specs.Patterns.{matches};
 ghost use Rattle.hdt_file.specs.LayoutParts.{parts_bitmap};
 ghost use Rattle.hdt_file.specs.LayoutPartsViews.{parts_of_graph};
-ghost use Rattle.hdt_file.specs.Paging.{IsNextMatch};
+ghost use Rattle.hdt_file.specs.Paging.{HasPositions, IsNextMatch};
 ghost use Rattle.hdt_file.specs.Inside.Consecutive.{HasConsecutiveMatches};
 ghost use Rattle.hdt_file.specs.GraphView.{graph_view};
 
@@ -15,7 +15,7 @@ use hdt_triples::{Matches, Pattern};
 
 /// Whether the matches of a pattern are consecutive triples: it gives nothing, a subject, or a subject and a predicate.
 fn has_consecutive_matches(pattern: Pattern) -> bool
-    ensures { IsTrue result → HasConsecutiveMatches pattern }
+    ensures { IsTrue result ↔ HasConsecutiveMatches pattern }
 {
     matches!(
         (pattern.s, pattern.p, pattern.o),
@@ -61,6 +61,7 @@ impl<'a> Graph<'a> {
         ensures fits { length (remaining_matches result) < 2 ^ 64 }
         ensures few { step_limit result ≤ most_steps (parts_bitmap (parts_of_graph self.now)) pattern }
         ensures short { shorter_list_step_limit result ≤ shorter_list_steps (parts_bitmap (parts_of_graph self.now)) pattern }
+        ensures fresh { steps_taken result ≡ 0 }
         ensures cost { steps.new ≤ steps.old + 2 * start_cost (parts_bitmap (parts_of_graph self.now)) }
         ensures more { steps.old ≤ steps.new }
     {
@@ -78,9 +79,9 @@ impl<'a> Graph<'a> {
     /// Returns the matches of a pattern after the first `skip`: those of [`Graph::search`] without them. It allocates
     /// nothing.
     ///
-    /// If the matches are consecutive triples, as of a pattern that gives nothing, a subject, or a subject and a
-    /// predicate, it finds the first one that is not skipped by two binary searches, whatever `skip` is. With another
-    /// pattern it iterates over the skipped ones: where pages follow one another, [`Graph::page`] does not.
+    /// If the pattern gives nothing, a subject, a subject and a predicate, or only an object, it takes no steps for the
+    /// skipped ones, whatever `skip` is: consecutive triples are reached by two binary searches, those of an object by
+    /// its list. With another pattern it iterates over them: where pages follow one another, [`Graph::page`] does not.
     pub fn search_after(&self, pattern: Pattern, skip: u64, steps: &mut Steps) -> Matches<'_>
         ensures items { remaining_matches result ≡ drop skip (matches pattern (graph_view self.now).triples) }
         ensures fits { length (remaining_matches result) < 2 ^ 64 }
@@ -89,8 +90,13 @@ impl<'a> Graph<'a> {
         ensures short { shorter_list_step_limit result ≤ shorter_list_steps (parts_bitmap (parts_of_graph self.now)) pattern }
         // and those of this call at most these.
         ensures cost { steps.new ≤ steps.old + 2 * start_cost (parts_bitmap (parts_of_graph self.now)) }
+        // If each match has a position, none of the former are taken yet: the skipped ones take no steps.
+        ensures jumps { 0 < skip → HasPositions pattern → steps_taken result ≡ 0 }
         ensures more { steps.old ≤ steps.new }
     {
+        if let (None, None, Some(object)) = (pattern.s, pattern.p, pattern.o) {
+            return self.triples.find_object_after(object, skip, steps);
+        }
         if skip > 0 && has_consecutive_matches(pattern) {
             return self.search_at(pattern, skip, steps);
         }

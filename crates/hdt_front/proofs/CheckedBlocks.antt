@@ -1,10 +1,7 @@
 -- The entries of a section whose checks hold: first entries of blocks, and others.
-use Rattle.std.proofs.Common.{◌≡◌, ℕ, zero, suc, ◌+◌, ◌-◌, ◌*◌, ◌/◌, ◌<◌, ◌≤◌, ◌++◌, ◌||◌, Bool, true, false, cond, List, [], length, take, drop, get_or, Ok, refl, sym, ap, ◌∙◌, arith, subst, eq-eqb, eqb, add-one, zero-add, Ordering}
+use Rattle.std.proofs.Common.{◌≡◌, ℕ, zero, suc, ◌+◌, ◌-◌, ◌*◌, ◌/◌, ◌<◌, ◌≤◌, ◌++◌, ◌||◌, Bool, true, false, cond, List, [], length, take, drop, get_or, Ok, refl, sym, ap, ◌∙◌, arith, subst, eq-eqb, eqb, add-one, zero-add}
 use Rattle.std.proofs.Math.Nat.{mul-div_left, mul-mod_left, div-eq_of_lt, div-zero, mul-le-mul_left, le-div_iff_mul-le}
 use Rattle.std.proofs.lemmas.Nat.{mod-mul-add}
-use Rattle.std.proofs.lemmas.Bool.Decides.{nat_tests}
-use Rattle.std.specs.declared.cmp.Ordering.TheVariants.{Less, Equal, Greater}
-use Rattle.std.specs.Ordering.{is_lt}
 use Rattle.hdt_wire.specs.Checks.{len_before_zero}
 use Rattle.hdt_front.specs.Decoding.{is_head, kept, bytes_from_suffix, suffix_of, decoded_string, after_entry, decoded_strings}
 use Rattle.hdt_front.specs.StringChecks.{BlockLayout, strings_check, precedes}
@@ -13,9 +10,12 @@ use Rattle.hdt_front.specs.Laws.StringSteps.{entry_check_at, string_is, rest_is,
 use Rattle.hdt_front.proofs.AscendingIds.{Ascends}
 use Rattle.hdt_front.specs.declared.section.Section.{Section}
 use Rattle.hdt_front.specs.Cost.{section_search_cost}
-use Rattle.hdt_front.specs.Strings.{blocks_of, section_of}
+use Rattle.hdt_front.specs.Strings.{strings_of, blocks_of, section_of}
+use Rattle.hdt_front.specs.PackedView.{block_layout}
 use Rattle.hdt_front.specs.Laws.Strings.{count_is}
 use Rattle.hdt_seq.specs.Width.{digits}
+use Rattle.hdt_front.specs.Laws.FrontCoding.{less_from}
+use Rattle.hdt_front.specs.Laws.IterationSteps.{not_zero}
 
 -- If there is a block, the block size is at least 1.
 pub some_block : (n b q : ℕ) → q < (n + (b - 1)) / b → 1 ≤ b
@@ -71,9 +71,6 @@ before_is : (b n i : ℕ) (bytes : List ℕ) → 0 < i → i < n → string_befo
 before_is b n zero bytes some h = absurd (omega (arith, some))
 before_is b n (suc i) bytes some h = let e : suc i - 1 ≡ i = omega arith in sym (ap (λ k. get_or (decoded_strings b n 0 [] bytes) k []) e ∙ string_is b n i bytes (omega (arith, h)))
 
-not_zero : (r : ℕ) → 1 ≤ r → eqb r 0 ≡ false
-not_zero r h = grind (arith, nat_tests)
-
 or_right : (a b : Bool) → a ≡ false → (a || b) ≡ true → b ≡ true
 or_right true b e h = absurd (cc)
 or_right false b e h = h
@@ -95,11 +92,6 @@ piece_at p n q r bytes some short h e =
       after = ap (λ k. bytes_from_entry p.block k bytes) (add-one (q * p.block + r)) ∙ ap (λ g. after_entry g rest) head;
     }
 
-lt_is : (o : Ordering) → is_lt o ≡ true → o ≡ Less
-lt_is Less e = refl
-lt_is Equal e = absurd (cc)
-lt_is Greater e = absurd (cc)
-
 pub ascends : (p : BlockLayout) (n : ℕ) (bytes : List ℕ) → strings_check p n 0 [] bytes ≡ Ok tt → Ascends (decoded_strings p.block n 0 [] bytes)
 unfolding string_before_entry
 ascends p n bytes e = record {
@@ -108,7 +100,7 @@ ascends p n bytes e = record {
       let row = entry_check_at p n (suc i) bytes (omega (arith, k)) e in
       let is : precedes (string_before_entry p.block (suc i) bytes) (string_before_entry p.block (suc (suc i)) bytes) ≡ true = or_right _ _ (not_zero (suc i) (omega arith)) row.ascends in
       let two : i + 1 ≡ suc i = omega arith in
-      lt_is _ (ap (λ m. precedes (get_or (decoded_strings p.block n 0 [] bytes) i []) (get_or (decoded_strings p.block n 0 [] bytes) m [])) two
+      less_from _ (ap (λ m. precedes (get_or (decoded_strings p.block n 0 [] bytes) i []) (get_or (decoded_strings p.block n 0 [] bytes) m [])) two
       ∙ ap (λ s. precedes s (get_or (decoded_strings p.block n 0 [] bytes) (suc i) [])) (string_is p.block n i bytes (omega (arith, k)))
       ∙ ap (λ s. precedes (string_before_entry p.block (suc i) bytes) s) (string_is p.block n (suc i) bytes (omega (arith, k))) ∙ is);
 }
@@ -120,6 +112,27 @@ pub block_entry : (p : BlockLayout) (n q r : ℕ) (bytes rest : List ℕ) → 1 
     → IsBlockEntry p.block (q * p.block + r) bytes rest (decoded_strings p.block n 0 [] bytes)
 block_entry p n q r bytes rest some short h e is =
     subst (λ (l : List ℕ). IsBlockEntry p.block (q * p.block + r) bytes l (decoded_strings p.block n 0 [] bytes)) (sym is) (piece_at p n q r bytes some short h e)
+
+-- An entry that was read after the first one of a block: the prefix length, the suffix, and the bytes after it.
+pub record IsReadEntry (s : Section) (i k : ℕ) (text after : List ℕ) : Type 0 where
+  pub inside : i < length (strings_of s)
+  pub fits : k ≤ length (get_or (strings_of s) (i - 1) [])
+  pub string : take k (get_or (strings_of s) (i - 1) []) ++ text ≡ get_or (strings_of s) i []
+  pub rest : after ≡ bytes_from_entry s.packed.block (i + 1) s.packed.bytes.now
+
+pub read_entry_is : (s : Section) (q r k : ℕ) (before text rest : List ℕ) → 1 ≤ r → r < s.packed.block → q * s.packed.block + r < s.packed.count → before ≡ bytes_from_entry s.packed.block (q * s.packed.block + r) s.packed.bytes.now
+    → k ≡ kept false before → text ≡ suffix_of false before → rest ≡ after_entry false before → IsReadEntry s (q * s.packed.block + r) k text rest
+unfolding strings_of
+read_entry_is s q r k before text rest some short inside is kept_is text_is rest_is =
+    let p = s.packed in
+    let here = block_entry (block_layout p) p.count q r p.bytes.now before some short inside s.read is in
+    let last : List ℕ = get_or (strings_of s) (q * p.block + r - 1) [] in
+    record {
+      inside = omega (arith, inside, length-decoded_strings p.block p.count 0 [] p.bytes.now);
+      fits = omega (arith, kept_is, here.fits);
+      string = ap (λ (k : ℕ). take k last ++ text) kept_is ∙ ap (λ (t : List ℕ). take (kept false before) last ++ t) text_is ∙ sym here.string;
+      rest = rest_is ∙ sym here.after;
+    }
 
 pub no_blocks : (n b : ℕ) → (0 < n → 1 ≤ b) → (n + (b - 1)) / b ≡ 0 → n ≡ 0
 no_blocks zero b some e = refl

@@ -6,7 +6,6 @@ use Rattle.std.proofs.Math.Seq.{take-append-add, take-add}
 use Rattle.std.proofs.lemmas.List.{append-nil, take-take, drop-drop}
 use Rattle.std.proofs.lemmas.Simd.{take_more_put_chunk, length-chunk}
 use lib.Lanes.{chunk, put_chunk}
-use Rattle.std.proofs.lemmas.Bool.Decides.{nat_tests}
 use Rattle.hdt_wire.specs.Checks.{len_before_zero}
 use Rattle.hdt_front.specs.Decoding.{is_head, kept, value_or, bytes_from_suffix, suffix_of, decoded_string, after_entry, decoded_strings}
 use Rattle.hdt_front.specs.StringChecks.{BlockLayout, strings_check}
@@ -15,15 +14,13 @@ use Rattle.hdt_wire.specs.VByte.{vbyte_at}
 use Rattle.hdt_wire.specs.declared.fault.Fault.{Fault}
 use Rattle.hdt_front.specs.Laws.StringSteps.{entry_check_at, string_is, rest_is}
 use Rattle.hdt_front.proofs.SimdLoads.{zero_behind}
+use Rattle.hdt_front.specs.Laws.IterationSteps.{not_zero}
 
 pub record Unfolds (b q k : ℕ) (bytes rest : List ℕ) : Type 0 where
   pub ends : len_before_zero (bytes_from_suffix (nat_eq k 0) rest) < length (bytes_from_suffix (nat_eq k 0) rest)
   pub fits : kept (nat_eq k 0) rest ≤ length (partial_string b q k bytes)
   pub string : take (kept (nat_eq k 0) rest) (partial_string b q k bytes) ++ suffix_of (nat_eq k 0) rest ≡ partial_string b q (k + 1) bytes
   pub after : after_entry (nat_eq k 0) rest ≡ bytes_from_entry b (q * b + (k + 1)) bytes
-
-pub not_zero : (r : ℕ) → 1 ≤ r → eqb r 0 ≡ false
-not_zero r h = grind (arith, nat_tests)
 
 unfolds : (p : BlockLayout) (n q k : ℕ) (bytes : List ℕ) → k < p.block → q * p.block + k < n → strings_check p n 0 [] bytes ≡ Ok tt
     → Unfolds p.block q k bytes (bytes_from_entry p.block (q * p.block + k) bytes)

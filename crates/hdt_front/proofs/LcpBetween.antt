@@ -2,9 +2,9 @@
 use Rattle.std.proofs.Common.{◌≡◌, ℕ, zero, suc, ◌+◌, ◌-◌, ◌*◌, ◌<◌, ◌≤◌, min, List, [], ◌∷◌, length, get_or, refl, arith, Bool, true, false, nat_eq, nat_lt, cond, Ordering, inl, inr, ◌⊎◌}
 use Rattle.std.proofs.Math.Nat.{mul-le-mul_left}
 use Rattle.std.proofs.lemmas.Bool.Decides.{nat_tests}
-use Rattle.std.specs.declared.cmp.Ordering.TheVariants.{Less, Equal, Greater}
-use Rattle.std.specs.Ordering.{ordering_then, ord_min, nat_cmp}
-use Rattle.hdt_front.specs.Searching.{lcp_len, IsLess}
+use Rattle.std.specs.declared.cmp.Ordering.TheVariants.{Less}
+use Rattle.std.specs.Ordering.{ord_min, nat_cmp}
+use Rattle.hdt_front.specs.Searching.{lcp_len}
 use Rattle.hdt_front.specs.Order.{string_cmp}
 use Rattle.hdt_front.specs.Strings.{strings_of, blocks_of}
 use Rattle.hdt_front.specs.PackedView.{block_layout}
@@ -12,9 +12,7 @@ use Rattle.hdt_front.specs.Laws.StringSteps.{length-decoded_strings}
 use Rattle.hdt_front.specs.declared.section.Section.{Section}
 use Rattle.hdt_front.proofs.AscendingIds.{Ascends, after}
 use Rattle.hdt_front.proofs.CheckedBlocks.{some_block, head_inside, ascends}
-
-abbrev both : Bool → Bool → Ordering → Ordering
-both lt eq o = ordering_then (cond lt Less (cond eq Equal Greater)) o
+use Rattle.hdt_front.specs.Laws.CommonPrefix.{both}
 
 between_step : (pq rq sq lt1 eq1 lt2 eq2 : Bool) (o1 o2 : Ordering) (n m t k : ℕ)
     → (pq ≡ true → rq ≡ true → lt1 ≡ true → lt2 ≡ true → ⊥)
@@ -71,11 +69,11 @@ none_or_some n = grind arith
 -- The same for the first strings of blocks during the binary search. A bound that was not compared yet counts as
 -- sharing nothing.
 pub heads_between : (s : Section) (x : List ℕ) (low middle high same above : ℕ) → low ≤ middle → middle < high → high ≤ blocks_of s
-    → (0 < same → 0 < low) → (0 < low → IsLess (get_or (strings_of s) ((low - 1) * s.packed.block) []) x same)
+    → (0 < same → 0 < low) → (0 < low → lcp_len (get_or (strings_of s) ((low - 1) * s.packed.block) []) x ≡ same)
     → (0 < above → high < blocks_of s) → (0 < above → lcp_len (get_or (strings_of s) (high * s.packed.block) []) x ≡ above)
     → min same above ≤ lcp_len (get_or (strings_of s) (middle * s.packed.block) []) x
 unfolding strings_of blocks_of
-heads_between s x low middle high same above after_low before_high inside some_low less some_high is_above = elim (none_or_some (min same above)) [
+heads_between s x low middle high same above after_low before_high inside some_low is_low some_high is_above = elim (none_or_some (min same above)) [
   | inl none ↦ omega (arith, none)
   | inr some ↦
       let p = s.packed in
@@ -88,5 +86,5 @@ heads_between s x low middle high same above after_low before_high inside some_l
       let high_is : middle * p.block + p.block ≤ high * p.block = omega (arith, mul-le-mul_left p.block (let k : middle + 1 ≤ high = omega (arith, before_high) in k)) in
       strings_between (strings_of s) x ((low - 1) * p.block) (high * p.block) (middle * p.block) (min same above) (ascends (block_layout p) p.count p.bytes.now s.read)
       (omega (arith, block, low_is)) (omega (arith, block, high_is)) (omega (arith, many, end))
-      (omega (arith, (less first).same)) (omega (arith, is_above (omega (arith, some))))
+      (omega (arith, is_low first)) (omega (arith, is_above (omega (arith, some))))
 ]

@@ -19,32 +19,14 @@ order x y = slice_cmp nat_cmp x y
 abbrev pub lcp_len : List ℕ → List ℕ → ℕ
 lcp_len x y = common_prefix_len nat_eq x y
 
-apart : (b c : ℕ) → nat_lt b c ≡ true → nat_eq b c ≡ true → ⊥
+pub apart : (b c : ℕ) → nat_lt b c ≡ true → nat_eq b c ≡ true → ⊥
 apart b c lt eq = grind (arith, nat_tests)
-
-kept_step : (lt eq : Bool) → (lt ≡ true → eq ≡ true → ⊥) → (o p : Ordering) (n m k : ℕ) → (o ≡ Less → n < k → (p ≡ Less) × (m ≡ n))
-    → both lt eq o ≡ Less → cond eq (1 + n) 0 < suc k → (both lt eq p ≡ Less) × (cond eq (1 + m) 0 ≡ cond eq (1 + n) 0)
-kept_step true true not_both o p n m k rest less more = absurd (not_both refl refl)
-kept_step true false not_both o p n m k rest less more = (refl, refl)
-kept_step false true not_both o p n m k rest less more = let r = rest less (omega (arith, more)) in (r.0, ap (λ x. 1 + x) r.1)
-kept_step false false not_both o p n m k rest less more = absurd (cc)
 
 rest_step : (lt eq : Bool) → (lt ≡ true → eq ≡ true → ⊥) → (o p : Ordering) (n m i k : ℕ) → (k ≤ n → (p ≡ o) × (m ≡ k + i))
     → suc k ≤ cond eq (1 + n) 0 → (both lt eq p ≡ o) × (cond eq (1 + m) 0 ≡ suc k + i)
 rest_step true true not_both o p n m i k rest fits = absurd (not_both refl refl)
 rest_step lt false not_both o p n m i k rest fits = absurd (omega (arith, fits))
 rest_step false true not_both o p n m i k rest fits = let r = rest (omega (arith, fits)) in (r.0, omega (arith, r.1))
-
--- If the last string is less than the searched one and the next string shares more with the last one than the last one
--- shares with the searched one, the next string is less too.
-pub kept_less : (k : ℕ) (last sought text : List ℕ) → order last sought ≡ Less → k ≤ length last → lcp_len last sought < k
-    → (order (take k last ++ text) sought ≡ Less) × (lcp_len (take k last ++ text) sought ≡ lcp_len last sought)
-kept_less zero last sought text less fits more = absurd (omega (arith, more))
-kept_less (suc k) [] sought text less fits more = absurd (omega (arith, fits))
-kept_less (suc k) (b ∷ last) [] text less fits more = absurd (cc)
-kept_less (suc k) (b ∷ last) (c ∷ sought) text less fits more =
-    kept_step (nat_lt b c) (nat_eq b c) (apart b c) (order last sought) (order (take k last ++ text) sought) (lcp_len last sought) (lcp_len (take k last ++ text) sought) k
-    (λ h i. kept_less k last sought text h (omega (arith, fits)) i) less more
 
 -- If it shares no more, comparing its suffix with the searched string after that prefix decides.
 pub rest_decides : (k : ℕ) (last sought text : List ℕ) → k ≤ lcp_len last sought

@@ -1,31 +1,28 @@
 -- Strings that begin with a prefix, and those before them in ascending strings.
-use Rattle.std.proofs.Common.{◌≡◌, ℕ, zero, suc, ◌+◌, ◌-◌, ◌<◌, ◌≤◌, ◌&&◌, ◌||◌, Bool, true, false, cond, nat_eq, nat_lt, List, [], ◌∷◌, ◌++◌, length, take, drop, get_or, refl, sym, ap, ◌∙◌, arith, subst, Ordering, inl, inr, ◌⊎◌}
+use Rattle.std.proofs.Common.{◌≡◌, ℕ, suc, ◌+◌, ◌-◌, ◌<◌, ◌≤◌, ◌&&◌, ◌||◌, Bool, true, false, cond, nat_eq, nat_lt, List, [], ◌∷◌, ◌++◌, length, take, get_or, refl, sym, ap, ◌∙◌, arith, subst, Ordering, inl, inr, ◌⊎◌, Ok}
 use Rattle.std.specs.declared.cmp.Ordering.TheVariants.{Less, Equal, Greater}
-use Rattle.std.specs.Ordering.{is_lt}
+use Rattle.std.specs.Ordering.{is_lt, is_eq}
 use Rattle.std.proofs.lemmas.Bool.Decides.{nat_tests}
-use Rattle.hdt_front.specs.Laws.CommonPrefix.{both, shared_prefix_left}
-use Rattle.hdt_front.specs.Searching.{lcp_len}
+use Rattle.hdt_front.specs.Laws.CommonPrefix.{both, shared_prefix_left, equal_bytes}
+use Rattle.hdt_front.specs.Searching.{lcp_len, IsBefore, IsBoundary, IsPosition, Compares, is_before, is_before_by}
 use Rattle.hdt_front.specs.Order.{string_cmp}
-use Rattle.hdt_front.specs.Prefixes.{BeginsWith, IsPrefixRange, IsBoundary, is_before, is_before_by}
+use Rattle.hdt_front.specs.Prefixes.{BeginsWith, IsPrefixRange}
 use Rattle.hdt_front.proofs.AscendingIds.{Ascends, after}
-use Rattle.hdt_front.proofs.LcpOrder.{lcp_at_least_kept, rest_decides}
+use Rattle.hdt_front.proofs.LcpOrder.{lcp_at_least_kept, apart}
 use Rattle.std.proofs.lemmas.Bool.{cases_lt}
-use Rattle.std.proofs.lemmas.Cmp.{nat_list_cmp_total}
+use Rattle.std.proofs.lemmas.Cmp.{nat_list_cmp_total, alike_right}
 use Rattle.hdt_wire.specs.Checks.{len_before_zero}
 use Rattle.hdt_front.specs.declared.section.Section.{Section}
 use Rattle.hdt_front.specs.Strings.{strings_of}
 use Rattle.hdt_front.specs.Laws.FrontCodingSteps.{NoZero}
 use Rattle.hdt_front.proofs.StringSequence.{zero_none}
 use Rattle.hdt_front.proofs.LookupInverse.{string_has_none}
+use Rattle.hdt_front.specs.Laws.FrontCoding.{less_from}
+use Rattle.hdt_front.specs.Laws.ChecksSound.{take_no_zero}
+use Rattle.hdt_front.specs.Laws.ChecksComplete.{or_holds}
 
 eq_is : (b c : ℕ) → nat_eq b c ≡ true → b ≡ c
 eq_is b c e = grind (arith, nat_tests, e)
-
-eq_of : (b c : ℕ) → b ≡ c → nat_eq b c ≡ true
-eq_of b c e = grind (arith, nat_tests, e)
-
-apart : (b c : ℕ) → nat_lt b c ≡ true → nat_eq b c ≡ true → ⊥
-apart b c lt eq = grind (arith, nat_tests)
 
 -- ---- a string begins with a prefix if their longest common prefix is the prefix
 
@@ -47,7 +44,7 @@ shares_all (b ∷ s) [] h = refl
 shares_all [] (c ∷ x) h = absurd (cc)
 shares_all (b ∷ s) (c ∷ x) h =
     let e = first_same b c (take (length x) s) x h in
-    omega (arith, shares_all s x e.1, ap (λ (t : Bool). cond t (1 + lcp_len s x) 0) (eq_of b c e.0))
+    omega (arith, shares_all s x e.1, ap (λ (t : Bool). cond t (1 + lcp_len s x) 0) (equal_bytes b c e.0))
 
 -- Such a string is not less than the prefix.
 not_less_step : (lt eq : Bool) (o : Ordering) (n m : ℕ) → (lt ≡ true → eq ≡ true → ⊥) → (n ≡ m → is_lt o ≡ false) → cond eq (1 + n) 0 ≡ suc m → is_lt (both lt eq o) ≡ false
@@ -91,11 +88,6 @@ or_cases : (a b : Bool) → (a || b) ≡ true → (a ≡ true) ⊎ (b ≡ true)
 or_cases true b e = inl refl
 or_cases false b e = inr e
 
-lt_is : (o : Ordering) → is_lt o ≡ true → o ≡ Less
-lt_is Less e = refl
-lt_is Equal e = absurd (cc)
-lt_is Greater e = absurd (cc)
-
 less_before : (past : Bool) (x s : List ℕ) → string_cmp s x ≡ Less → is_before past x s ≡ true
 unfolding is_before
 less_before past x s e = ap (λ (o : Ordering). is_lt o || (past && nat_eq (lcp_len s x) (length x))) e
@@ -103,11 +95,11 @@ less_before past x s e = ap (λ (o : Ordering). is_lt o || (past && nat_eq (lcp_
 downward : (past : Bool) (x s t : List ℕ) → string_cmp s t ≡ Less → is_before past x t ≡ true → is_before past x s ≡ true
 unfolding is_before
 downward false x s t less before = elim (or_cases (is_lt (string_cmp t x)) false before) [
-  | inl lt ↦ less_before false x s (nat_list_cmp_total.trans s t x less (lt_is (string_cmp t x) lt))
+  | inl lt ↦ less_before false x s (nat_list_cmp_total.trans s t x less (less_from (string_cmp t x) lt))
   | inr none ↦ absurd (cc)
 ]
 downward true x s t less before = elim (or_cases (is_lt (string_cmp t x)) (nat_eq (lcp_len t x) (length x)) before) [
-  | inl lt ↦ less_before true x s (nat_list_cmp_total.trans s t x less (lt_is (string_cmp t x) lt))
+  | inl lt ↦ less_before true x s (nat_list_cmp_total.trans s t x less (less_from (string_cmp t x) lt))
   | inr same ↦ less_than_begins s t x less (eq_is (lcp_len t x) (length x) same)
 ]
 
@@ -154,13 +146,9 @@ begun_not_before : (x s : List ℕ) → BeginsWith x s → is_before false x s �
 unfolding is_before
 begun_not_before x s h = ap (λ (t : Bool). t || false) (not_less s x (shares_all s x h))
 
-or_true : (a b : Bool) → b ≡ true → (a || b) ≡ true
-or_true true b e = refl
-or_true false b e = e
-
 begun_before : (x s : List ℕ) → BeginsWith x s → is_before true x s ≡ true
 unfolding is_before
-begun_before x s h = or_true (is_lt (string_cmp s x)) (nat_eq (lcp_len s x) (length x)) (eq_of (lcp_len s x) (length x) (shares_all s x h))
+begun_before x s h = or_holds (is_lt (string_cmp s x)) (nat_eq (lcp_len s x) (length x)) (equal_bytes (lcp_len s x) (length x) (shares_all s x h))
 
 weaker : (lt e : Bool) → (lt || (false && e)) ≡ true → (lt || (true && e)) ≡ true
 weaker true e t = refl
@@ -201,12 +189,6 @@ between x xs m n a low high = record {
 
 -- ---- no string has a zero byte
 
-take_no_zero : (n : ℕ) (s : List ℕ) → NoZero s → NoZero (take n s)
-unfolding NoZero
-take_no_zero zero s none = tt
-take_no_zero (suc n) [] none = tt
-take_no_zero (suc n) (c ∷ s) none = (none.0, take_no_zero n s none.1)
-
 pub none_begins : (s : Section) (x : List ℕ) → len_before_zero x < length x → IsPrefixRange (strings_of s) x 1 1
 none_begins s x has_zero = record {
   some = omega arith;
@@ -219,29 +201,59 @@ none_begins s x has_zero = record {
 
 -- ---- one string after another in a block
 
--- A string that shares more with the last one than that shares with the prefix is before if the last one is.
-pub more_kept : (past : Bool) (x last text : List ℕ) (k : ℕ) → k ≤ length last → lcp_len last x < k → is_before past x last ≡ true
-    → (is_before past x (take k last ++ text) ≡ true) × (lcp_len (take k last ++ text) x ≡ lcp_len last x)
+-- A string that shares more with the last one than that shares with the searched one is before if the last one is.
+pub kept_before : (past : Bool) (x last text : List ℕ) (k same : ℕ) → k ≤ length last → same < k → IsBefore past last x same → IsBefore past (take k last ++ text) x same
 unfolding is_before
-more_kept past x last text k fits more before =
-    let r = shared_prefix_left k (take k last ++ text) last x more (lcp_at_least_kept k last text fits) in
-    (ap (λ (o : Ordering). is_before_by past (length x) o (lcp_len (take k last ++ text) x)) r.0 ∙ ap (λ (l : ℕ). is_before_by past (length x) (string_cmp last x) l) r.1 ∙ before, r.1)
-
--- Otherwise the rest of it decides.
-pub rest_kept : (past : Bool) (x last text rest : List ℕ) (k l : ℕ) (o : Ordering) → k ≤ lcp_len last x → rest ≡ drop k x → o ≡ string_cmp text rest → l ≡ lcp_len text rest
-    → (is_before past x (take k last ++ text) ≡ is_before_by past (length x) o (k + l)) × (lcp_len (take k last ++ text) x ≡ k + l)
-unfolding is_before
-rest_kept past x last text rest k l o fits back order same =
-    let r = rest_decides k last x text fits in
-    let o_is : string_cmp (take k last ++ text) x ≡ o = r.0 ∙ ap (λ (t : List ℕ). string_cmp text t) (sym back) ∙ sym order in
-    let l_is : lcp_len (take k last ++ text) x ≡ k + l = r.1 ∙ ap (λ (t : List ℕ). k + lcp_len text t) (sym back) ∙ ap (λ (n : ℕ). k + n) (sym same) in
-    (ap (λ (p : Ordering). is_before_by past (length x) p (lcp_len (take k last ++ text) x)) o_is ∙ ap (λ (n : ℕ). is_before_by past (length x) o n) l_is, l_is)
+kept_before past x last text k same fits more h =
+    let r = shared_prefix_left k (take k last ++ text) last x (omega (arith, more, h.same)) (lcp_at_least_kept k last text fits) in
+    record {
+      before = ap (λ (o : Ordering). is_before_by past (length x) o (lcp_len (take k last ++ text) x)) r.0 ∙ ap (λ (l : ℕ). is_before_by past (length x) (string_cmp last x) l) r.1 ∙ h.before;
+      same = r.1 ∙ h.same;
+    }
 
 -- A whole string, by its order and its longest common prefix.
 pub by_parts : (past : Bool) (x s : List ℕ) (o : Ordering) (l : ℕ) → o ≡ string_cmp s x → l ≡ lcp_len s x → is_before past x s ≡ is_before_by past (length x) o l
 unfolding is_before
 by_parts past x s o l order same =
     ap (λ (p : Ordering). is_before_by past (length x) p (lcp_len s x)) (sym order) ∙ ap (λ (n : ℕ). is_before_by past (length x) o n) (sym same)
+
+-- How it compares if it is not before.
+equal_of : (o : Ordering) → is_eq o ≡ true → o ≡ Equal
+equal_of Less e = absurd (cc)
+equal_of Equal e = refl
+equal_of Greater e = absurd (cc)
+
+greater_of : (o : Ordering) (b : Bool) → (is_lt o || b) ≡ false → is_eq o ≡ false → o ≡ Greater
+greater_of Less b h e = absurd (cc)
+greater_of Equal b h e = absurd (cc)
+greater_of Greater b h e = refl
+
+pub compares : (past : Bool) (x s : List ℕ) (o : Ordering) (l : ℕ) → o ≡ string_cmp s x → l ≡ lcp_len s x → is_before_by past (length x) o l ≡ false
+    → (is_eq o ≡ true → Compares past s x Equal) × (is_eq o ≡ false → Compares past s x Greater)
+compares past x s o l order same h =
+    let none = by_parts past x s o l order same ∙ h in
+    (λ e. (none, sym order ∙ equal_of o e), λ e. (none, sym order ∙ greater_of o (past && nat_eq l (length x)) h e))
+
+-- ---- the position of a string
+
+less_of : (past : Bool) (x s : List ℕ) → past ≡ false → is_before past x s ≡ true → string_cmp s x ≡ Less
+unfolding is_before
+less_of true x s e h = absurd (cc)
+less_of false x s e h = elim (or_cases (is_lt (string_cmp s x)) false h) [
+  | inl lt ↦ less_from (string_cmp s x) lt
+  | inr none ↦ absurd (cc)
+]
+
+pub less_than : (x s : List ℕ) → is_before false x s ≡ true → string_cmp s x ≡ Less
+less_than x s h = less_of false x s refl h
+
+-- If the string at a position equals the searched one, those before the position are less.
+pub boundary_at : (past : Bool) (x : List ℕ) (xs : List (List ℕ)) (n : ℕ) → Ascends xs → IsPosition past xs x (Ok n) → IsBoundary past x xs n
+boundary_at past x xs n a h = record {
+  within = omega (arith, h.0);
+  last = λ some. less_before past x (get_or xs (n - 1) []) (sym (alike_right nat_list_cmp_total (get_or xs n []) x (get_or xs (n - 1) []) h.1.1) ∙ after xs (n - 1) n a (omega (arith, some)) h.0);
+  next = λ _. h.1.0;
+}
 
 -- ---- no strings
 

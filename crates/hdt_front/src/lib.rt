@@ -29,7 +29,6 @@ mod entry;
 mod laws;
 mod lcp;
 mod packed;
-mod prefix;
 mod reading;
 mod scan;
 mod search;

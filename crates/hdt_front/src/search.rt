@@ -1,11 +1,10 @@
-//! Searching for a string in the front-coded bytes, without decoding.
-ghost use Rattle.std.specs.Prelude.{◌≡◌, ◌≤◌, ◌<◌, ◌+◌, ◌-◌, ◌*◌, ◌++◌, length, take, drop, get_or, [], List, ℕ, false, MatchOption};
+//! Searching for a string, or for the strings that begin with a prefix, in the front-coded bytes, without decoding.
+ghost use Rattle.std.specs.Prelude.{◌≡◌, ◌≤◌, ◌<◌, ◌+◌, ◌-◌, ◌*◌, ◌^◌, ◌++◌, length, take, drop, get_or, [], List, ℕ, false};
 ghost use Rattle.hdt_wire.specs.Checks.{len_before_zero};
-ghost use Rattle.hdt_wire.specs.VByte.{vbyte_at};
-ghost use Rattle.hdt_front.specs.Decoding.{value_or, bytes_from_suffix, kept, suffix_of, after_entry};
+ghost use Rattle.hdt_front.specs.Decoding.{bytes_from_suffix, kept, suffix_of, after_entry};
 ghost use Rattle.hdt_front.specs.EntryFacts.{bytes_from_entry};
-ghost use Rattle.hdt_front.specs.declared.search.EntryProbe.TheVariants.{Less as LessOf};
-ghost use Rattle.hdt_front.specs.Searching.{lcp_len, IsLess, IsEntryProbe, IsBlockProbe};
+ghost use Rattle.hdt_front.specs.Searching.{lcp_len, IsBefore, IsEntryProbe, IsBlockProbe, IsPosition, IsBoundary, is_before_by};
+ghost use Rattle.hdt_front.specs.Prefixes.{IsPrefixRange};
 ghost use Rattle.hdt_front.specs.Order.{string_cmp};
 
 use crate::entry::{after_text, split_entry};
@@ -14,33 +13,49 @@ use crate::section::Section;
 use hdt_seq::Steps;
 use hdt_wire::len_before_zero;
 use std::cmp::Ordering;
+use std::ops::Range;
 
-/// Decides by the prefix length only: if a string shares more with the previous one than that shares with the searched
-/// string, it compares as the previous one, which is less.
-fn compare_by_prefix(kept: u64, same: usize) -> Option<EntryProbe>
-    ensures { MatchOption result (kept ≤ same) (λ l. (same < kept) × (l ≡ LessOf same)) }
+/// Law: the length of a slice is below 2^63.
+fn is_short(bytes: &[u8])
+    ensures { length bytes.now < 2 ^ 63 }
+{}
+
+/// Whether a string is less than the searched one; or, with `past`, begins with it. Their order and the length of their
+/// longest common prefix decide this.
+#[inline(always)]
+fn is_before(order: Ordering, lcp: usize, x: &[u8], past: bool) -> bool
+    ensures { result ≡ is_before_by past (length x.now) order lcp }
 {
-    if kept > same as u64 {
-        return Some(EntryProbe::Less(same));
-    }
-    None
+    order.is_lt() || past && lcp == x.len()
 }
 
-/// Compares a string with the searched one, given that the previous string is less and shares `same` bytes with it.
-fn compare_entry(kept: u64, text: &[u8], same: usize, x: &[u8]) -> EntryProbe
-    requires { same ≤ length x.now }
-    ensures { (last : List ℕ) → kept ≤ length last → IsLess last x.now same → IsEntryProbe (take kept last ++ text.now) x.now result }
+/// How a string compares with the searched one, by their order and the length of their longest common prefix.
+#[inline(always)]
+fn probe(order: Ordering, lcp: usize, x: &[u8], past: bool) -> EntryProbe
+    ensures { (string : List ℕ) → order ≡ string_cmp string x.now → lcp ≡ lcp_len string x.now → IsEntryProbe past string x.now result }
 {
-    if let Some(compare_entry) = compare_by_prefix(kept, same) {
-        return compare_entry;
+    if is_before(order, lcp, x, past) {
+        EntryProbe::Before(lcp)
+    } else if order.is_eq() {
+        EntryProbe::Same
+    } else {
+        EntryProbe::After
+    }
+}
+
+/// How the string of an entry compares, given that the previous string is before and shares `same` bytes with the
+/// searched one. A string that shares more with the previous one compares as that one.
+#[inline(always)]
+fn probe_entry(kept: u64, text: &[u8], same: usize, x: &[u8], past: bool) -> EntryProbe
+    requires { same ≤ length x.now }
+    ensures { (last : List ℕ) → kept ≤ length last → IsBefore past last x.now same → IsEntryProbe past (take kept last ++ text.now) x.now result }
+{
+    if kept > same as u64 {
+        return EntryProbe::Before(same);
     }
     let kept = kept as usize;
     let (order, lcp_len) = cmp_with_lcp(text, x.split_at(kept).1);
-    match order {
-        Ordering::Equal => EntryProbe::Same,
-        Ordering::Greater => EntryProbe::Greater,
-        Ordering::Less => EntryProbe::Less(kept + lcp_len),
-    }
+    probe(order, kept + lcp_len, x, past)
 }
 
 impl<'a> Section<'a> {
@@ -74,13 +89,13 @@ impl<'a> Section<'a> {
         (order, same, head)
     }
 
-    /// Finds the last block whose first string is not greater than the searched one, by binary search. A first string
-    /// between the two bounds shares with it at least what both bounds do, so those bytes are not compared again.
+    /// Finds the last block whose first string is before, by binary search. A first string between the two bounds
+    /// shares with the searched one at least what both bounds do, so those bytes are not compared again.
     #[tactic(auto, using(hdt_seq::specs::Laws::Width::digits_split))]
-    fn find_block(&self, x: &[u8], steps: &mut Steps) -> BlockProbe<'a>
+    fn find_block(&self, x: &[u8], past: bool, steps: &mut Steps) -> BlockProbe<'a>
         requires some { 0 < blocks_of self.now }
         requires sought { len_before_zero x.now ≡ length x.now }
-        ensures lands { IsBlockProbe (strings_of self.now) self.now.packed.block (blocks_of self.now) self.now.packed.bytes.now x.now result }
+        ensures lands { IsBlockProbe past (strings_of self.now) self.now.packed.block (blocks_of self.now) self.now.packed.bytes.now x.now result }
         ensures cost { steps.new ≤ steps.old + digits (blocks_of self.now) }
         ensures more { steps.old ≤ steps.new }
     {
@@ -93,14 +108,14 @@ impl<'a> Section<'a> {
             let middle = low + (high - low) / 2;
             let from = same.min(above);
             let (order, lcp_len, head) = self.compare_head(middle, x, from, steps);
-            match order {
-                Ordering::Equal => return BlockProbe::Head(middle),
-                Ordering::Less => {
+            match probe(order, lcp_len, x, past) {
+                EntryProbe::Same => return BlockProbe::Head(middle),
+                EntryProbe::Before(lcp_len) => {
                     low = middle + 1;
                     same = lcp_len;
                     last = head;
                 }
-                Ordering::Greater => {
+                EntryProbe::After => {
                     high = middle;
                     above = lcp_len;
                 }
@@ -126,17 +141,18 @@ impl<'a> Section<'a> {
         split_entry(false, rest)
     }
 
-    /// Searches the strings of a block after the first one.
+    /// Searches the strings of a block after the first one. Returns as [`search`](Section::search).
     fn scan_block(
         &self,
         block: u64,
         same: usize,
         rest: &'a [u8],
         x: &[u8],
+        past: bool,
         steps: &mut Steps,
-    ) -> Option<u64>
-        requires lands { IsBlockProbe (strings_of self.now) self.now.packed.block (blocks_of self.now) self.now.packed.bytes.now x.now (BlockProbe.Inside block same rest) }
-        ensures place { result ≡ id_of (strings_of self.now) x.now }
+    ) -> Result<u64, u64>
+        requires lands { IsBlockProbe past (strings_of self.now) self.now.packed.block (blocks_of self.now) self.now.packed.bytes.now x.now (BlockProbe.Inside block same rest) }
+        ensures place { IsPosition past (strings_of self.now) x.now result }
         ensures cost { steps.new ≤ steps.old + (self.now.packed.block - 1) }
         ensures more { steps.old ≤ steps.new }
     {
@@ -147,16 +163,34 @@ impl<'a> Section<'a> {
         let mut rest = rest;
         for i in 1..many {
             let (kept, text, after) = Section::read_entry(rest, steps);
-            match compare_entry(kept, text, same, x) {
-                EntryProbe::Same => return Some(first + i + 1),
-                EntryProbe::Greater => return None,
-                EntryProbe::Less(lcp_len) => {
+            match probe_entry(kept, text, same, x, past) {
+                EntryProbe::Same => return Ok(first + i),
+                EntryProbe::After => return Err(first + i),
+                EntryProbe::Before(lcp_len) => {
                     same = lcp_len;
                     rest = after;
                 }
             }
         }
-        None
+        Err(first + many)
+    }
+
+    /// Returns the index of a string, or how many strings are before it; with `past`, those that begin with it count as
+    /// before, too.
+    fn search(&self, x: &[u8], past: bool, steps: &mut Steps) -> Result<u64, u64>
+        requires some { 0 < blocks_of self.now }
+        requires sought { len_before_zero x.now ≡ length x.now }
+        ensures place { IsPosition past (strings_of self.now) x.now result }
+        ensures cost { steps.new ≤ steps.old + section_search_cost (section_of self.now) }
+        ensures more { steps.old ≤ steps.new }
+    {
+        match self.find_block(x, past, steps) {
+            BlockProbe::Before => Err(0),
+            BlockProbe::Head(block) => Ok(block * self.packed.block),
+            BlockProbe::Inside(block, same, rest) => {
+                self.scan_block(block, same, rest, x, past, steps)
+            }
+        }
     }
 
     /// Returns the ID of a string, from 1, or `None` if it is not in the section.
@@ -175,29 +209,66 @@ impl<'a> Section<'a> {
         if len_before_zero(x) < x.len() {
             return None;
         }
-        match self.find_block(x, steps) {
-            BlockProbe::Before => None,
-            BlockProbe::Head(block) => Some(block * self.packed.block + 1),
-            BlockProbe::Inside(block, same, rest) => self.scan_block(block, same, rest, x, steps),
+        match self.search(x, false, steps) {
+            Ok(at) => Some(at + 1),
+            Err(_) => None,
         }
+    }
+
+    /// Returns how many strings are before a prefix; with `past`, also those that begin with it.
+    fn boundary(&self, prefix: &[u8], past: bool, steps: &mut Steps) -> u64
+        requires some { 0 < blocks_of self.now }
+        requires sought { len_before_zero prefix.now ≡ length prefix.now }
+        ensures place { IsBoundary past prefix.now (strings_of self.now) result }
+        ensures cost { steps.new ≤ steps.old + section_search_cost (section_of self.now) }
+        ensures more { steps.old ≤ steps.new }
+    {
+        match self.search(prefix, past, steps) {
+            Ok(at) => at,
+            Err(at) => at,
+        }
+    }
+
+    /// Returns the IDs of the strings that begin with a prefix, from 1: all strings if the prefix is empty, and an empty
+    /// range if none begins with it. The prefix may be any bytes.
+    ///
+    /// Two binary searches over the first strings of the blocks, and two scans of one block. Takes at most twice the
+    /// steps of [`place_of`](Section::place_of).
+    pub fn prefix_range(&self, prefix: &[u8], steps: &mut Steps) -> Range<u64>
+        ensures range { IsPrefixRange (strings_of self.now) prefix.now result.start result.end }
+        ensures few { length (strings_of self.now) < 2 ^ 63 }
+        ensures cost { steps.new ≤ steps.old + 2 * section_search_cost (section_of self.now) }
+        ensures more { steps.old ≤ steps.new }
+    {
+        is_short(self.packed.bytes);
+        if self.blocks() == 0 {
+            return 1..1;
+        }
+        // No string has a zero byte.
+        if len_before_zero(prefix) < prefix.len() {
+            return 1..1;
+        }
+        let start = self.boundary(prefix, false, steps);
+        let end = self.boundary(prefix, true, steps);
+        start + 1..end + 1
     }
 }
 
 /// The result of the binary search over the blocks.
 pub(crate) enum BlockProbe<'a> {
-    /// The searched string is less than the first string of the section.
+    /// The first string of the section is after.
     Before,
-    /// It is the first string of this block.
+    /// The searched string is the first one of this block.
     Head(u64),
-    /// It is greater than the first string of a block: the block, the common-prefix length with that string, and the
-    /// bytes after that entry.
+    /// The first string of a block is the last first one that is before: the block, the common-prefix length with that
+    /// string, and the bytes after that entry.
     Inside(u64, usize, &'a [u8]),
 }
 
-/// How a string of a block compares with the searched one.
+/// How a string compares with the searched one.
 pub(crate) enum EntryProbe {
     Same,
-    Greater,
-    /// Less, with this common-prefix length.
-    Less(usize),
+    After,
+    /// Before, with this common-prefix length.
+    Before(usize),
 }

@@ -3,8 +3,8 @@
 use hdt_build::Options;
 use hdt_probe::{Args, Reply, role_number};
 use hdt_tool::{
-    Action, AnswerOptions, OutputFormat, Request, UsageFault, parse_invocation, parse_words,
-    usage_line,
+    Action, AnswerOptions, OutputFormat, Progress, Request, UsageFault, parse_invocation,
+    parse_words, usage_line,
 };
 use hdt_usage::make_command_table;
 
@@ -108,6 +108,12 @@ fn reply_search(action: &Action, reply: &mut Reply) {
             reply.word("exists");
             reply_given(given, reply)
         }
+        Action::SkipNonTerms { given, count, most } => {
+            reply.word("skip_non_terms");
+            reply_given(given, reply);
+            reply.boolean(*count);
+            reply.optional_number(*most)
+        }
         Action::Info { json } => {
             reply.word("info");
             reply.boolean(*json)
@@ -117,6 +123,11 @@ fn reply_search(action: &Action, reply: &mut Reply) {
             reply.number(role_number(*role));
             reply.optional_number(*top);
             reply.number(u64::from(*raw))
+        }
+        Action::Lint { keep, most } => {
+            reply.word("lint");
+            reply.boolean(*keep);
+            reply.optional_number(*most)
         }
         Action::Answer(asking) => reply_asking(*asking, reply),
         Action::Build(options) => reply_options(options, reply),
@@ -134,6 +145,10 @@ fn reply_action(action: &Action, reply: &mut Reply) {
         Action::Head => reply.word("head"),
         Action::Verify => reply.word("verify"),
         Action::VerifyTight => reply.word("verify_tight"),
+        Action::VerifyTerms { tight } => {
+            reply.word("verify_terms");
+            reply.boolean(*tight)
+        }
         Action::Strings(role) => {
             reply.word("strings");
             reply.number(role_number(*role))
@@ -190,7 +205,11 @@ fn reply_parse_all_words(args: &mut Args<'_>, reply: &mut Reply) {
     };
     match parse_invocation(args.alloc, &texts) {
         Ok(call) => {
-            reply.boolean(call.progress);
+            reply.word(match call.progress {
+                Progress::Automatic => "automatic",
+                Progress::Lines => "lines",
+                Progress::Off => "off",
+            });
             reply_request(&call.request, reply)
         }
         Err(fault) => reply_usage_fault(&fault, args, reply),

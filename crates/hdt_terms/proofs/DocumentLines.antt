@@ -113,7 +113,7 @@ begins_with s (Some bytes) (Some rest) lines r =
       | inr are ↦ ([], ap (document_lines false 0) (r.takes.consumed ∙ ap (λ l. r.front ++ l) are.2 ∙ append-nil r.front) ∙ are.1 ∙ sym (append-nil lines))
     ]
 
-all_read : (s : LinesState) (input left : Option (List ℕ)) (lines : List DocumentLine) → HasReadLines s input left lines → s.ended ≡ true → AreDocumentLines input lines
+pub all_read : (s : LinesState) (input left : Option (List ℕ)) (lines : List DocumentLine) → HasReadLines s input left lines → s.ended ≡ true → AreDocumentLines input lines
 all_read s None left lines r ended = tt
 all_read s (Some bytes) None lines r ended = absurd r.takes.consumed
 all_read s (Some bytes) (Some rest) lines r ended =
@@ -153,8 +153,8 @@ kept_on : (keep : Bool) (lines : List DocumentLine) (line : DocumentLine) → ke
 kept_on false lines line = refl
 kept_on true lines line = without_on 0 lines (line ∷ []) ∙ ap (λ t. lines_without_faults 0 lines ++ t) (append-nil _)
 
-told_on : (lines : List DocumentLine) (line : DocumentLine) → fault_reports (lines ++ line ∷ []) ≡ fault_reports lines ++ report_if_faulty (fault_of_line line)
-told_on lines line = flat_map-append (λ line. report_if_faulty (fault_of_line line)) lines (line ∷ []) ∙ ap (λ t. fault_reports lines ++ t) (append-nil (report_if_faulty (fault_of_line line)))
+reported_on : (lines : List DocumentLine) (line : DocumentLine) → fault_reports (lines ++ line ∷ []) ≡ fault_reports lines ++ report_if_faulty (fault_of_line line)
+reported_on lines line = flat_map-append (λ line. report_if_faulty (fault_of_line line)) lines (line ∷ []) ∙ ap (λ t. fault_reports lines ++ t) (append-nil (report_if_faulty (fault_of_line line)))
 
 -- A writer takes a part of the pending output.
 pub wrote : (a b c : Option (List ℕ)) (text pending new : List ℕ) → GainsAllBut a b text pending → GainsAllBut b c pending new → GainsAllBut a c text new
@@ -175,23 +175,23 @@ grown : (a b : Option (List ℕ)) (text pending more new : List ℕ) → GainsAl
 grown a b text pending more new (gone, is, gained) e = (gone, ap (λ t. t ++ more) is ∙ append_assoc gone pending more ∙ ap (λ t. gone ++ t) (sym e), gained)
 
 -- What the writers have gained for these lines, and what is pending.
-pub record Linted (keep : Bool) (lines : List DocumentLine) (a b c d : Option (List ℕ)) (kept told : List ℕ) (faulty : ℕ) : Type 0 where
+pub record Linted (keep : Bool) (lines : List DocumentLine) (a b c d : Option (List ℕ)) (kept reported : List ℕ) (faulty : ℕ) : Type 0 where
   pub kept_is : GainsAllBut a b (kept_lines keep lines) kept
-  pub told_is : GainsAllBut c d (fault_reports lines) told
+  pub reported_is : GainsAllBut c d (fault_reports lines) reported
   pub faulty_is : faulty ≡ last_faulty_of 0 lines
 
-pub none_linted : (keep : Bool) (a c : Option (List ℕ)) (kept told : List ℕ) (faulty : ℕ) → kept ≡ [] → told ≡ [] → faulty ≡ 0 → Linted keep [] a a c c kept told faulty
-none_linted false a c kept told faulty k t f = record { kept_is = ([], sym k, Appends-nil a); told_is = ([], sym t, Appends-nil c); faulty_is = f }
-none_linted true a c kept told faulty k t f = record { kept_is = ([], sym k, Appends-nil a); told_is = ([], sym t, Appends-nil c); faulty_is = f }
+pub none_linted : (keep : Bool) (a c : Option (List ℕ)) (kept reported : List ℕ) (faulty : ℕ) → kept ≡ [] → reported ≡ [] → faulty ≡ 0 → Linted keep [] a a c c kept reported faulty
+none_linted false a c kept reported faulty k t f = record { kept_is = ([], sym k, Appends-nil a); reported_is = ([], sym t, Appends-nil c); faulty_is = f }
+none_linted true a c kept reported faulty k t f = record { kept_is = ([], sym k, Appends-nil a); reported_is = ([], sym t, Appends-nil c); faulty_is = f }
 
-pub linted_on : (keep : Bool) (lines : List DocumentLine) (line : DocumentLine) (a b c d : Option (List ℕ)) (kept told new_kept new_told : List ℕ) (faulty new_faulty : ℕ) → Linted keep lines a b c d kept told faulty
-    → new_kept ≡ kept ++ kept_if keep (last_faulty faulty (fault_of_line line)) line → new_told ≡ told ++ report_if_faulty (fault_of_line line) → new_faulty ≡ last_faulty faulty (fault_of_line line)
-    → Linted keep (lines ++ line ∷ []) a b c d new_kept new_told new_faulty
-linted_on keep lines line a b c d kept told new_kept new_told faulty new_faulty h k t f = record {
+pub linted_on : (keep : Bool) (lines : List DocumentLine) (line : DocumentLine) (a b c d : Option (List ℕ)) (kept reported new_kept new_reported : List ℕ) (faulty new_faulty : ℕ) → Linted keep lines a b c d kept reported faulty
+    → new_kept ≡ kept ++ kept_if keep (last_faulty faulty (fault_of_line line)) line → new_reported ≡ reported ++ report_if_faulty (fault_of_line line) → new_faulty ≡ last_faulty faulty (fault_of_line line)
+    → Linted keep (lines ++ line ∷ []) a b c d new_kept new_reported new_faulty
+linted_on keep lines line a b c d kept reported new_kept new_reported faulty new_faulty h k t f = record {
   kept_is =
       subst (λ text. GainsAllBut a b text new_kept) (sym (kept_on keep lines line))
       (grown a b (kept_lines keep lines) kept _ new_kept h.kept_is (k ∙ ap (λ n. kept ++ kept_if keep (last_faulty n (fault_of_line line)) line) h.faulty_is));
-  told_is = subst (λ text. GainsAllBut c d text new_told) (sym (told_on lines line)) (grown c d (fault_reports lines) told _ new_told h.told_is t);
+  reported_is = subst (λ text. GainsAllBut c d text new_reported) (sym (reported_on lines line)) (grown c d (fault_reports lines) reported _ new_reported h.reported_is t);
   faulty_is = f ∙ ap (λ n. last_faulty n (fault_of_line line)) h.faulty_is ∙ sym (last_on 0 lines (line ∷ []));
 }
 
@@ -204,16 +204,16 @@ counted_on lines line n one new h o is =
 -- An error of writing, or lack of memory.
 pub cut_short : (keep : Bool) (s : LinesState) (input mid given a b c d : Option (List ℕ)) (lines : List DocumentLine) (fault : LintFault) → HasReadLines s input mid lines → (fault ≡ OutOfMemory) ⊎ ((n : ℕ) × (fault ≡ Write n))
     → GainsPrefix a b (kept_lines keep lines) → GainsPrefix c d (fault_reports lines) → LintsUntilFault keep input given a b c d fault
-cut_short keep s input mid given a b c d lines fault r (inl is) kept told =
-    subst (LintsUntilFault keep input given a b c d) (sym is) (record { lines = lines; are = begins_with s input mid lines r; behind = tt; kept = kept; told = told })
-cut_short keep s input mid given a b c d lines fault r (inr (n, is)) kept told =
-    subst (LintsUntilFault keep input given a b c d) (sym is) (record { lines = lines; are = begins_with s input mid lines r; behind = tt; kept = kept; told = told })
+cut_short keep s input mid given a b c d lines fault r (inl is) kept reported =
+    subst (LintsUntilFault keep input given a b c d) (sym is) (record { lines = lines; are = begins_with s input mid lines r; behind = tt; kept = kept; reported = reported })
+cut_short keep s input mid given a b c d lines fault r (inr (n, is)) kept reported =
+    subst (LintsUntilFault keep input given a b c d) (sym is) (record { lines = lines; are = begins_with s input mid lines r; behind = tt; kept = kept; reported = reported })
 
 -- Before the first line.
 pub nothing_linted : (keep : Bool) (input given a c : Option (List ℕ)) → LintsUntilFault keep input given a a c c OutOfMemory
 nothing_linted keep input given a c =
     let none = none_linted keep a c [] [] 0 refl refl refl in
-    record { lines = []; are = begins_with (start 9223372036854775807) input _ [] (none_read (start 9223372036854775807) input refl); behind = tt; kept = ([], none.kept_is); told = ([], none.told_is) }
+    record { lines = []; are = begins_with (start 9223372036854775807) input _ [] (none_read (start 9223372036854775807) input refl); behind = tt; kept = ([], none.kept_is); reported = ([], none.reported_is) }
 
 pub below_most : (count most : ℕ) (faulty : Bool) → count < most → count + from_bool faulty ≤ most
 below_most count most false lt = omega (arith, lt)

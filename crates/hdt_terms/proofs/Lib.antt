@@ -41,6 +41,8 @@ pub mod TripleLineReasons
 pub mod LineTaking
 pub mod LineResults
 pub mod LinePrefixes
+pub mod PartTables
+pub mod SplitLines
 pub mod WholeLines
 pub mod TripleRuns
 pub mod LineRuns

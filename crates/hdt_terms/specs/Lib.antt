@@ -22,4 +22,6 @@ pub mod LinesTexts
 pub mod WholeLines
 pub mod Documents
 pub mod Lint
+pub mod Parts
+pub mod Split
 pub mod Inside

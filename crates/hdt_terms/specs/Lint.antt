@@ -132,12 +132,12 @@ GainsPrefix before after text = (more : List ℕ) × GainsAllBut before after te
 
 -- All lines of the input, or its first lines up to the last of `most` faulty ones, were checked: n are faulty, and the
 -- two writers have gained the kept lines and the reports.
-pub record LintsInput (keep : Bool) (most : ℕ) (input kept_before kept_after told_before told_after : Option (List ℕ)) (n : ℕ) : Type 0 where
+pub record LintsInput (keep : Bool) (most : ℕ) (input kept_before kept_after reported_before reported_after : Option (List ℕ)) (n : ℕ) : Type 0 where
   pub lines : List DocumentLine
   pub are : AreDocumentLines input lines ⊎ ((n ≡ most) × BeginsWithLines input lines)
   pub count : n ≡ length (faulty_lines lines)
   pub kept : Appends kept_before kept_after (kept_lines keep lines)
-  pub told : Appends told_before told_after (fault_reports lines)
+  pub reported : Appends reported_before reported_after (fault_reports lines)
 
 -- The fault is the error of the line after these, which are all lines with an end before it. given is the input that
 -- the reader has left after the error.
@@ -162,9 +162,9 @@ FollowsDocumentLines fault input given lines = Unit {0}
 
 -- An error ended the run after some lines: the two writers have gained a prefix of the kept lines and of the reports. If a
 -- line could not be read, these are all lines before it; `given` is what the reader still yields after it.
-pub record LintsUntilFault (keep : Bool) (input given kept_before kept_after told_before told_after : Option (List ℕ)) (fault : LintFault) : Type 0 where
+pub record LintsUntilFault (keep : Bool) (input given kept_before kept_after reported_before reported_after : Option (List ℕ)) (fault : LintFault) : Type 0 where
   pub lines : List DocumentLine
   pub are : BeginsWithLines input lines
   pub behind : FollowsDocumentLines fault input given lines
   pub kept : GainsPrefix kept_before kept_after (kept_lines keep lines)
-  pub told : GainsPrefix told_before told_after (fault_reports lines)
+  pub reported : GainsPrefix reported_before reported_after (fault_reports lines)

@@ -1,5 +1,5 @@
 //! Parsing one line.
-ghost use Rattle.std.specs.Prelude.{◌≡◌, [], ◌<◌, IfOk, IsUtf8};
+ghost use Rattle.std.specs.Prelude.{◌≡◌, [], ◌<◌, IfOk, OnOk, IsUtf8};
 ghost use Rattle.hdt_terms.specs.Appending.{AppendsRead};
 ghost use Rattle.hdt_terms.specs.Faults.{EqualsUnlessOom};
 ghost use Rattle.hdt_terms.specs.LineParsing.{begins, role_term_at, role_term_after_whitespace, is_comment_or_end, is_blank_or_comment, comment_or_end_at, full_stop_after_whitespace, line_triple_at, line_triple, line_in, PutsTripleStrings, ReturnsTripleStrings, ReturnsLineStrings};
@@ -99,7 +99,11 @@ pub(crate) fn append_role_term<'a>(
 
 /// Skips whitespace, then puts the string of the term of the role into the buffer. Returns the bytes after it.
 #[tactic(auto, unfolding(crate::specs::LineParsing::role_term_after_whitespace))]
-fn put_role_term<'a>(role: Role, bytes: &'a [u8], out: &mut Vec<u8>) -> Result<&'a [u8], ReadError>
+pub(crate) fn put_role_term<'a>(
+    role: Role,
+    bytes: &'a [u8],
+    out: &mut Vec<u8>,
+) -> Result<&'a [u8], ReadError>
     requires { IsUtf8 bytes.now }
     ensures reads { AppendsRead dictionary_string [] out.new.items (λ rest. rest.now) result (role_term_after_whitespace role bytes.now) }
     ensures utf8 { IfOk result (λ rest. IsUtf8 rest.now) }
@@ -175,7 +179,8 @@ pub(crate) fn put_line(
     p: &mut Vec<u8>,
     o: &mut Vec<u8>,
 ) -> Result<bool, TermFault>
-    ensures { ReturnsLineStrings s.new.items p.new.items o.new.items result (line_in text.now) }
+    ensures strings { ReturnsLineStrings s.new.items p.new.items o.new.items result (line_in text.now) }
+    ensures utf8 { OnOk result (IsUtf8 text.now) }
 {
     match check_utf8(text) {
         Ok(()) => {}

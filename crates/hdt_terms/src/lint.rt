@@ -102,7 +102,7 @@ struct Linter {
     // The number of the last faulty line; 0 if there is none.
     faulty: u64,
     kept: Vec<u8>,
-    told: Vec<u8>,
+    reported: Vec<u8>,
 }
 
 impl Linter {
@@ -110,7 +110,7 @@ impl Linter {
         ensures keep { result.keep ≡ keep }
         ensures faulty { result.faulty ≡ 0 }
         ensures kept { result.kept.items ≡ [] }
-        ensures told { result.told.items ≡ [] }
+        ensures reported { result.reported.items ≡ [] }
     {
         Linter {
             alloc,
@@ -121,14 +121,14 @@ impl Linter {
             object: Vec::new(alloc),
             faulty: 0,
             kept: Vec::new(alloc),
-            told: Vec::new(alloc),
+            reported: Vec::new(alloc),
         }
     }
 
     /// Reports the line if it is faulty, and returns whether it is. Its first `n` bytes are its text.
     fn report(&mut self, number: u64, n: usize) -> Result<bool, AllocError>
         requires { n ≤ length self.old.line.items }
-        ensures told { OnOk result (self.new.told.items ≡ self.old.told.items ++ report_if_faulty (fault_of_line (numbered number n self.old.line.items))) }
+        ensures reported { OnOk result (self.new.reported.items ≡ self.old.reported.items ++ report_if_faulty (fault_of_line (numbered number n self.old.line.items))) }
         ensures faulty { OnOk result (self.new.faulty ≡ last_faulty self.old.faulty (fault_of_line (numbered number n self.old.line.items))) }
         ensures count { IfOk result (λ faulty. from_bool faulty ≡ length (faulty_lines (numbered number n self.old.line.items ∷ []))) }
         ensures line { OnOk result (self.new.line.items ≡ self.old.line.items) }
@@ -144,7 +144,7 @@ impl Linter {
             None => Ok(false),
             Some(fault) => {
                 self.faulty = number;
-                put_report(self.alloc, number, fault, &mut self.told)?;
+                put_report(self.alloc, number, fault, &mut self.reported)?;
                 Ok(true)
             }
         }
@@ -153,7 +153,7 @@ impl Linter {
     /// Appends what is kept of a line and what is reported of it. Returns whether it is faulty.
     fn lint_line(&mut self, number: u64, n: usize) -> Result<bool, AllocError>
         requires { n ≤ length self.old.line.items }
-        ensures told { OnOk result (self.new.told.items ≡ self.old.told.items ++ report_if_faulty (fault_of_line (numbered number n self.old.line.items))) }
+        ensures reported { OnOk result (self.new.reported.items ≡ self.old.reported.items ++ report_if_faulty (fault_of_line (numbered number n self.old.line.items))) }
         ensures faulty { OnOk result (self.new.faulty ≡ last_faulty self.old.faulty (fault_of_line (numbered number n self.old.line.items))) }
         ensures count { IfOk result (λ faulty. from_bool faulty ≡ length (faulty_lines (numbered number n self.old.line.items ∷ []))) }
         ensures kept { OnOk result (self.new.kept.items ≡ self.old.kept.items
@@ -199,19 +199,19 @@ fn write_both_if_long<K: Write, T: Write>(
     linter: &mut Linter,
     written: (u64, u64),
     kept: &mut Counted<K>,
-    told: &mut Counted<T>,
+    reported: &mut Counted<T>,
 ) -> Result<(u64, u64), LintFault>
     ensures kept { OnOk result (GainsAllBut (K.contents (inner kept.old)) (K.contents (inner kept.new)) linter.old.kept.items linter.new.kept.items) }
-    ensures told { OnOk result (GainsAllBut (T.contents (inner told.old)) (T.contents (inner told.new)) linter.old.told.items linter.new.told.items) }
-    ensures whole { OnOk result (least ≡ 0 → (linter.new.kept.items ≡ []) × (linter.new.told.items ≡ [])) }
-    ensures well { OnOk result ((failures kept.new ≡ failures kept.old) × (failures told.new ≡ failures told.old)) }
+    ensures reported { OnOk result (GainsAllBut (T.contents (inner reported.old)) (T.contents (inner reported.new)) linter.old.reported.items linter.new.reported.items) }
+    ensures whole { OnOk result (least ≡ 0 → (linter.new.kept.items ≡ []) × (linter.new.reported.items ≡ [])) }
+    ensures well { OnOk result ((failures kept.new ≡ failures kept.old) × (failures reported.new ≡ failures reported.old)) }
     ensures others { OnOk result ((linter.new.keep ≡ linter.old.keep) × (linter.new.faulty ≡ linter.old.faulty)) }
     ensures err { IfErr result (λ e. (n : ℕ) × (e ≡ write_failed n)) }
     ensures kept_part { GainsPrefix (K.contents (inner kept.old)) (K.contents (inner kept.new)) linter.old.kept.items }
-    ensures told_part { GainsPrefix (T.contents (inner told.old)) (T.contents (inner told.new)) linter.old.told.items }
+    ensures reported_part { GainsPrefix (T.contents (inner reported.old)) (T.contents (inner reported.new)) linter.old.reported.items }
 {
     let first = write_if_long(least, &mut linter.kept, written.0, kept)?;
-    let second = write_if_long(least, &mut linter.told, written.1, told)?;
+    let second = write_if_long(least, &mut linter.reported, written.1, reported)?;
     Ok((first, second))
 }
 
@@ -220,12 +220,12 @@ fn flush_before_error<K: Write, T: Write>(
     linter: &mut Linter,
     written: (u64, u64),
     kept: &mut Counted<K>,
-    told: &mut Counted<T>,
+    reported: &mut Counted<T>,
 )
     ensures kept { GainsPrefix (K.contents (inner kept.old)) (K.contents (inner kept.new)) linter.old.kept.items }
-    ensures told { GainsPrefix (T.contents (inner told.old)) (T.contents (inner told.new)) linter.old.told.items }
+    ensures reported { GainsPrefix (T.contents (inner reported.old)) (T.contents (inner reported.new)) linter.old.reported.items }
 {
-    match write_both_if_long(0, linter, written, kept, told) {
+    match write_both_if_long(0, linter, written, kept, reported) {
         Ok(_) => {}
         Err(_) => {}
     }
@@ -240,7 +240,7 @@ fn is_another_wanted(count: u64, most: u64, lines: &Lines) -> bool
     count < most && !lines.has_ended()
 }
 
-/// Checks every line of a document, and reports each faulty one to `told`, in a line with the number of the line, the
+/// Checks every line of a document, and reports each faulty one to `reported`, in a line with the number of the line, the
 /// column in bytes, and the number and the name of the reason. Returns how many there are. With `keep`, writes the lines
 /// without an error to `kept`, byte for byte, with their ends; so a document without errors is copied. Stops after
 /// `most` faulty lines.
@@ -258,13 +258,13 @@ pub fn lint_document<R: Read, K: Write, T: Write>(
     most: u64,
     input: &mut Counted<R>,
     kept: &mut Counted<K>,
-    told: &mut Counted<T>,
+    reported: &mut Counted<T>,
 ) -> Result<u64, LintFault>
     // All lines were checked, or those up to the last of `most` faulty ones; the result is how many are faulty.
-    ensures ok { IfOk result (LintsInput keep most (R.remaining (inner input.old)) (K.contents (inner kept.old)) (K.contents (inner kept.new)) (T.contents (inner told.old)) (T.contents (inner told.new))) }
-    ensures writers_well { OnOk result ((failures kept.new ≡ failures kept.old) × (failures told.new ≡ failures told.old)) }
+    ensures ok { IfOk result (LintsInput keep most (R.remaining (inner input.old)) (K.contents (inner kept.old)) (K.contents (inner kept.new)) (T.contents (inner reported.old)) (T.contents (inner reported.new))) }
+    ensures writers_well { OnOk result ((failures kept.new ≡ failures kept.old) × (failures reported.new ≡ failures reported.old)) }
     // The writers have gained a prefix of the output for some first lines; all lines before one that cannot be read.
-    ensures stopped { IfErr result (LintsUntilFault keep (R.remaining (inner input.old)) (R.remaining (inner input.new)) (K.contents (inner kept.old)) (K.contents (inner kept.new)) (T.contents (inner told.old)) (T.contents (inner told.new))) }
+    ensures stopped { IfErr result (LintsUntilFault keep (R.remaining (inner input.old)) (R.remaining (inner input.new)) (K.contents (inner kept.old)) (K.contents (inner kept.new)) (T.contents (inner reported.old)) (T.contents (inner reported.new))) }
     // The reader failed if the error says so, and only then.
     ensures read { IfErr result (λ e. IsReadFault e → failures input.new ≡ failures input.old + 1) }
     ensures still { IfErr result (λ e. (IsReadFault e → ⊥) → failures input.new ≡ failures input.old) }
@@ -278,14 +278,14 @@ pub fn lint_document<R: Read, K: Write, T: Write>(
         let n = match lines.next_whole_line(input, &mut linter.line) {
             Ok(n) => n,
             Err(fault) => {
-                flush_before_error(&mut linter, written, kept, told);
+                flush_before_error(&mut linter, written, kept, reported);
                 return Err(LintFault::Line(fault));
             }
         };
         let number = lines.line_number();
         count += u64::from(linter.lint_line(number, n)?);
-        written = write_both_if_long(PIECE, &mut linter, written, kept, told)?;
+        written = write_both_if_long(PIECE, &mut linter, written, kept, reported)?;
     }
-    write_both_if_long(0, &mut linter, written, kept, told)?;
+    write_both_if_long(0, &mut linter, written, kept, reported)?;
     Ok(count)
 }

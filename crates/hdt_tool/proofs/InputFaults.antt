@@ -5,13 +5,13 @@ use Rattle.std.specs.declared.vec.Vec.{Vec}
 use Rattle.hdt_tool.specs.declared.fault.ToolFault.{ToolFault}
 use Rattle.hdt_tool.specs.declared.fault.ToolFault.TheVariants.{Input, NoTriples, NoSuchTerm, NoMatch, NoSuchNumber, NotATerm, BadOptions, Read, Write, OutOfMemory}
 use Rattle.hdt_tool.specs.declared.request.Action.{Action}
-use Rattle.hdt_tool.specs.declared.request.Action.TheVariants.{ListStrings, Nth, Number, Find, Search, Exists, Count, Rewrite}
+use Rattle.hdt_tool.specs.declared.request.Action.TheVariants.{ListStrings, Nth, Number, Find, Search, Exists, Count, Rewrite, SkipNonTerms, VerifyTerms}
 use Rattle.hdt_tool.specs.declared.request.OutputFormat.{OutputFormat}
 use Rattle.hdt_wire.specs.declared.role.Role.{Role}
 use Rattle.hdt_dict.specs.Ids.{string_at_id}
 use Rattle.hdt_file.specs.File.{GraphParts, IsLayout}
 use Rattle.hdt_dict.specs.Dictionary.{role_strings}
-use Rattle.hdt_tool.specs.Outcomes.{HasBadBlockSize, HasNonTerm, IsFaultOfBytes, ReadsAll, IsFaultOfInput, HasBadOptions}
+use Rattle.hdt_tool.specs.Outcomes.{HasBadBlockSize, HasNonTerm, IsFaultOfBytes, Prints, ReadsAll, Reports, IsFaultOfInput, HasBadOptions}
 use Rattle.hdt_tool.specs.ListedStrings.{IsListFault}
 use Rattle.hdt_tool.specs.TermCounts.{IsCountFault}
 use Rattle.hdt_tool.specs.TriplesText.{GivenStrings, IsFindFault, LacksMatch, find_format}
@@ -79,3 +79,9 @@ no_listing role prefix terms bytes graph fault encoded h = absurd h
 -- A search without a match.
 pub no_match : (given : GivenStrings) (bytes : List ℕ) (graph : GraphParts) (e : ToolFault) → IsLayout bytes graph → (e ≡ NoMatch) × LacksMatch graph given → IsFaultOfBytes (Exists given) bytes e
 no_match given bytes graph e encoded h = subst (IsFaultOfBytes (Exists given) bytes) (sym h.0) (record { graph = graph; encoded = encoded; holds = h.1 })
+
+-- What a command that counts prints is its output.
+pub reported : (action : Action) (bytes text : List ℕ) (n : ℕ) → Reports action bytes text n → Prints action bytes text
+reported (SkipNonTerms given count most) bytes text n h = (n, h)
+reported (VerifyTerms tight) bytes text n h = (n, h)
+reported action bytes text n h = absurd h

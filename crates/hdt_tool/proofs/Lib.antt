@@ -1,5 +1,6 @@
 mod Refusals
 mod OutPaths
+mod SplitRuns
 mod ParsedArguments
 mod StringLines
 mod CountLines
@@ -12,3 +13,6 @@ mod InfoLaws
 mod Triples
 pub mod Statuses
 pub mod Dialogues
+mod TermReportLaws
+mod ReportLaws
+mod FindActions

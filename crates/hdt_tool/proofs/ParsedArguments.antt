@@ -14,7 +14,8 @@ use Rattle.hdt_build.specs.declared.options.Options.{Options}
 use Rattle.hdt_tool.specs.declared.request.Action.{Action}
 use Rattle.hdt_tool.specs.declared.request.Request.{Request}
 use Rattle.hdt_tool.specs.declared.request.Action.TheVariants as action
-use Rattle.hdt_tool.specs.CommandLine.{IsFileAction, IsRequestOf, IsFileRequest, IsMakeRequest, IsMakeAction, Refutes, RefutesOrInvalidTerm, IsFaultOfArgument, IsInvalidTerm, IsInvalidPart, IsUsed, HasInvalidTerm, ParsesAsOptions, IsFaultOfTerm}
+use Rattle.hdt_tool.specs.declared.split_options.SplitOptions.{SplitOptions}
+use Rattle.hdt_tool.specs.CommandLine.{IsFileAction, IsSplitCommand, IsRequestOf, IsFileRequest, IsMakeRequest, IsMakeAction, Refutes, RefutesOrInvalidTerm, IsFaultOfArgument, IsInvalidTerm, IsInvalidPart, IsUsed, HasInvalidTerm, ParsesAsOptions, IsFaultOfTerm}
 use Rattle.hdt_tool.specs.ErrorLines.{argument_name}
 
 some_is : (a b : Text) → Some a ≡ Some b → a ≡ b
@@ -91,6 +92,8 @@ none_on_file name rows is (action.Count role top raw) h = other_name name _ is h
 none_on_file name rows is (action.Answer options) h = other_name name _ is h.named refl refl
 none_on_file name rows is (action.Build options) h = h
 none_on_file name rows is (action.Rewrite b) h = h
+none_on_file name rows is (action.SkipNonTerms given count most) (inl h) = other_name name _ is h.named refl refl
+none_on_file name rows is (action.SkipNonTerms given count most) (inr h) = other_name name _ is h.0 refl refl
 none_on_file name rows is (action.Find given numbers) (inr h) = other_name name _ is h.0 refl refl
 none_on_file name rows is a h = other_name name _ is h.0 refl refl
 
@@ -107,3 +110,20 @@ pub of_others : (name : Text) (rows : List Row) (r : UsageFault) → name ≢ co
     → RefutesOrInvalidTerm ((request : Request) × IsRequestOf name rows request) (HasInvalidTerm name rows) r
 of_others name rows r build rewrite h =
     map_refutes _ _ _ _ r (λ w. (w.0, ⊎_elim (λ file. file) (λ asks. absurd (only_these name rows w.0.action build rewrite asks.action)) w.1)) (λ word fault m. m) h
+
+-- ---- `split`
+
+-- `split` needs its options.
+pub split_needed : (name : Text) (rows : List Row) → name ≡ codes "split" → (a : Action) → IsFileAction name rows a → (options : SplitOptions) × IsSplitCommand rows options
+split_needed name rows is action.Head h = differ name _ _ is h refl
+split_needed name rows is (action.Find given numbers) (inl h) = differ name _ _ is h.named refl
+split_needed name rows is (action.Find given numbers) (inr h) = differ name _ _ is h.0 refl
+split_needed name rows is (action.SkipNonTerms given count most) (inl h) = differ name _ _ is h.named refl
+split_needed name rows is (action.SkipNonTerms given count most) (inr h) = differ name _ _ is h.0 refl
+split_needed name rows is (action.Search given format most) h = differ name _ _ is h.named refl
+split_needed name rows is (action.Count role top raw) h = differ name _ _ is h.named refl
+split_needed name rows is (action.Answer options) h = differ name _ _ is h.named refl
+split_needed name rows is (action.Build options) h = absurd h
+split_needed name rows is (action.Rewrite b) h = absurd h
+split_needed name rows is (action.Split options) h = (options, h.1)
+split_needed name rows is a h = differ name _ _ is h.0 refl

@@ -13,7 +13,7 @@ use Rattle.hdt_tool.specs.declared.request.Action.TheVariants as action
 use Rattle.hdt_tool.specs.declared.request.Invocation.{Invocation}
 use Rattle.hdt_tool.specs.declared.request.Request.{Request}
 use Rattle.hdt_usage.specs.CommandTable.{Names, AreRoles, table}
-use Rattle.hdt_tool.specs.CommandLine.{IsRequestOfCommand, IsRequestOf, IsFileAction, IsMakeAction, HasInvalidTerm, HasInvalidTermIn, ParsesAsFlag, ParsesToRequest, ParsesToInvocation, IsExplainCommand, IsExplanation, IsFaultOfCommand, IsRefused, IsRefusedWithRoles, IsFaultOfKind, RefutesOrInvalidTerm, clap_errors}
+use Rattle.hdt_tool.specs.CommandLine.{IsRequestOfCommand, IsRequestOf, IsFileAction, IsMakeAction, HasInvalidTerm, HasInvalidTermIn, ParsesAsFlag, ParsesAsProgress, ParsesToRequest, ParsesToInvocation, IsExplainCommand, IsExplanation, IsFaultOfCommand, IsRefused, IsRefusedWithRoles, IsFaultOfKind, RefutesOrInvalidTerm, clap_errors}
 use Rattle.hdt_tool.proofs.ParsedArguments.{differ}
 
 -- The errors of `clap` for the built commands are those for the table.
@@ -59,13 +59,13 @@ told names roles words e fault h k = with names roles words fault (told_by names
 
 -- The command line gives the invocation that the command's arguments give.
 pub wanted : (names : Names) → AreRoles names → (words : List Text) (name : Text) (rows : List Row) (r : Result Invocation UsageFault) → clap_errors names words ≡ [] → subcommand_of (table names) words ≡ Some (name, rows)
-    → IfOk r (λ asked. IsRequestOf name rows asked.request) → IfOk r (λ asked. ParsesAsFlag (one_of (codes "progress") rows) asked.progress)
+    → IfOk r (λ asked. IsRequestOf name rows asked.request) → IfOk r (λ asked. ParsesAsProgress rows asked.progress)
     → IfOk r (λ asked. ParsesAsFlag (one_of (codes "verbose") rows) asked.verbose) → IfOk r (ParsesToInvocation words)
 wanted names roles words name rows (Ok asked) none is h progress verbose = record {
   names = names;
   roles = roles;
   wanted = record { taken = none; asked = subst (λ (o : Option (Text × List Row)). IsRequestOfCommand o asked.request) (sym is) h };
-  progress = subst (λ (o : Option (Text × List Row)). IsSomeAnd o (λ command. ParsesAsFlag (one_of (codes "progress") command.1) asked.progress)) (sym is) progress;
+  progress = subst (λ (o : Option (Text × List Row)). IsSomeAnd o (λ command. ParsesAsProgress command.1 asked.progress)) (sym is) progress;
   verbose = subst (λ (o : Option (Text × List Row)). IsSomeAnd o (λ command. ParsesAsFlag (one_of (codes "verbose") command.1) asked.verbose)) (sym is) verbose;
 }
 wanted names roles words name rows (Err fault) none is h progress verbose = tt
@@ -87,6 +87,8 @@ none_on_file : (name : Text) (rows : List Row) → name ≡ codes "explain" → 
 none_on_file name rows is action.Head h = differ name _ _ is h refl
 none_on_file name rows is (action.Find given numbers) (inl h) = differ name _ _ is h.named refl
 none_on_file name rows is (action.Find given numbers) (inr h) = differ name _ _ is h.0 refl
+none_on_file name rows is (action.SkipNonTerms given count most) (inl h) = differ name _ _ is h.named refl
+none_on_file name rows is (action.SkipNonTerms given count most) (inr h) = differ name _ _ is h.0 refl
 none_on_file name rows is (action.Search given format most) h = differ name _ _ is h.named refl
 none_on_file name rows is (action.Count role top raw) h = differ name _ _ is h.named refl
 none_on_file name rows is (action.Answer options) h = differ name _ _ is h.named refl

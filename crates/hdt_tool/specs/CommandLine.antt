@@ -1,10 +1,11 @@
 -- Which request a command line is, in terms of what `clap` finds in it. An entry is the text that `clap` has for an
 -- argument, if any.
-use Rattle.std.specs.Prelude.{◌≡◌, ◌≢◌, ◌<◌, ◌^◌, ◌⊎◌, List, ℕ, Bool, true, false, [], ◌∷◌, Option, Some, None, codes, string_bytes, option_map, IsSomeAnd}
+use Rattle.std.specs.Prelude.{◌≡◌, ◌≢◌, ◌<◌, ◌≤◌, ◌==◌, ◌^◌, ◌⊎◌, List, ℕ, Bool, true, false, [], ◌∷◌, ◌++◌, Option, Some, None, codes, map, string_bytes, option_map, unwrap_or, IsSomeAnd}
+use Rattle.std.specs.List.{before_first, after_first}
 use Rattle.std.specs.Str.Parse.{IsNumeral, digits_value, without_leading_plus}
 use Rattle.std.specs.declared.alloc.Global.{Global}
 use Rattle.std.specs.declared.vec.Vec.{Vec}
-use Rattle.clap.specs.Words.{Row, Text, Kinds, IsAmong, first_of, one_of, fault_of, subcommand_of}
+use Rattle.clap.specs.Words.{Row, Text, Kinds, IsAmong, all_of, first_of, one_of, fault_of, subcommand_of}
 use Rattle.clap.specs.declared.error.kind.ErrorKind.{ErrorKind}
 use Rattle.clap.specs.declared.error.kind.ErrorKind.TheVariants as kind
 use Rattle.hdt_build.specs.declared.options.Options.{Options}
@@ -23,10 +24,18 @@ use Rattle.hdt_tool.specs.declared.request.Action.TheVariants as action
 use Rattle.hdt_tool.specs.declared.request.AnswerOptions.{AnswerOptions}
 use Rattle.hdt_tool.specs.declared.request.OutputFormat.{OutputFormat}
 use Rattle.hdt_tool.specs.declared.request.OutputFormat.TheVariants.{NTriples, Numbers, Count}
+use Rattle.hdt_tool.specs.declared.request.Progress.{Progress}
+use Rattle.hdt_tool.specs.declared.request.Progress.TheVariants.{Automatic, Lines, Off}
 use Rattle.hdt_tool.specs.declared.request.Request.{Request}
+use Rattle.hdt_tool.specs.declared.split_options.BlankNodes.{BlankNodes}
+use Rattle.hdt_tool.specs.declared.split_options.BlankNodes.TheVariants as blank
+use Rattle.hdt_tool.specs.declared.split_options.SplitOptions.{SplitOptions}
+use Rattle.hdt_tool.specs.declared.split_options.SplitOutput.{SplitOutput}
+use Rattle.hdt_tool.specs.declared.split_options.SplitOutput.TheVariants as split
 use Rattle.hdt_tool.specs.ErrorLines.{argument_name}
 use Rattle.hdt_usage.specs.CommandTable.{Names, AreRoles, role_name, table}
 use Rattle.hdt_usage.specs.Explanations.{explanation_of}
+use Rattle.hdt_tool.specs.TermReports.{kept_format}
 use Rattle.hdt_tool.specs.TriplesText.{GivenStrings, find_format}
 
 -- ---- arguments
@@ -64,6 +73,14 @@ ParsesAsStringOrAny raw entry (Some x) = (entry ≢ Some (codes "?")) × ParsesA
 abbrev pub ParsesAsFlag : Option Text → Bool → Type 0
 ParsesAsFlag entry flag = (IsUsed entry → flag ≡ true) × (IsUnused entry → flag ≡ false)
 
+-- `--no-progress` turns progress off. Without it `--progress` asks for lines, and without both it is shown by itself; so it
+-- is for a command that has no option `--progress`.
+pub record ParsesAsProgress (rows : List Row) (progress : Progress) : Type 0 where
+  pub off : IsUsed (one_of (codes "no-progress") rows) → progress ≡ Off
+  pub lines : IsUnused (one_of (codes "no-progress") rows) → IsUsed (one_of (codes "progress") rows) → progress ≡ Lines
+  pub shown : IsUnused (one_of (codes "no-progress") rows) → IsUnused (one_of (codes "progress") rows) → progress ≡ Automatic
+  pub none : IsUnused (one_of (codes "no-progress") rows) → one_of (codes "progress") rows ≡ None → progress ≡ Automatic
+
 -- The argument S, P or O means this string, or any.
 abbrev pub ParsesAsPart : List Row → TermArgument → Option (Vec ℕ Global) → Type 0
 ParsesAsPart rows word x = ParsesAsStringOrAny (one_of (codes "raw") rows) (first_of (argument_name word) rows) x
@@ -91,31 +108,55 @@ pub record ParsesAsFormat (rows : List Row) (format : OutputFormat) : Type 0 whe
   pub numbers : IsUnused (one_of (codes "count") rows) → IsUsed (one_of (codes "numbers") rows) → format ≡ Numbers
   pub lines : IsUnused (one_of (codes "count") rows) → IsUnused (one_of (codes "numbers") rows) → format ≡ NTriples
 
--- The command is `find`, without `--quiet`, and with this pattern, output format and limit.
+-- `--skip-non-terms` is given, or not. With `--numbers` it has no effect.
+abbrev pub SkipsIn : List Row → Bool → Type 0
+SkipsIn rows skip = ParsesAsFlag (one_of (codes "skip-non-terms") rows) skip
+
+abbrev pub SkipsNothing : List Row → OutputFormat → Type 0
+SkipsNothing rows format = SkipsIn rows false ⊎ (format ≡ Numbers)
+
+-- The command is `find`, without `--quiet`, and with this pattern, output format and limit. It skips nothing.
 pub record IsFindCommand (name : Text) (rows : List Row) (given : GivenStrings) (format : OutputFormat) (most : Option ℕ) : Type 0 where
   pub named : name ≡ codes "find"
   pub words : ParsesAsPattern rows given
   pub format_is : ParsesAsFormat rows format
   pub most_is : ParsesAsNumberOrNone (one_of (codes "most") rows) most
   pub not_quiet : ParsesAsFlag (one_of (codes "quiet") rows) false
+  pub skips_nothing : SkipsNothing rows format
+
+-- The command is `find` with `--skip-non-terms`, and with this pattern, output format and limit.
+pub record IsSkippingFind (name : Text) (rows : List Row) (given : GivenStrings) (count : Bool) (most : Option ℕ) : Type 0 where
+  pub named : name ≡ codes "find"
+  pub words : ParsesAsPattern rows given
+  pub format_is : ParsesAsFormat rows (kept_format count)
+  pub most_is : ParsesAsNumberOrNone (one_of (codes "most") rows) most
+  pub not_quiet : ParsesAsFlag (one_of (codes "quiet") rows) false
+  pub skips : SkipsIn rows true
 
 -- The command is `find`, with `--quiet` and this pattern.
 abbrev pub IsQuietFindCommand : Text → List Row → GivenStrings → Type 0
 IsQuietFindCommand name rows given = (name ≡ codes "find") × ParsesAsPattern rows given × ParsesAsFlag (one_of (codes "quiet") rows) true
 
--- The action finds triples by these strings, in this output format and up to this limit.
-abbrev pub IsFindAction : GivenStrings → OutputFormat → Option ℕ → Action → Type 0
-IsFindAction given format most (action.Find strings numbers) = (strings ≡ given) × (find_format numbers ≡ format) × (most ≡ None)
-IsFindAction given format most (action.Search strings other n) = (strings ≡ given) × (other ≡ format) × (n ≡ most)
-IsFindAction given format most action = ⊥
+-- The action finds triples by these strings, in this output format and up to this limit, and skips some if that is
+-- asked.
+abbrev pub IsFindAction : GivenStrings → OutputFormat → Option ℕ → Bool → Action → Type 0
+IsFindAction given format most skip (action.Find strings numbers) = (strings ≡ given) × (find_format numbers ≡ format) × (most ≡ None) × ((skip ≡ false) ⊎ (format ≡ Numbers))
+IsFindAction given format most skip (action.Search strings other n) = (strings ≡ given) × (other ≡ format) × (n ≡ most) × ((skip ≡ false) ⊎ (format ≡ Numbers))
+IsFindAction given format most skip (action.SkipNonTerms strings count n) = (strings ≡ given) × (kept_format count ≡ format) × (n ≡ most) × (skip ≡ true)
+IsFindAction given format most skip action = ⊥
 
 -- The command is `dump`: all triples, in N-Triples.
-abbrev pub IsDumpCommand : Text → GivenStrings → Bool → Type 0
-IsDumpCommand name given numbers = (name ≡ codes "dump") × (given ≡ None ∷ None ∷ None ∷ []) × (numbers ≡ false)
+abbrev pub IsDumpCommand : Text → List Row → GivenStrings → Bool → Type 0
+IsDumpCommand name rows given numbers = (name ≡ codes "dump") × (given ≡ None ∷ None ∷ None ∷ []) × (numbers ≡ false) × SkipsIn rows false
 
--- The command is `verify`, with or without `--tight`.
-abbrev pub IsVerifyCommand : Text → List Row → Bool → Type 0
-IsVerifyCommand name rows tight = (name ≡ codes "verify") × ParsesAsFlag (one_of (codes "tight") rows) tight
+-- The command is `dump` with `--skip-non-terms`.
+abbrev pub IsSkippingDump : Text → List Row → GivenStrings → Bool → Option ℕ → Type 0
+IsSkippingDump name rows given count most = (name ≡ codes "dump") × (given ≡ None ∷ None ∷ None ∷ []) × (count ≡ false) × (most ≡ None) × SkipsIn rows true
+
+-- The command is `verify`, with or without `--tight` and `--terms`.
+abbrev pub IsVerifyCommand : Text → List Row → Bool → Bool → Type 0
+IsVerifyCommand name rows tight terms = (name ≡ codes "verify") × ParsesAsFlag (one_of (codes "tight") rows) tight
+    × ParsesAsFlag (one_of (codes "terms") rows) terms
 
 -- The command is `info`, with or without `--json`.
 abbrev pub IsInfoCommand : Text → List Row → Bool → Type 0
@@ -136,11 +177,52 @@ pub record IsCountCommand (name : Text) (rows : List Row) (role : Role) (top : O
   pub top_is : ParsesAsNumberOrNone (one_of (codes "top") rows) top
   pub raw_is : ParsesAsFlag (one_of (codes "raw") rows) raw
 
+-- The command is `lint`, with or without `--keep`, and with this limit.
+abbrev pub IsLintCommand : Text → List Row → Bool → Option ℕ → Type 0
+IsLintCommand name rows keep most = (name ≡ codes "lint") × ParsesAsFlag (one_of (codes "keep") rows) keep × ParsesAsNumberOrNone (one_of (codes "most") rows) most
+
+-- ---- `split`
+
+-- A number of parts is 1 to 65,536.
+abbrev pub IsPartCount : ℕ → Type 0
+IsPartCount n = (1 ≤ n) × (n ≤ 65536)
+
+abbrev pub ParsesAsPartCount : List Row → ℕ → Type 0
+ParsesAsPartCount rows n = ParsesAsNumber 64 (one_of (codes "parts") rows) n × IsPartCount n
+
+-- The text is K/N, for the part k, from 0, of n parts.
+abbrev pub IsPartOfParts : Text → ℕ → ℕ → Type 0
+IsPartOfParts text k n = IsDecimalOf 32 (before_first (λ b. b == 47) text) k × IsDecimalOf 32 (after_first (λ b. b == 47) text) n × (k < n) × (n ≤ 65536)
+
+abbrev pub ParsesAsBlankNodes : Option Text → Option BlankNodes → Type 0
+ParsesAsBlankNodes entry None = entry ≡ None
+ParsesAsBlankNodes entry (Some blank.One) = entry ≡ Some (codes "one")
+ParsesAsBlankNodes entry (Some blank.Apart) = entry ≡ Some (codes "apart")
+
+-- The values of PATHS.
+abbrev pub further_paths : List Row → List Text
+further_paths rows = unwrap_or (all_of (codes "PATHS") rows) []
+
+-- Without `--of`, the last path is that of the folder, and the others are inputs; with it, all are inputs.
+abbrev pub ParsesAsSplitOutput : List Row → List Text → ℕ → SplitOutput → Type 0
+ParsesAsSplitOutput rows others n (split.Folder path) = (first_of (codes "of") rows ≡ None) × ParsesAsPartCount rows n
+    × (further_paths rows ≡ others ++ string_bytes path ∷ [])
+ParsesAsSplitOutput rows others n (split.Part k) = IsSomeAnd (first_of (codes "of") rows) (λ text. IsPartOfParts text k n)
+    × (first_of (codes "parts") rows ≡ None) × (further_paths rows ≡ others)
+
+-- The arguments give these options of `split`.
+pub record IsSplitCommand (rows : List Row) (options : SplitOptions) : Type 0 where
+  pub output : ParsesAsSplitOutput rows (map string_bytes options.others.items) options.parts options.output
+  pub blank_nodes : ParsesAsBlankNodes (first_of (codes "blank-nodes") rows) options.blank_nodes
+
+-- ---- commands
+
 -- The command's name and arguments give this action, which writes no file.
 abbrev pub IsFileAction : Text → List Row → Action → Type 0
 IsFileAction name rows action.Head = name ≡ codes "head"
-IsFileAction name rows action.Verify = IsVerifyCommand name rows false
-IsFileAction name rows action.VerifyTight = IsVerifyCommand name rows true
+IsFileAction name rows action.Verify = IsVerifyCommand name rows false false
+IsFileAction name rows action.VerifyTight = IsVerifyCommand name rows true false
+IsFileAction name rows (action.VerifyTerms tight) = IsVerifyCommand name rows tight true
 IsFileAction name rows (action.Info json) = IsInfoCommand name rows json
 IsFileAction name rows (action.Strings role) = (name ≡ codes "strings") × (first_of (codes "ROLE") rows ≡ Some (role_name role))
     × ParsesAsFlag (one_of (codes "terms") rows) false × (first_of (codes "prefix") rows ≡ None)
@@ -150,13 +232,16 @@ IsFileAction name rows (action.Nth role n) = (name ≡ codes "string") × (first
     × ParsesAsNumber 64 (one_of (codes "N") rows) n
 IsFileAction name rows (action.Number role x) = (name ≡ codes "number") × (first_of (codes "ROLE") rows ≡ Some (role_name role))
     × ParsesAsString (one_of (codes "raw") rows) (first_of (codes "TERM") rows) x.items
-IsFileAction name rows (action.Find given numbers) = IsFindCommand name rows given (find_format numbers) None ⊎ IsDumpCommand name given numbers
+IsFileAction name rows (action.Find given numbers) = IsFindCommand name rows given (find_format numbers) None ⊎ IsDumpCommand name rows given numbers
 IsFileAction name rows (action.Search given format most) = IsFindCommand name rows given format most
+IsFileAction name rows (action.SkipNonTerms given count most) = IsSkippingFind name rows given count most ⊎ IsSkippingDump name rows given count most
 IsFileAction name rows (action.Exists given) = IsQuietFindCommand name rows given
 IsFileAction name rows (action.Count role top raw) = IsCountCommand name rows role top raw
 IsFileAction name rows (action.Answer options) = IsAnswerCommand name rows options
+IsFileAction name rows (action.Lint keep most) = IsLintCommand name rows keep most
 IsFileAction name rows (action.Build options) = ⊥
 IsFileAction name rows (action.Rewrite b) = ⊥
+IsFileAction name rows (action.Split options) = (name ≡ codes "split") × IsSplitCommand rows options
 
 -- The request reads FILE and writes no file.
 pub record IsFileRequest (name : Text) (rows : List Row) (request : Request) : Type 0 where
@@ -203,12 +288,12 @@ pub record ParsesToRequest (words : List Text) (request : Request) : Type 0 wher
   pub roles : AreRoles names
   pub wanted : ParsesWithRoles names words request
 
--- The command line gives this request, and `--progress` and `--verbose` if these are true.
+-- The command line gives this request, this way to report progress, and `--verbose` if that is true.
 pub record ParsesToInvocation (words : List Text) (asked : Invocation) : Type 0 where
   pub names : Names
   pub roles : AreRoles names
   pub wanted : ParsesWithRoles names words asked.request
-  pub progress : IsSomeAnd (subcommand_of (table names) words) (λ command. ParsesAsFlag (one_of (codes "progress") command.1) asked.progress)
+  pub progress : IsSomeAnd (subcommand_of (table names) words) (λ command. ParsesAsProgress command.1 asked.progress)
   pub verbose : IsSomeAnd (subcommand_of (table names) words) (λ command. ParsesAsFlag (one_of (codes "verbose") command.1) asked.verbose)
 
 -- The explanation of the argument REASON is this text.

@@ -4,6 +4,7 @@ pub mod StringsText
 pub mod ListedStrings
 pub mod TriplesText
 pub mod TermCounts
+pub mod TermReports
 pub mod Verdict
 pub mod InfoText
 pub mod Info
@@ -11,7 +12,9 @@ pub mod BuiltText
 pub mod Outcomes
 pub mod Dialogue
 pub mod Faults
+pub mod Linting
 pub mod ErrorLines
 pub mod CommandLine
+pub mod SplitInputs
 pub mod Status
 pub mod Inside

@@ -1,6 +1,7 @@
 -- What a run of a command does: its output, the file that it makes, and its errors. In these definitions `before` and
 -- `after` are what the reader still yields before and after the run.
-use Rattle.std.specs.Prelude.{◌≡◌, ◌≢◌, ◌<◌, ◌≤◌, ◌+◌, ℕ, List, [], ◌++◌, length, take, Option, None, Some, Err, MatchOption}
+use Rattle.std.specs.Prelude.{◌≡◌, ◌≢◌, ◌<◌, ◌≤◌, ◌+◌, ℕ, true, false, List, [], ◌++◌, length, take, Option, None, Some, Err, MatchOption, codes}
+use Rattle.std.specs.Fmt.{decimal}
 use Rattle.std.specs.Io.KnownBytes.{Appends, Consumes, IsAtEnd}
 use Rattle.hdt_wire.specs.declared.fault.Fault.{Fault}
 use Rattle.hdt_file.specs.Head.{HeadParts, IsHead, decode_head}
@@ -22,7 +23,7 @@ use Rattle.hdt_tool.specs.declared.fault.ToolFault.{ToolFault}
 use Rattle.hdt_tool.specs.declared.fault.ToolFault.TheVariants.{File, Input, NoTriples, NoSuchTerm, NoMatch, NoSuchNumber, NotATerm, BadOptions, Read, Write, OutOfMemory}
 use Rattle.hdt_tool.specs.declared.request.Action.{Action}
 use Rattle.hdt_tool.specs.declared.request.Request.{Request}
-use Rattle.hdt_tool.specs.declared.request.Action.TheVariants.{Head, Verify, VerifyTight, Strings, ListStrings, Nth, Number, Find, Search, Exists, Count, Answer, Build, Rewrite, Info}
+use Rattle.hdt_tool.specs.declared.request.Action.TheVariants.{Head, Verify, VerifyTight, VerifyTerms, Strings, ListStrings, Nth, Number, Find, Search, SkipNonTerms, Exists, Count, Answer, Build, Rewrite, Info, Lint, Split}
 use Rattle.hdt_tool.specs.BuiltText.{built_line, rewritten_line}
 use Rattle.hdt_tool.specs.HeadText.{head_text}
 use Rattle.hdt_tool.specs.ErrorLines.{fault_status}
@@ -31,6 +32,7 @@ use Rattle.hdt_tool.specs.Verdict.{verdict}
 use Rattle.hdt_tool.specs.StringsText.{string_lines, PrintsString, PrintsNumber}
 use Rattle.hdt_tool.specs.ListedStrings.{HasUnlistedTerm, PrintsListed}
 use Rattle.hdt_tool.specs.TermCounts.{IsCountFault, PrintsCounts}
+use Rattle.hdt_tool.specs.TermReports.{PrintsKept, PrintsTermVerdict, kept_format}
 use Rattle.hdt_tool.specs.TriplesText.{HasMatch, HasNonTermIn, LacksMatch, PrintsFound, find_format}
 use Rattle.hdt_dict.specs.Dictionary.{role_strings}
 
@@ -57,7 +59,19 @@ pub record IsLayoutWith (bytes : List ℕ) (Holds : GraphParts → Type 0) : Typ
 abbrev pub HasRoleStringsWith : List ℕ → Role → (List (List ℕ) → Type 0) → Type 0
 HasRoleStringsWith bytes role Holds = IsLayoutWith bytes (λ graph. Holds (role_strings graph.dictionary role))
 
--- The text is the output of a command for these input bytes, if it writes no file.
+-- The command counts the triples that `--skip-non-terms` leaves out, or the strings that `verify --terms` prints.
+abbrev pub CountsNonTerms : Action → Type 0
+CountsNonTerms (SkipNonTerms given count most) = Unit {0}
+CountsNonTerms (VerifyTerms tight) = Unit {0}
+CountsNonTerms action = ⊥
+
+-- The text is the output of such a command for these input bytes, and n is this number.
+abbrev pub Reports : Action → List ℕ → List ℕ → ℕ → Type 0
+Reports (SkipNonTerms given count most) bytes text n = IsLayoutWith bytes (λ graph. PrintsKept graph given (kept_format count) most text n)
+Reports (VerifyTerms tight) bytes text n = PrintsTermVerdict tight bytes text n
+Reports action bytes text n = ⊥
+
+-- The text is the output of a command for these input bytes, if it writes no file and has one output: `lint` has two.
 abbrev pub Prints : Action → List ℕ → List ℕ → Type 0
 Prints Head bytes text = PrintsHead bytes text
 Prints Verify bytes text = IsLayoutWith bytes (λ graph. text ≡ verdict (graph_counts graph))
@@ -69,11 +83,15 @@ Prints (Nth role n) bytes text = HasRoleStringsWith bytes role (λ strings. Prin
 Prints (Number role x) bytes text = HasRoleStringsWith bytes role (λ strings. PrintsNumber strings x.items text)
 Prints (Find given numbers) bytes text = IsLayoutWith bytes (λ graph. PrintsFound graph given (find_format numbers) None text)
 Prints (Search given format most) bytes text = IsLayoutWith bytes (λ graph. PrintsFound graph given format most text)
+Prints (SkipNonTerms given count most) bytes text = (n : ℕ) × Reports (SkipNonTerms given count most) bytes text n
+Prints (VerifyTerms tight) bytes text = (n : ℕ) × Reports (VerifyTerms tight) bytes text n
 Prints (Exists given) bytes text = IsLayoutWith bytes (λ graph. HasMatch graph given × (text ≡ []))
 Prints (Count role top raw) bytes text = IsLayoutWith bytes (λ graph. PrintsCounts graph role top raw text)
 Prints (Answer options) bytes text = IsLayoutWith bytes (λ graph. text ≡ [])
+Prints (Lint keep most) bytes text = text ≡ []
 Prints (Build options) bytes text = ⊥
 Prints (Rewrite b) bytes text = ⊥
+Prints (Split options) bytes text = text ≡ []
 
 -- The command reads a file and writes none.
 abbrev pub IsReadOnly : Action → Type 0
@@ -101,7 +119,11 @@ HasOut request = MatchOption request.out (IsReadOnly request.action) (λ path. M
 abbrev pub HasFault : Action → List ℕ → Fault → Type 0
 HasFault Head bytes fault = decode_head bytes ≡ Err fault
 HasFault VerifyTight bytes fault = decode_tight_graph bytes ≡ Err fault
+HasFault (VerifyTerms true) bytes fault = decode_tight_graph bytes ≡ Err fault
+HasFault (VerifyTerms false) bytes fault = decode_graph bytes ≡ Err fault
 HasFault (Build options) bytes fault = ⊥
+HasFault (Lint keep most) bytes fault = ⊥
+HasFault (Split options) bytes fault = ⊥
 HasFault action bytes fault = decode_graph bytes ≡ Err fault
 
 -- The role has no string with the ID to look up.
@@ -225,6 +247,24 @@ pub record WritesOutputPrefix (action : Action) (before after written_before wri
   pub yields : Yields action before after text built
   pub within : n < length text
   pub written : Appends written_before written_after (take n text)
+
+-- ---- commands that count what has no form in N-Triples
+
+-- The writer has gained the command's output for the input, and n is its number.
+pub record WritesReport (action : Action) (before after written_before written_after : Option (List ℕ)) (n : ℕ) : Type 0 where
+  pub text : List ℕ
+  pub reports : ReadsWith before after (λ bytes. Reports action bytes text n)
+  pub written : Appends written_before written_after text
+
+-- The same for a run that takes ownership of its reader.
+pub record ReportsOwned (action : Action) (before written_before written_after : Option (List ℕ)) (n : ℕ) : Type 0 where
+  pub after : Option (List ℕ)
+  pub writes : WritesReport action before after written_before written_after n
+
+-- The message on standard error with the number of strings or triples.
+abbrev pub counted_line : Action → ℕ → List ℕ
+counted_line (VerifyTerms tight) n = codes "hdt: strings that are not terms: " ++ decimal n
+counted_line action n = codes "hdt: triples skipped: " ++ decimal n
 
 -- ---- errors of replacing a file
 

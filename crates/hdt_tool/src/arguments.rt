@@ -1,14 +1,14 @@
 //! Reading the arguments that `clap` has parsed.
-ghost use Rattle.std.specs.Prelude.{◌≡◌, ◌≢◌, ℕ, List, [], IfOk, IfErr, IsSome, MatchOption, Some, codes, option_map, string_bytes};
+ghost use Rattle.std.specs.Prelude.{◌≡◌, ◌≢◌, ℕ, List, [], false, IfOk, IfErr, IsSome, MatchOption, None, Some, codes, option_map, string_bytes};
 ghost use Rattle.clap.specs.Words.{first_of, one_of, found_of, rows_of};
 ghost use Rattle.hdt_build.specs.declared.options.Options.{Options};
 ghost use Rattle.hdt_wire.specs.declared.role.Role.{Role};
-ghost use Rattle.hdt_tool.specs.CommandLine.{IsFileAction, Refutes, RefutesOrInvalidTerm, IsFaultOfArgument, IsInvalidTerm, IsInvalidPart, IsStringOfText, IsExplanation, IsFindAction, HasInvalidTerm, ParsesAsFlag, ParsesAsFormat, ParsesAsNumber, ParsesAsNumberOrNone, ParsesAsOptions, ParsesAsString, ParsesAsPart, IsFaultOfTerm, ParsesAsPrefix};
+ghost use Rattle.hdt_tool.specs.CommandLine.{IsFileAction, Refutes, RefutesOrInvalidTerm, IsFaultOfArgument, IsInvalidTerm, IsInvalidPart, IsStringOfText, IsExplanation, IsFindAction, HasInvalidTerm, ParsesAsFlag, ParsesAsFormat, ParsesAsProgress, ParsesAsNumber, ParsesAsNumberOrNone, ParsesAsOptions, ParsesAsString, ParsesAsPart, IsFaultOfTerm, ParsesAsPrefix};
 ghost use Rattle.hdt_tool.specs.ErrorLines.{argument_name};
 ghost use Rattle.hdt_usage.specs.CommandTable.{role_name};
 
 use crate::fault::{TermArgument, UsageFault};
-use crate::request::{Action, AnswerOptions, OutputFormat};
+use crate::request::{Action, AnswerOptions, OutputFormat, Progress};
 use clap::ArgMatches;
 use hdt_build::Options;
 use hdt_dict::Role;
@@ -31,7 +31,7 @@ pub(crate) fn argument_text<'m>(matches: &ArgMatches<'m>, id: &str) -> Option<&'
 }
 
 /// The value of an argument, if it is a decimal u64.
-fn optional_number<'m>(matches: &ArgMatches<'m>, id: &str) -> Option<u64>
+pub(crate) fn optional_number<'m>(matches: &ArgMatches<'m>, id: &str) -> Option<u64>
     ensures { ParsesAsNumberOrNone (one_of id.now (rows_of (found_of matches.now))) result }
 {
     matches.get_one(id)
@@ -39,9 +39,23 @@ fn optional_number<'m>(matches: &ArgMatches<'m>, id: &str) -> Option<u64>
 
 /// Whether a flag is given.
 pub(crate) fn has_flag<'m>(matches: &ArgMatches<'m>, id: &str) -> bool
-    ensures { ParsesAsFlag (one_of id.now (rows_of (found_of matches.now))) result }
+    ensures given { ParsesAsFlag (one_of id.now (rows_of (found_of matches.now))) result }
+    ensures none { one_of id.now (rows_of (found_of matches.now)) ≡ None → result ≡ false }
 {
     matches.get_flag(id)
+}
+
+/// How progress is reported.
+pub(crate) fn progress_option<'m>(matches: &ArgMatches<'m>) -> Progress
+    ensures { ParsesAsProgress (rows_of (found_of matches.now)) result }
+{
+    if has_flag(matches, "no-progress") {
+        Progress::Off
+    } else if has_flag(matches, "progress") {
+        Progress::Lines
+    } else {
+        Progress::Automatic
+    }
 }
 
 /// The text of a required argument.
@@ -121,11 +135,15 @@ pub(crate) fn build_options<'m>(
     })
 }
 
-/// The action of `verify`, with or without `--tight`.
+/// The action of `verify`, with or without `--tight` and `--terms`.
 pub(crate) fn verify_action<'m>(matches: &ArgMatches<'m>) -> Action
     ensures { IsFileAction (codes "verify") (rows_of (found_of matches.now)) result }
 {
-    if has_flag(matches, "tight") {
+    let tight = has_flag(matches, "tight");
+    if has_flag(matches, "terms") {
+        return Action::VerifyTerms { tight };
+    }
+    if tight {
         return Action::VerifyTight;
     }
     Action::Verify
@@ -233,11 +251,26 @@ fn format_option<'m>(matches: &ArgMatches<'m>) -> OutputFormat
     OutputFormat::NTriples
 }
 
-/// The action of `find`: `Search` only if there is a count or a limit.
-fn find_or_search(given: [Option<Vec<u8>>; 3], format: OutputFormat, most: Option<u64>) -> Action
-    ensures { IsFindAction given format most result }
+/// The action of `find`: `Search` only if there is a count or a limit, `SkipNonTerms` if some are skipped.
+fn find_or_search(
+    given: [Option<Vec<u8>>; 3],
+    format: OutputFormat,
+    most: Option<u64>,
+    skip: bool,
+) -> Action
+    ensures { IsFindAction given format most skip result }
 {
     match (format, most) {
+        (OutputFormat::NTriples, _) if skip => Action::SkipNonTerms {
+            given,
+            count: false,
+            most,
+        },
+        (OutputFormat::Count, _) if skip => Action::SkipNonTerms {
+            given,
+            count: true,
+            most,
+        },
         (OutputFormat::NTriples, None) => Action::Find {
             given,
             numbers: false,
@@ -268,7 +301,26 @@ pub(crate) fn find_action<'m>(alloc: Global, matches: &ArgMatches<'m>) -> Result
         return Ok(Action::Exists { given });
     }
     let most = optional_number(matches, "most");
-    Ok(find_or_search(given, format_option(matches), most))
+    let skip = has_flag(matches, "skip-non-terms");
+    Ok(find_or_search(given, format_option(matches), most, skip))
+}
+
+/// The action of `dump`, with or without `--skip-non-terms`.
+pub(crate) fn dump_action<'m>(matches: &ArgMatches<'m>) -> Action
+    ensures { IsFileAction (codes "dump") (rows_of (found_of matches.now)) result }
+{
+    let given = [None, None, None];
+    if has_flag(matches, "skip-non-terms") {
+        return Action::SkipNonTerms {
+            given,
+            count: false,
+            most: None,
+        };
+    }
+    Action::Find {
+        given,
+        numbers: false,
+    }
 }
 
 /// The bytes of a text; none without a text.
@@ -330,6 +382,16 @@ pub(crate) fn answer_action<'m>(
         raw: has_flag(matches, "raw"),
         longest: required_u32(alloc, matches, "longest-request")?,
     }))
+}
+
+/// The action of `lint`.
+pub(crate) fn lint_action<'m>(matches: &ArgMatches<'m>) -> Action
+    ensures { IsFileAction (codes "lint") (rows_of (found_of matches.now)) result }
+{
+    Action::Lint {
+        keep: has_flag(matches, "keep"),
+        most: optional_number(matches, "most"),
+    }
 }
 
 const NO_SUCH_REASON: &str =

@@ -5,6 +5,7 @@ ghost use Rattle.hdt_tool.specs.Outcomes.{IsReplaceFault};
 
 use crate::fault::{ToolFault, file_fault};
 use crate::files::move_off_std_streams;
+use crate::session::Session;
 use hdt_wire::Counted;
 use std::alloc::Global;
 use std::env;
@@ -59,7 +60,7 @@ fn clock_number(rt: &HostRuntime) -> u64 {
 }
 
 /// A random number, or the time if the system has none.
-fn random_number(rt: &HostRuntime) -> u64 {
+pub(crate) fn random_number(rt: &HostRuntime) -> u64 {
     let mut bytes = [0u8; 8];
     match rt.fill_bytes(&mut bytes) {
         Ok(()) => u64::from_le_bytes(bytes),
@@ -120,15 +121,19 @@ fn apply_permissions(
 }
 
 /// Writes and syncs a new file.
-fn write_and_sync<F: Write + OpenFile + Drop>(file: F, built: &[u8]) -> Result<F, ToolFault>
+fn write_and_sync<F: Write + OpenFile + Drop>(
+    session: &Session<'_>,
+    file: F,
+    built: &[u8],
+) -> Result<F, ToolFault>
     // The file has gained the bytes.
     ensures whole { IfOk result (λ whole. Appends (F.contents file) (F.contents whole) built.now) }
     ensures fault { IfErr result (λ e. (n : ℕ) × (e ≡ ToolFault.Write n) × (n ≤ length built.now)) }
 {
-    let mut file = Counted::new(file);
+    let mut file = Counted::new(session.watch_file(file));
     file.write_all(built).map_err(ToolFault::Write)?;
-    let whole = file.into_inner();
-    match whole.sync_all() {
+    let whole = file.into_inner().into_inner();
+    match session.note(whole.sync_all()) {
         Ok(()) => Ok(whole),
         Err(_) => Err(ToolFault::Write(built.len() as u64)),
     }
@@ -138,6 +143,7 @@ fn write_and_sync<F: Write + OpenFile + Drop>(file: F, built: &[u8]) -> Result<F
 /// is complete and synced. A crash between the last two steps leaves its permissions too strict, never too wide.
 fn write_and_rename(
     rt: &HostRuntime,
+    session: &Session<'_>,
     file: File,
     new: &str,
     name: &str,
@@ -146,11 +152,13 @@ fn write_and_rename(
 ) -> Result<(), ToolFault>
     ensures fault { IfErr result (IsReplaceFault built.now) }
 {
-    let file = move_off_std_streams(file).map_err(|error| file_fault(&error, ToolFault::Write(0)))?;
-    let whole = write_and_sync(file, built)?;
-    let permitted = apply_permissions(rt, &whole, name, usual);
+    let moved = session.note(move_off_std_streams(file));
+    let file = moved.map_err(|error| file_fault(&error, ToolFault::Write(0)))?;
+    let whole = write_and_sync(session, file, built)?;
+    let permitted = session.note(apply_permissions(rt, &whole, name, usual));
     permitted.map_err(|error| file_fault(&error, ToolFault::Write(built.len() as u64)))?;
-    fs::rename(rt, new, name).map_err(|_| ToolFault::Write(built.len() as u64))
+    let renamed = session.note(fs::rename(rt, new, name));
+    renamed.map_err(|_| ToolFault::Write(built.len() as u64))
 }
 
 /// The folder of a path, and the file name.
@@ -179,14 +187,19 @@ fn begin_replacement(
 /// error the old file is unchanged, and the new one is removed. The process changes into the folder, so that the
 /// temporary name fits for the longest paths. (Contracts cannot describe the file system; tests/test_filesystem.py
 /// checks this.)
-pub(crate) fn replace_file(rt: &HostRuntime, path: &PathBuf, built: &[u8]) -> Result<(), ToolFault>
+pub(crate) fn replace_file(
+    rt: &HostRuntime,
+    session: &Session<'_>,
+    path: &PathBuf,
+    built: &[u8],
+) -> Result<(), ToolFault>
     // Out of memory, or a write error after at most all of the bytes.
     ensures fault { IfErr result (IsReplaceFault built.now) }
 {
     let (folder, name) = split_path(path.as_str());
-    let begun = begin_replacement(rt, folder, name);
+    let begun = session.note(begin_replacement(rt, folder, name));
     let (usual, file, new) = begun.map_err(|error| file_fault(&error, ToolFault::Write(0)))?;
-    let outcome = write_and_rename(rt, file, new.as_str(), name, usual, built);
+    let outcome = write_and_rename(rt, session, file, new.as_str(), name, usual, built);
     if outcome.is_err() {
         let _ = fs::remove_file(rt, new.as_str());
     }

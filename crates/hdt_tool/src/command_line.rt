@@ -2,18 +2,19 @@
 ghost use Rattle.std.specs.Prelude.{◌≡◌, IfOk, IfErr, codes, map};
 ghost use Rattle.clap.specs.Words.{found_of, one_of, rows_of, kind_of};
 ghost use Rattle.hdt_tool.specs.Outcomes.{HasOut};
-ghost use Rattle.hdt_tool.specs.CommandLine.{IsFileAction, IsRequestOf, IsFileRequest, IsMakeRequest, IsMakeAction, Refutes, RefutesOrInvalidTerm, IsRefused, HasInvalidTerm, IsFaultOfCommand, ParsesAsFlag, IsFaultOfKind, ParsesToRequest, ParsesToInvocation};
+ghost use Rattle.hdt_tool.specs.CommandLine.{IsFileAction, IsRequestOf, IsFileRequest, IsMakeRequest, IsMakeAction, Refutes, RefutesOrInvalidTerm, IsRefused, HasInvalidTerm, IsFaultOfCommand, ParsesAsFlag, ParsesAsProgress, IsFaultOfKind, ParsesToRequest, ParsesToInvocation};
 ghost use Rattle.hdt_usage.specs.CommandTable.{AreRoles};
 ghost use Rattle.hdt_tool.specs.declared.request.Action.{Action};
 ghost use Rattle.hdt_tool.specs.declared.request.Request.{Request};
 
 use crate::arguments::{
-    answer_action, argument_text, build_options, count_action, explanation, find_action, has_flag,
-    info_action, missing, required_block_size, required_id, required_role, required_term,
-    required_text, strings_action, verify_action,
+    answer_action, argument_text, build_options, count_action, dump_action, explanation,
+    find_action, has_flag, info_action, lint_action, missing, progress_option, required_block_size,
+    required_id, required_role, required_term, required_text, strings_action, verify_action,
 };
 use crate::fault::{TermArgument, UsageFault};
 use crate::request::{Action, Invocation, Request};
+use crate::split_arguments::split_action;
 use clap::error::ErrorKind;
 use clap::{ArgMatches, Error};
 use hdt_usage::make_command_table;
@@ -39,7 +40,7 @@ fn usage_fault(alloc: Global, error: &Error) -> UsageFault
     }
 }
 
-/// The action of a command that reads FILE.
+/// The action of a command that writes no file.
 fn file_action<'m>(
     alloc: Global,
     name: &str,
@@ -62,15 +63,14 @@ fn file_action<'m>(
         "find" => find_action(alloc, matches),
         "count" => count_action(alloc, matches),
         "answer" => answer_action(alloc, matches),
-        "dump" => Ok(Action::Find {
-            given: [None, None, None],
-            numbers: false,
-        }),
+        "lint" => Ok(lint_action(matches)),
+        "split" => split_action(alloc, matches),
+        "dump" => Ok(dump_action(matches)),
         _ => Err(missing(alloc)),
     }
 }
 
-/// The request of a command that reads FILE.
+/// The request of a command that reads FILE and writes no file.
 fn file_request<'m>(
     alloc: Global,
     name: &str,
@@ -142,14 +142,14 @@ fn invocation_of<'m>(
     matches: &ArgMatches<'m>,
 ) -> Result<Invocation, UsageFault>
     ensures ok { IfOk result (λ invocation. IsRequestOf name.now (rows_of (found_of matches.now)) invocation.request) }
-    ensures progress { IfOk result (λ invocation. ParsesAsFlag (one_of (codes "progress") (rows_of (found_of matches.now))) invocation.progress) }
+    ensures progress { IfOk result (λ invocation. ParsesAsProgress (rows_of (found_of matches.now)) invocation.progress) }
     ensures verbose { IfOk result (λ invocation. ParsesAsFlag (one_of (codes "verbose") (rows_of (found_of matches.now))) invocation.verbose) }
     ensures refused { IfErr result (RefutesOrInvalidTerm ((request : Request) × IsRequestOf name.now (rows_of (found_of matches.now)) request)
         (HasInvalidTerm name.now (rows_of (found_of matches.now)))) }
 {
     Ok(Invocation {
         request: request_of(alloc, name, matches)?,
-        progress: has_flag(matches, "progress"),
+        progress: progress_option(matches),
         verbose: has_flag(matches, "verbose"),
     })
 }
@@ -161,7 +161,7 @@ fn invocation_or_explanation<'m>(
     matches: &ArgMatches<'m>,
 ) -> Result<Invocation, UsageFault>
     ensures ok { IfOk result (λ invocation. IsRequestOf name.now (rows_of (found_of matches.now)) invocation.request) }
-    ensures progress { IfOk result (λ invocation. ParsesAsFlag (one_of (codes "progress") (rows_of (found_of matches.now))) invocation.progress) }
+    ensures progress { IfOk result (λ invocation. ParsesAsProgress (rows_of (found_of matches.now)) invocation.progress) }
     ensures verbose { IfOk result (λ invocation. ParsesAsFlag (one_of (codes "verbose") (rows_of (found_of matches.now))) invocation.verbose) }
     ensures refused { IfErr result (IsFaultOfCommand name.now (rows_of (found_of matches.now))) }
 {
@@ -211,9 +211,10 @@ pub fn parse_words<'a>(alloc: Global, words: &'a [&'a str]) -> Result<Request, U
     Ok(parse_invocation(alloc, words)?.request)
 }
 
-/// Parses a command line as [`parse_words`] does, and also `--progress` and `--verbose`.
+/// Parses a command line as [`parse_words`] does, and also `--progress`, `--no-progress` and `--verbose`.
 pub fn parse_invocation<'a>(alloc: Global, words: &'a [&'a str]) -> Result<Invocation, UsageFault>
-    // The request is that of `parse_words`; `progress` and `verbose` are true exactly if these options are given.
+    // The request is that of `parse_words`; `progress` is what these options say, and `verbose` is true exactly if it is
+    // given.
     ensures ok { IfOk result (ParsesToInvocation (map (λ word. word.now) words.now)) }
     ensures out { IfOk result (λ invocation. HasOut invocation.request) }
     ensures refused { IfErr result (IsRefused (map (λ word. word.now) words.now)) }

@@ -2,15 +2,17 @@
 
 use crate::command_line::term_given;
 use crate::error_lines::role_name;
+use crate::error_strings::{put_term_string, put_unused_string};
 use crate::fault::{TermArgument, ToolFault};
 use crate::files::is_stdin_path;
-use crate::request::Invocation;
+use crate::request::{Action, Invocation, Request};
+use crate::session::Session;
 use hdt_terms::{LineFault, TermFault};
 use hdt_usage::{
     DOCUMENT_HINTS, Explanation, FILE_HINTS, file_explanations, first_named, hint_in, marked_line,
-    put_shown, term_hint, text_explanations,
+    prefix_hint, put_shown, term_hint, text_explanations,
 };
-use hdt_wire::{Fault, put_decimal};
+use hdt_wire::{Fault, Reason, put_decimal};
 use std::alloc::Global;
 use std::env;
 use std::fs::{self, File};
@@ -23,26 +25,46 @@ pub(crate) struct Subject<'a> {
     input: &'a str,
     /// The path of the output, or a name for standard output.
     output: &'a str,
-    /// Whether more lines are wanted than the message.
-    is_verbose: bool,
+    /// What is known besides the error.
+    pub(crate) session: &'a Session<'a>,
 }
 
 impl<'a> Subject<'a> {
-    /// The files of an invocation. More lines are wanted with `--verbose` and on a terminal.
-    pub(crate) fn of(rt: &HostRuntime, invocation: &'a Invocation) -> Subject<'a> {
+    /// The files of an invocation, and its session.
+    pub(crate) fn of(invocation: &'a Invocation, session: &'a Session<'a>) -> Subject<'a> {
         Subject {
             input: invocation.request.file.as_str(),
             output: match &invocation.request.out {
                 Some(path) => path.as_str(),
                 None => "standard output",
             },
-            is_verbose: invocation.verbose || is_terminal(rt),
+            session,
+        }
+    }
+}
+
+impl<'a> Subject<'a> {
+    /// The same with another input.
+    pub(crate) fn of_input(self, path: &'a str) -> Subject<'a> {
+        Subject {
+            input: path,
+            output: self.output,
+            session: self.session,
+        }
+    }
+
+    /// The same with another output.
+    pub(crate) fn of_output(self, path: &'a str) -> Subject<'a> {
+        Subject {
+            input: self.input,
+            output: path,
+            session: self.session,
         }
     }
 }
 
 /// Whether standard error is a terminal.
-fn is_terminal(rt: &HostRuntime) -> bool {
+pub(crate) fn is_terminal(rt: &HostRuntime) -> bool {
     let errors = rt.stderr();
     errors.is_terminal()
 }
@@ -54,7 +76,7 @@ const USUAL_WIDTH: usize = 80;
 const FRONT: usize = 16;
 
 /// The width of the terminal in columns, if COLUMNS has it.
-fn width(rt: &HostRuntime) -> usize {
+pub(crate) fn width(rt: &HostRuntime) -> usize {
     match env::var(rt, "COLUMNS") {
         Ok(text) => text.as_str().parse::<usize>().unwrap_or(USUAL_WIDTH),
         Err(_) => USUAL_WIDTH,
@@ -62,7 +84,7 @@ fn width(rt: &HostRuntime) -> usize {
 }
 
 /// Opens a regular file or a folder; `None` for other files, which may not be read again.
-fn reopen(rt: &HostRuntime, path: &str) -> io::Result<Option<File>> {
+pub(crate) fn reopen(rt: &HostRuntime, path: &str) -> io::Result<Option<File>> {
     if is_stdin_path(path) {
         return Ok(None);
     }
@@ -86,14 +108,27 @@ fn front(rt: &HostRuntime, path: &str) -> io::Result<Vec<u8>> {
     Ok(bytes)
 }
 
-/// The line with a number, from 1, of a regular file, without its line end. Empty if there is none, or if a line before
-/// it ends with a carriage return alone.
-fn line_at(rt: &HostRuntime, path: &str, number: u64) -> io::Result<Vec<u8>> {
-    let mut line = Vec::new(rt.alloc());
-    let Some(file) = reopen(rt, path)? else {
+/// The line of the input with a number, from 1, without its line end: of a regular file, or of what is kept of another
+/// one. Empty if there is none, or if a line before it ends with a carriage return alone.
+fn line_at(rt: &HostRuntime, subject: Subject<'_>, number: u64) -> io::Result<Vec<u8>> {
+    if let Some(line) = subject.session.kept_line(number) {
         return Ok(line);
-    };
-    let mut reader = BufReader::new(rt.alloc(), file)?;
+    }
+    match reopen(rt, subject.input)? {
+        Some(file) => nth_line(rt.alloc(), BufReader::new(rt.alloc(), file)?, number),
+        None => Ok(Vec::new(rt.alloc())),
+    }
+}
+
+/// The line with a number, from 1, of a reader, without its line end. Empty if there is none, or if a line before it ends
+/// with a carriage return alone.
+pub(crate) fn nth_line<R: BufRead + Drop>(
+    alloc: Global,
+    reader: R,
+    number: u64,
+) -> io::Result<Vec<u8>> {
+    let mut reader = reader;
+    let mut line = Vec::new(alloc);
     'lines: for _ in 0..number {
         line.clear();
         if reader.read_until(b'\n', &mut line)? == 0 {
@@ -119,7 +154,7 @@ fn drop_line_end(line: &mut Vec<u8>) {
 }
 
 /// Appends an indented path.
-fn put_path(path: &str, out: &mut Vec<u8>) -> io::Result<()> {
+pub(crate) fn put_path(path: &str, out: &mut Vec<u8>) -> io::Result<()> {
     out.extend_from_slice(b"  ")?;
     Ok(put_shown(path.as_bytes(), out)?)
 }
@@ -172,10 +207,15 @@ fn put_reason(alloc: Global, error: &io::Error, out: &mut Vec<u8>) -> io::Result
     Ok(())
 }
 
-/// Appends a path and the system's reason for which it cannot be read, if it still has one.
-fn put_read_error(rt: &HostRuntime, path: &str, out: &mut Vec<u8>) -> io::Result<()> {
+/// Appends a path and the system's reason for which it cannot be read or written, if there is one.
+fn put_system_error(
+    rt: &HostRuntime,
+    session: &Session<'_>,
+    path: &str,
+    out: &mut Vec<u8>,
+) -> io::Result<()> {
     put_path(path, out)?;
-    if let Err(error) = front(rt, path) {
+    if let Some(error) = session.error() {
         put_reason(rt.alloc(), &error, out)?;
     }
     Ok(out.push(b'\n')?)
@@ -199,20 +239,20 @@ fn put_marked_line(
 /// Appends the place of an error in a document, its line with a mark, the error's meaning, and a hint.
 fn put_line_error(
     rt: &HostRuntime,
-    path: &str,
+    subject: Subject<'_>,
     fault: LineFault,
     out: &mut Vec<u8>,
 ) -> io::Result<()> {
-    put_path(path, out)?;
+    put_path(subject.input, out)?;
     out.push(b':')?;
     put_decimal(fault.line, out)?;
     out.push(b':')?;
     put_decimal(fault.column, out)?;
     out.push(b'\n')?;
-    let line = line_at(rt, path, fault.line)?;
+    let line = line_at(rt, subject, fault.line)?;
     put_marked_line(rt, &line, fault.column, out)?;
     put_explanation(rt.alloc(), fault.reason.name(), text_explanations(), out)?;
-    let hint = hint_in(&front(rt, path)?, DOCUMENT_HINTS);
+    let hint = hint_in(&front(rt, subject.input)?, DOCUMENT_HINTS);
     put_text(
         if hint.is_empty() {
             hint_in(&line, DOCUMENT_HINTS)
@@ -229,9 +269,15 @@ fn put_file_error(rt: &HostRuntime, path: &str, fault: Fault, out: &mut Vec<u8>)
     out.extend_from_slice(b": byte ")?;
     put_decimal(fault.place, out)?;
     out.push(b'\n')?;
+    if matches!(fault.reason, Reason::Unused) {
+        put_unused_string(rt, path, fault.place, out)?;
+    }
     put_explanation(rt.alloc(), fault.reason.name(), file_explanations(), out)?;
     put_text(hint_in(&front(rt, path)?, FILE_HINTS), out)
 }
+
+/// What it means that a document has no triples.
+const NO_TRIPLES: &str = "The input is empty, or has only blank lines and comments.";
 
 /// Appends the lines for an error.
 fn put_context(
@@ -241,19 +287,22 @@ fn put_context(
     out: &mut Vec<u8>,
 ) -> io::Result<()> {
     match fault {
-        ToolFault::Read => put_read_error(rt, subject.input, out),
-        ToolFault::Write(_) => put_path_line(subject.output, out),
-        ToolFault::Input(fault) => put_line_error(rt, subject.input, *fault, out),
+        ToolFault::Read => put_system_error(rt, subject.session, subject.input, out),
+        ToolFault::Write(_) => put_system_error(rt, subject.session, subject.output, out),
+        ToolFault::Input(fault) => put_line_error(rt, subject, *fault, out),
         ToolFault::File(fault) => put_file_error(rt, subject.input, *fault, out),
         ToolFault::NotATerm(role, number) => {
             put_path_line(subject.input, out)?;
+            put_term_string(rt, subject.input, *role, *number, out)?;
             let role = role_name(*role);
             let text = format!(in rt.alloc(); "hdt string FILE {role} {number} prints the string")?;
             put_text(text.as_str(), out)
         }
-        ToolFault::NoTriples | ToolFault::NoSuchTerm | ToolFault::NoSuchNumber => {
-            put_path_line(subject.input, out)
+        ToolFault::NoTriples => {
+            put_path_line(subject.input, out)?;
+            put_text(NO_TRIPLES, out)
         }
+        ToolFault::NoSuchTerm | ToolFault::NoSuchNumber => { put_path_line(subject.input, out) }
         ToolFault::OutOfMemory | ToolFault::BadOptions | ToolFault::NoMatch => Ok(()),
     }
 }
@@ -304,11 +353,31 @@ pub(crate) fn print_term_context(
 
 /// Prints the lines for an error to standard error, if they are wanted.
 pub(crate) fn print_context(rt: &HostRuntime, subject: Subject<'_>, fault: &ToolFault) {
-    if !subject.is_verbose {
+    if !subject.session.is_verbose() {
         return;
     }
     let mut text = Vec::new(rt.alloc());
     let _ = put_context(rt, subject, fault, &mut text);
+    let mut errors = rt.stderr();
+    let _ = errors.write_all(&text);
+}
+
+/// Prints a hint to standard error, if `strings --prefix` printed nothing and the prefix looks like a term's, and if hints
+/// are wanted.
+pub(crate) fn print_prefix_hint(
+    rt: &HostRuntime,
+    subject: Subject<'_>,
+    request: &Request,
+    status: u8,
+) {
+    let Action::ListStrings { prefix, .. } = &request.action else {
+        return;
+    };
+    if status != 0 || subject.session.has_output() || !subject.session.is_verbose() {
+        return;
+    }
+    let mut text = Vec::new(rt.alloc());
+    let _ = put_text(prefix_hint(prefix), &mut text);
     let mut errors = rt.stderr();
     let _ = errors.write_all(&text);
 }

@@ -2,8 +2,9 @@
 ghost use Rattle.std.specs.Prelude.{◌≡◌, ◌↔◌, ◌≤ℤ◌, pos, IfOk, IfSome, IsTrue};
 
 use crate::progress::ProgressReader;
+use crate::session::Session;
 use std::fs::{self, File, OpenFile};
-use std::io::{self, ErrorKind, Read, Stderr, Stdin};
+use std::io::{self, ErrorKind, Read, Stdin};
 use std::os::fd::AsRawFd;
 use std::os::unix::fs::{FileTypeExt, MetadataExt};
 
@@ -58,7 +59,7 @@ pub(crate) enum Source {
 impl Source {
     /// Opens the file at a path. Standard input is used as it is: opening its path again fails for a socket, or for a
     /// pipe of another user.
-    fn open(rt: &HostRuntime, path: &str) -> io::Result<Source> {
+    pub(crate) fn open(rt: &HostRuntime, path: &str) -> io::Result<Source> {
         if is_stdin_path(path) {
             return Ok(Source::Input(rt.stdin()));
         }
@@ -87,20 +88,19 @@ impl Read for Source {
     }
 }
 
-/// Opens the input, with progress reports to standard error if `progress`.
-pub(crate) fn open_input(
+/// Opens the input, which reports its progress.
+pub(crate) fn open_input<'a>(
     rt: &HostRuntime,
     path: &str,
-    progress: bool,
-) -> io::Result<ProgressReader<Source, Stderr>> {
-    let source = Source::open(rt, path)?;
+    session: &'a Session<'a>,
+) -> io::Result<ProgressReader<'a, Source>> {
+    let source = session.note(Source::open(rt, path))?;
     let size = source.size(rt);
-    let report_to = if progress { Some(rt.stderr()) } else { None };
-    Ok(ProgressReader::new(rt.alloc(), source, report_to, size))
+    Ok(ProgressReader::new(source, session, size))
 }
 
 /// The length of the input in bytes, as the initial capacity of a buffer; 0 if it is unknown.
-pub(crate) fn known_size(input: &io::Result<ProgressReader<Source, Stderr>>) -> usize {
+pub(crate) fn known_size(input: &io::Result<ProgressReader<'_, Source>>) -> usize {
     match input {
         Ok(input) => input.size().unwrap_or(0) as usize,
         Err(_) => 0,

@@ -9,7 +9,8 @@ use crate::atomic_replace::{replace_file, replaceable_path};
 use crate::commands::{build_file, read_all, rewrite_file, write_text};
 use crate::fault::{ToolFault, file_fault};
 use crate::files::{STDERR_PATH, STDOUT_PATH, create, is_same_file, known_size, open_input};
-use crate::request::{Action, Invocation, Request};
+use crate::request::{Action, Request};
+use crate::session::{Phase, Session};
 use hdt_wire::Counted;
 use std::alloc::Global;
 use std::io::{self, ErrorKind, Read, Write};
@@ -81,9 +82,14 @@ fn write_file_and_line<F: Write, W: Write>(
 }
 
 /// Prints the new file to standard output, and its line to standard error, unless both are the same file.
-fn print_built(rt: &HostRuntime, built: &[u8], line: &[u8]) -> Result<(), ToolFault> {
-    let mut out = Counted::new(io::writer(rt));
-    let mut errors = Counted::new(rt.stderr());
+fn print_built(
+    rt: &HostRuntime,
+    session: &Session<'_>,
+    built: &[u8],
+    line: &[u8],
+) -> Result<(), ToolFault> {
+    let mut out = Counted::new(session.watch(io::writer(rt)));
+    let mut errors = Counted::new(session.watch(rt.stderr()));
     let line = if is_same_file(rt, STDOUT_PATH, STDERR_PATH) {
         &[]
     } else {
@@ -94,14 +100,21 @@ fn print_built(rt: &HostRuntime, built: &[u8], line: &[u8]) -> Result<(), ToolFa
 
 /// Writes the new file to a path, and prints its line. A regular file is replaced atomically; anything else is written
 /// in place.
-fn write_to_path(rt: &HostRuntime, path: &str, built: &[u8], line: &[u8]) -> Result<(), ToolFault> {
-    let mut out = Counted::new(io::writer(rt));
-    let replaced = replaceable_path(rt, rt.alloc(), path);
+fn write_to_path(
+    rt: &HostRuntime,
+    session: &Session<'_>,
+    path: &str,
+    built: &[u8],
+    line: &[u8],
+) -> Result<(), ToolFault> {
+    let mut out = Counted::new(session.watch(io::writer(rt)));
+    let replaced = session.note(replaceable_path(rt, rt.alloc(), path));
     if let Some(path) = replaced.map_err(|error| file_fault(&error, ToolFault::Write(0)))? {
-        replace_file(rt, &path, built)?;
+        replace_file(rt, session, &path, built)?;
         return write_text(line, &mut out);
     }
-    let mut file = check_created(create(rt, path))?;
+    let created = session.note(create(rt, path));
+    let mut file = check_created(created.map(|file| session.watch(file)))?;
     write_file_and_line(&mut file, built, &mut out, line)
 }
 
@@ -109,19 +122,19 @@ fn write_to_path(rt: &HostRuntime, path: &str, built: &[u8], line: &[u8]) -> Res
 /// last. If `path` leads to standard output, the file is printed there.
 pub(crate) fn make_file_at(
     rt: &HostRuntime,
-    invocation: &Invocation,
+    session: &Session<'_>,
+    request: &Request,
     path: &str,
 ) -> Result<(), ToolFault>
-    requires { MakesFile invocation.now.request.action }
+    requires { MakesFile request.now.action }
 {
-    // No progress if standard error is the output file, which must hold nothing else.
-    let progress = invocation.progress && !is_same_file(rt, path, STDERR_PATH);
-    let input = open_input(rt, invocation.request.file.as_str(), progress);
+    let input = open_input(rt, request.file.as_str(), session);
     let mut built = Vec::new(rt.alloc());
     let capacity = known_size(&input);
-    let line = make_file(rt.alloc(), &invocation.request, input, capacity, &mut built)?;
+    let line = make_file(rt.alloc(), request, input, capacity, &mut built)?;
+    session.show_phase(Phase::Writing, built.len() as u64);
     if is_same_file(rt, path, STDOUT_PATH) {
-        return print_built(rt, &built, &line);
+        return print_built(rt, session, &built, &line);
     }
-    write_to_path(rt, path, &built, &line)
+    write_to_path(rt, session, path, &built, &line)
 }

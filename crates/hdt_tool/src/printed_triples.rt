@@ -85,7 +85,7 @@ fn count_layout_matches(layout: &Layout<'_>, pattern: Option<Pattern>, most: Opt
 }
 
 /// The pattern with the IDs of the given strings; `None` if one of them is not in its role.
-fn find_pattern(layout: &Layout<'_>, given: &[Option<Vec<u8>>; 3]) -> Option<Pattern>
+pub(crate) fn find_pattern(layout: &Layout<'_>, given: &[Option<Vec<u8>>; 3]) -> Option<Pattern>
     ensures { Finds (layout_view layout.now) given.now (matches_if_given (layout_view layout.now) result) }
 {
     let [subject, predicate, object] = given;

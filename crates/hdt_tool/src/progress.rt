@@ -1,58 +1,42 @@
 //! Reporting the progress of reading.
-ghost use Rattle.std.specs.Prelude.{◌≡◌, IfOk, string_bytes};
-ghost use Rattle.hdt_tool.specs.Inside.ProgressText.{progress_line};
+ghost use Rattle.std.specs.Prelude.{◌≡◌};
 
-use hdt_wire::Counted;
-use std::alloc::{AllocError, Global};
-use std::io::{self, Read, Write};
+use crate::session::{STEP, Session};
+use std::io::{self, Read};
 
-/// The minimum number of bytes between two lines.
-const STEP: u64 = 16 << 20;
+/// The maximum number of reports if the size is known, not counting the last one.
+const REPORTS: u64 = 100;
 
-/// The maximum number of lines if the size is known, not counting the last one.
-const LINES: u64 = 100;
-
-/// A reader that reports to a writer how many bytes it has read, at intervals and at the end. It ignores failures of
-/// the writer, and lack of memory for a line.
+/// A reader that reports how many bytes it has read, at intervals and at the end. It also keeps what the lines after an
+/// error message need: the system's error, and the lines of a document that cannot be read again.
 #[derive(Drop)]
-pub(crate) struct ProgressReader<R: Read, W: Write> {
-    alloc: Global,
+pub(crate) struct ProgressReader<'a, R: Read> {
     input: R,
-    report_to: Option<Counted<W>>,
+    session: &'a Session<'a>,
     /// The length of the input in bytes, if it is known.
     size: Option<u64>,
     read: u64,
-    /// The number of bytes at which the next line is due.
+    /// The number of bytes at which the next report is due.
     next: u64,
+    has_ended: bool,
 }
 
-/// A line with the number of bytes read, and the length of the input if it is known.
-fn format_progress(alloc: Global, read: u64, size: Option<u64>) -> Result<String, AllocError>
-    ensures { IfOk result (λ line. string_bytes line ≡ progress_line read size) }
-{
-    match size {
-        Some(size) => format!(in alloc; "hdt: read {read} of {size} bytes\n"),
-        None => format!(in alloc; "hdt: read {read} bytes\n"),
-    }
-}
-
-impl<R: Read, W: Write + Drop> ProgressReader<R, W> {
-    /// A reader of `input`, of `size` bytes if that is known. Without a writer `report_to` it reports nothing.
+impl<'a, R: Read> ProgressReader<'a, R> {
+    /// A reader of `input`, of `size` bytes if that is known.
     pub(crate) fn new(
-        alloc: Global,
         input: R,
-        report_to: Option<W>,
+        session: &'a Session<'a>,
         size: Option<u64>,
-    ) -> ProgressReader<R, W>
+    ) -> ProgressReader<'a, R>
         ensures { result.input ≡ input }
     {
         ProgressReader {
-            alloc,
             input,
-            report_to: report_to.map(Counted::new),
+            session,
             size,
             read: 0,
             next: STEP,
+            has_ended: false,
         }
     }
 
@@ -63,37 +47,34 @@ impl<R: Read, W: Write + Drop> ProgressReader<R, W> {
         self.size
     }
 
-    /// Writes a line, and determines when the next one is due.
+    /// Reports the bytes read, and determines when the next report is due.
     fn report(&mut self)
         ensures { self.new.input ≡ self.old.input }
     {
-        let step = self.size.unwrap_or(0) / LINES;
+        let step = self.size.unwrap_or(0) / REPORTS;
         self.next = self.read.saturating_add(step.max(STEP));
-        let Some(out) = &mut self.report_to else {
-            return;
-        };
-        if let Ok(line) = format_progress(self.alloc, self.read, self.size) {
-            let _ = out.write_all(line.as_bytes());
-        }
+        self.session.show_reading(self.read, self.size);
     }
 
-    /// Counts bytes read into a buffer of `buffer_len` bytes, and writes a line if one is due. Nothing is reported
-    /// after the end.
+    /// Counts bytes read into a buffer of `buffer_len` bytes, and reports them if that is due. Nothing is reported after
+    /// the end.
     fn count(&mut self, bytes: usize, buffer_len: usize)
         ensures { self.new.input ≡ self.old.input }
     {
         self.read = self.read.saturating_add(bytes as u64);
-        let ended = bytes == 0 && buffer_len > 0;
-        if ended || self.read >= self.next {
-            self.report();
+        if self.has_ended {
+            return;
         }
-        if ended {
-            self.report_to = None;
+        if bytes == 0 && buffer_len > 0 {
+            self.has_ended = true;
+            self.session.show_read(self.read, self.size);
+        } else if self.read >= self.next {
+            self.report();
         }
     }
 }
 
-impl<R: Read, W: Write + Drop> Read for ProgressReader<R, W> {
+impl<R: Read> Read for ProgressReader<'_, R> {
     ghost use Rattle.std.specs.Io.{ReadsAtMost};
     ghost use Rattle.std.specs.Io.KnownBytes.{ReadConsumes};
 
@@ -104,8 +85,12 @@ impl<R: Read, W: Write + Drop> Read for ProgressReader<R, W> {
         ensures bound { ReadsAtMost result buf.new }
         ensures bytes { ReadConsumes (R.remaining self.old.input) (R.remaining self.new.input) result buf.new }
     {
-        let count = self.input.read(buf)?;
-        self.count(count, buf.len());
-        Ok(count)
+        let session = self.session;
+        let outcome = session.note(self.input.read(buf));
+        if let Ok(count) = outcome {
+            session.keep(buf, count);
+            self.count(count, buf.len());
+        }
+        outcome
     }
 }

@@ -15,6 +15,7 @@ use crate::printed_reports::{head_text, verdict};
 use crate::printed_strings::{number_text, print_strings, string_text};
 use crate::printed_triples::{check_match, triples_text};
 use crate::request::{Action, OutputFormat};
+use crate::term_reports::report_text;
 use hdt_dict::Role;
 use hdt_file::{Layout, open, read_head, verify, verify_tight};
 use hdt_wire::Counted;
@@ -49,7 +50,7 @@ fn find_format(numbers: bool) -> OutputFormat
 }
 
 /// The output of a command that prints one complete text, for the bytes of a file. `answer` without requests prints
-/// nothing.
+/// nothing, and neither do `lint` and `split`, which have several outputs.
 pub(crate) fn file_text(alloc: Global, action: &Action, bytes: &[u8]) -> Result<Vec<u8>, ToolFault>
     requires { PrintsText action.now }
     ensures ok { IfOk result (λ text. Prints action.now bytes.now text.items) }
@@ -59,6 +60,10 @@ pub(crate) fn file_text(alloc: Global, action: &Action, bytes: &[u8]) -> Result<
         Action::Head => Ok(head_text(alloc, &read_head(bytes)?)?),
         Action::Verify => Ok(verdict(alloc, verify(alloc, bytes)?)?),
         Action::VerifyTight => Ok(verdict(alloc, verify_tight(alloc, bytes)?)?),
+        Action::VerifyTerms { .. } | Action::SkipNonTerms { .. } => {
+            let (text, _count) = report_text(alloc, action, bytes)?;
+            Ok(text)
+        }
         Action::Info { json } => file_info_text(alloc, *json, bytes),
         Action::ListStrings {
             role,
@@ -92,6 +97,7 @@ pub(crate) fn file_text(alloc: Global, action: &Action, bytes: &[u8]) -> Result<
             Layout::read(alloc, bytes)?;
             Ok(Vec::new(alloc))
         }
+        Action::Lint { .. } | Action::Split(_) => Ok(Vec::new(alloc)),
         Action::Strings(_) | Action::Build(_) | Action::Rewrite(_) => unreachable!(),
     }
 }

@@ -1,5 +1,6 @@
 //! Requests: a command with its options and paths.
 
+use crate::split_options::SplitOptions;
 use hdt_build::Options;
 use hdt_dict::Role;
 
@@ -36,6 +37,11 @@ pub enum Action {
     Verify,
     /// Verifies a file, and that every string of its dictionary is used in the role of its section.
     VerifyTight,
+    /// Verifies a file, and prints the strings that are not terms of their roles.
+    VerifyTerms {
+        /// Whether every string of its dictionary must be used in the role of its section.
+        tight: bool,
+    },
     /// Prints the sizes of a file's parts, and whether it is tight and canonical.
     Info {
         /// Whether one JSON object is printed instead of lines.
@@ -72,6 +78,15 @@ pub enum Action {
         /// The maximum number of triples; `None` for no limit.
         most: Option<u64>,
     },
+    /// Prints the triples with these dictionary strings whose strings are all terms of their roles.
+    SkipNonTerms {
+        /// The strings of subject, predicate and object; `None` matches any.
+        given: [Option<Vec<u8>>; 3],
+        /// Whether only the number of these triples is printed.
+        count: bool,
+        /// The maximum number of these triples; `None` for no limit.
+        most: Option<u64>,
+    },
     /// Finds out whether there is a triple with these dictionary strings, and prints nothing.
     Exists {
         /// The strings of subject, predicate and object; `None` matches any.
@@ -88,10 +103,19 @@ pub enum Action {
     },
     /// Answers the requests of standard input over a file.
     Answer(AnswerOptions),
+    /// Reports every faulty line of an N-Triples document.
+    Lint {
+        /// Whether the other lines are printed, and the reports go to standard error.
+        keep: bool,
+        /// The number of faulty lines after which to stop; `None` for no limit.
+        most: Option<u64>,
+    },
     /// Builds an HDT file from an N-Triples document, and prints the counts of its parts.
     Build(Options),
     /// Writes the canonical file of a file's triples, with this block size, and prints the counts of its parts.
     Rewrite(u32),
+    /// Splits N-Triples documents into parts, by subject.
+    Split(SplitOptions),
 }
 
 /// A command and its files.
@@ -105,13 +129,24 @@ pub struct Request {
     pub out: Option<String>,
 }
 
+/// How the progress of a command is reported on standard error.
+#[derive(Clone, Copy, Debug, Drop)]
+pub enum Progress {
+    /// By one line that is rewritten, if standard error is a terminal.
+    Automatic,
+    /// By lines.
+    Lines,
+    /// Not at all.
+    Off,
+}
+
 /// A request, and how to report progress and errors.
 #[derive(Debug, Drop)]
 pub struct Invocation {
     /// The request.
     pub request: Request,
-    /// Whether to report the progress of reading.
-    pub progress: bool,
+    /// How progress is reported.
+    pub progress: Progress,
     /// Whether more lines follow an error message.
     pub verbose: bool,
 }

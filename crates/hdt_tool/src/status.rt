@@ -5,7 +5,7 @@
 //! |---|---|
 //! | 0 | success, or help or an explanation was printed |
 //! | 1 | the input is not valid, a look-up found nothing, or an answer is an error |
-//! | 2 | the command line is not valid, or `build` would overwrite its input |
+//! | 2 | the command line is not valid, `build` or `lint` would write to its input, or `split` to a FOLDER that exists |
 //! | 3 | reading or writing failed |
 //! | 4 | out of memory |
 ghost use Rattle.std.specs.Prelude.{◌≡◌, ◌≢◌, ◌⊎◌, ◌+◌, ℕ, true, false, [], Ok, Err, Some, IfOk, IfErr, OnOk, MatchResult, map, string_bytes, if◌then◌else◌, ◌≤◌};
@@ -20,12 +20,16 @@ ghost use Rattle.hdt_tool.specs.Status.{Ends, IsBuild, IsCommandStatus, IsRefusa
 
 use crate::command_line::parse_invocation;
 use crate::commands::{answer_file, run_with_capacity};
-use crate::error_context::{Subject, print_context, print_term_context};
+use crate::error_context::{Subject, print_context, print_prefix_hint, print_term_context};
 use crate::error_lines::{OUT_OF_MEMORY, fault_line, usage_line};
 use crate::fault::{ToolFault, UsageFault, file_fault};
 use crate::files::{known_size, open_input, output_path, would_overwrite};
+use crate::lint::lint_path;
 use crate::output_file::make_file_at;
+use crate::reporting::run_report_on_streams;
 use crate::request::{Action, AnswerOptions, Invocation, Request};
+use crate::session::Session;
+use crate::split_files::run_split;
 use hdt_wire::Counted;
 use std::alloc::{AllocError, Global};
 use std::env;
@@ -41,7 +45,7 @@ const SAME_FILE_MESSAGE: &str = "error: IN and OUT are the same file
 For more information, try '--help'.";
 
 /// Prints a line to standard error, ignoring failure, and returns the status.
-fn print_error_line(rt: &HostRuntime, status: u8, line: &str) -> u8
+pub(crate) fn print_error_line(rt: &HostRuntime, status: u8, line: &str) -> u8
     ensures { result ≡ status }
 {
     let _ = rt.eprintln(line);
@@ -49,7 +53,7 @@ fn print_error_line(rt: &HostRuntime, status: u8, line: &str) -> u8
 }
 
 /// Prints an error message and returns its status; 4 if there is no memory for the message.
-fn report_line(rt: &HostRuntime, line: Result<(u8, String), AllocError>) -> u8
+pub(crate) fn report_line(rt: &HostRuntime, line: Result<(u8, String), AllocError>) -> u8
     ensures { MatchResult line (λ said. result ≡ said.0) (λ _. result ≡ 4) }
 {
     match line {
@@ -68,11 +72,12 @@ fn print_status(rt: &HostRuntime, outcome: io::Result<()>) -> u8
     }
 }
 
-/// The status of a command. Prints the message of an error, and the lines that follow it; none if `find --quiet` has no
-/// match.
+/// The status of a command. Removes the line of progress, and prints the message of an error, and the lines that follow
+/// it; none if `find --quiet` has no match.
 pub(crate) fn done(rt: &HostRuntime, subject: Subject<'_>, outcome: Result<(), ToolFault>) -> u8
     ensures { MatchResult outcome (λ _. result ≡ 0) (λ fault. (result ≡ fault_status fault) ⊎ (result ≡ 4)) }
 {
+    subject.session.clear();
     match outcome {
         Ok(()) => 0,
         Err(ToolFault::NoMatch) => 1,
@@ -213,12 +218,20 @@ fn writes_over_its_input(rt: &HostRuntime, request: &Request, path: &str) -> boo
     }
 }
 
-/// The status of `answer`: 1 if any answer is an error. Prints the message of an error that ended it.
-fn answers_status(rt: &HostRuntime, subject: Subject<'_>, outcome: Result<bool, ToolFault>) -> u8
+/// The status of `answer`: 1 if any answer is an error. Removes the line of progress, and prints the message of an error
+/// that ended it. The same for `lint` and faulty lines.
+pub(crate) fn answers_status(
+    rt: &HostRuntime,
+    subject: Subject<'_>,
+    outcome: Result<bool, ToolFault>,
+) -> u8
     ensures { MatchResult outcome (λ faulty. result ≡ (if faulty then 1 else 0)) (λ fault. (result ≡ fault_status fault) ⊎ (result ≡ 4)) }
 {
     match outcome {
-        Ok(faulty) => u8::from(faulty),
+        Ok(faulty) => {
+            subject.session.clear();
+            u8::from(faulty)
+        }
         Err(fault) => done(rt, subject, Err(fault)),
     }
 }
@@ -271,10 +284,11 @@ fn run_answer_on_streams(
 ) -> u8
     ensures { IsCommandStatus result }
 {
-    let file = open_input(rt, path, false);
+    let session = subject.session;
+    let file = open_input(rt, path, session);
     let capacity = known_size(&file);
-    let mut input = Counted::new(rt.stdin());
-    let mut out = Counted::new(io::writer(rt));
+    let mut input = Counted::new(session.watch(rt.stdin()));
+    let mut out = Counted::new(session.watch(io::writer(rt)));
     run_answer(rt, subject, options, file, capacity, &mut input, &mut out)
 }
 
@@ -291,29 +305,33 @@ pub fn status_of(rt: &HostRuntime, words: io::Result<Vec<String>>) -> u8
         Err(fault) => return refuse(rt, &words, fault),
     };
     let request = &invocation.request;
-    let subject = Subject::of(rt, &invocation);
+    let session = Session::new(rt, &invocation);
+    let subject = Subject::of(&invocation, &session);
     if let Some(path) = &request.out {
         let path = output_path(path.as_str());
         if writes_over_its_input(rt, request, path) {
             return print_error_line(rt, 2, SAME_FILE_MESSAGE);
         }
-        return done(rt, subject, make_file_at(rt, &invocation, path));
+        return done(rt, subject, make_file_at(rt, &session, request, path));
     }
     match &request.action {
         Action::Answer(options) => {
             run_answer_on_streams(rt, subject, request.file.as_str(), *options)
         }
+        Action::Lint { keep, most } => {
+            lint_path(rt, subject, request.file.as_str(), *keep, *most)
+        }
+        Action::Split(options) => run_split(rt, subject, request, options),
+        Action::SkipNonTerms { .. } | Action::VerifyTerms { .. } => {
+            run_report_on_streams(rt, subject, &invocation)
+        }
         _ => {
-            let file = open_input(rt, request.file.as_str(), invocation.progress);
+            let file = open_input(rt, request.file.as_str(), &session);
             let capacity = known_size(&file);
-            run_query(
-                rt,
-                subject,
-                request,
-                file,
-                capacity,
-                &mut Counted::new(io::writer(rt)),
-            )
+            let mut out = Counted::new(session.watch(io::writer(rt)));
+            let status = run_query(rt, subject, request, file, capacity, &mut out);
+            print_prefix_hint(rt, subject, request, status);
+            status
         }
     }
 }

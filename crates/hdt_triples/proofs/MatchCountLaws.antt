@@ -2,7 +2,7 @@
 use Rattle.std.proofs.Common.{◌≡◌, ℕ, ◌+◌, ◌-◌, ◌*◌, ◌<◌, ◌≤◌, ◌==◌, zero, suc, List, [], ◌∷◌, length, map, min, drop, slice_get, ap, sym, ◌∙◌, arith, Bool, true, false, Some, None, slice_index, eq-eqb, refl}
 use Rattle.std.proofs.Math.Nat.{mul-le-mul_left}
 use Rattle.std.specs.Int.{from_bool}
-use Rattle.std.proofs.lemmas.List.Elements.{All-rest}
+use Rattle.std.proofs.lemmas.List.{length-map}
 use Rattle.std.specs.List.{All}
 use Rattle.std.proofs.Math.Bool.{and-true}
 use Rattle.hdt_seq.specs.Directory.{groups}
@@ -21,7 +21,7 @@ use Rattle.hdt_triples.proofs.PositionListLaws.{held_at, matches_mapped, part_co
 use Rattle.hdt_triples.proofs.ScanLaws.{matches_taken, matches_passed, none_left, not_less, skipped}
 use Rattle.hdt_triples.proofs.PatternLaws.{admitted, has_subject, other_subject, own_predicate, own_subject, agrees_by_parts}
 use Rattle.hdt_triples.proofs.PredicateLaws.{Begins, predicate_entered, next_of}
-use Rattle.hdt_triples.proofs.ObjectLaws.{among_first, among_positions, object_law, object_step}
+use Rattle.hdt_triples.proofs.ObjectLaws.{among_first, object_law, object_step, object_triples}
 
 -- One triple is counted or not.
 pub count_on : (p : Pattern) (f : BitmapTriples) (j : ℕ) (b : Bool) (one : ℕ) → j < length f.array_z → agrees p (triple_at f j) ≡ b → one ≡ from_bool b
@@ -198,14 +198,6 @@ object_on : (p : Pattern) (f : BitmapTriples) (rest js : List ℕ) (at : ℕ) (b
 object_on p f rest js at true one h first behind is more = omega (arith, more, ap length (object_step p f rest js at true h first behind is))
 object_on p f rest js at false one h first behind is none = omega (arith, none, ap length (object_step p f rest js at false h first behind is))
 
-positions_count : (js : List ℕ) (f : BitmapTriples) (o : ℕ) → All (IsPositionOf f.array_z o) js → length (matches (of_object o) (map (triple_at f) js)) ≡ length js
-unfolding matches
-positions_count [] f o all = refl
-positions_count (j ∷ js) f o all =
-    let own : agrees (of_object o) (triple_at f j) ≡ true = eq-eqb o (slice_index f.array_z j) (sym (all 0 0 (omega arith)).1) in
-    let rest : All (IsPositionOf f.array_z o) js = All-rest (IsPositionOf f.array_z o) j js (j ∷ js) refl all in
-    omega (arith, ap length (object_step (of_object o) f (j ∷ js) js j true (omega arith) refl refl own), positions_count js f o rest)
-
 -- The same, by its predicate.
 pub in_object_on : (p : Pattern) (f : BitmapTriples) (q o : ℕ) (rest js : List ℕ) (at n one : ℕ) → p.s ≡ None → p.p ≡ Some q → p.o ≡ Some o → All (IsPositionOf f.array_z o) rest → 0 < length rest → at ≡ slice_index rest 0 → js ≡ drop 1 rest
     → n ≡ slice_index f.array_y (pair_of f at) → one ≡ from_bool (q == n) → length (matches p (map (triple_at f) rest)) ≡ one + length (matches p (map (triple_at f) js))
@@ -214,7 +206,7 @@ in_object_on p f q o rest js at n one free given_p given_o all some first behind
 
 -- The matches of an object are as many as its list is long.
 pub object_count : (f : BitmapTriples) (o : ℕ) → length (positions_of f.array_z o) ≡ length (matches (of_object o) (triples_of f))
-object_count f o = sym (positions_count (positions_of f.array_z o) f o (among_positions f.array_z o)) ∙ ap length (object_law (of_object o) f o refl)
+object_count f o = sym (length-map (positions_of f.array_z o) (triple_at f)) ∙ ap length (object_triples f o)
 
 pub list_digits : (f : BitmapTriples) (o : ℕ) (js : List ℕ) → js ≡ positions_of f.array_z o → digits (length js) ≡ digits (length (matches (of_object o) (triples_of f)))
 list_digits f o js is = ap digits (ap length is ∙ object_count f o)

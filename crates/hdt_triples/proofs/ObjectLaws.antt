@@ -1,8 +1,8 @@
 -- The triples of an object.
-use Rattle.std.proofs.Common.{◌≡◌, ℕ, ◌+◌, ◌-◌, ◌<◌, ◌≤◌, ◌==◌, List, [], ◌∷◌, length, map, filter, drop, refl, ap, sym, ◌∙◌, arith, Bool, true, false, cond, Some, slice_index, subst, eq-eqb}
+use Rattle.std.proofs.Common.{◌≡◌, ℕ, ◌+◌, ◌-◌, ◌<◌, ◌≤◌, ◌==◌, List, [], ◌∷◌, length, map, min, filter, drop, refl, ap, sym, ◌∙◌, arith, Bool, true, false, cond, Some, slice_index, subst, eq-eqb}
 use Rattle.std.proofs.lemmas.Bool.{eqb-true, eqb-false}
-use Rattle.std.proofs.lemmas.List.{nil_from_length}
-use Rattle.std.proofs.lemmas.List.Elements.{filter_passes, All-filter, All-from_get_or, All-rest}
+use Rattle.std.proofs.lemmas.List.{nil_from_length, drop-map, drop_min, length-drop}
+use Rattle.std.proofs.lemmas.List.Elements.{filter_passes, All-drop, All-filter, All-from_get_or, All-rest}
 use Rattle.std.proofs.lemmas.List.FromFn.{length-range_with_len, get_or-range_with_len}
 use Rattle.std.specs.List.{All, range_with_len}
 use Rattle.hdt_triples.specs.declared.pattern.Pattern.{Pattern}
@@ -44,6 +44,33 @@ unfolding matches triples_from
 object_left p f o a js given is =
     ap (λ xs. filter (agrees p) (map (triple_at f) xs)) is
     ∙ kept_matches p (triple_at f) (λ j. slice_index f.array_z j == o) (range_with_len a (length f.array_z - a)) (λ j no. other_object p o (triple_at f j) given (eqb-false (slice_index f.array_z j) o no))
+
+-- All triples of the object match if nothing else is given.
+all_match : (f : BitmapTriples) (o : ℕ) (js : List ℕ) → All (IsPositionOf f.array_z o) js → matches (of_object o) (map (triple_at f) js) ≡ map (triple_at f) js
+unfolding matches
+all_match f o [] all = refl
+all_match f o (j ∷ js) all =
+    ap (λ b. cond b (triple_at f j ∷ filter (agrees (of_object o)) (map (triple_at f) js)) (filter (agrees (of_object o)) (map (triple_at f) js))) (eq-eqb o (slice_index f.array_z j) (sym (all 0 0 (omega arith)).1))
+    ∙ ap (λ ts. triple_at f j ∷ ts) (all_match f o js (All-rest (IsPositionOf f.array_z o) j js (j ∷ js) refl all))
+
+pub object_triples : (f : BitmapTriples) (o : ℕ) → map (triple_at f) (positions_of f.array_z o) ≡ matches (of_object o) (triples_of f)
+object_triples f o = sym (all_match f o (positions_of f.array_z o) (among_positions f.array_z o)) ∙ object_law (of_object o) f o refl
+
+-- So the list without its first elements has the matches without the first ones.
+pub object_after : (f : BitmapTriples) (o skip next : ℕ) (places js : List ℕ) → places ≡ positions_of f.array_z o → next ≡ min skip (length places) → js ≡ drop next places
+    → matches (of_object o) (map (triple_at f) js) ≡ drop skip (matches (of_object o) (triples_of f))
+object_after f o skip next places js is least rest =
+    let same : js ≡ drop skip (positions_of f.array_z o) = rest ∙ ap (λ n. drop n places) least ∙ drop_min skip places ∙ ap (drop skip) is in
+    ap (λ ks. matches (of_object o) (map (triple_at f) ks)) same
+    ∙ all_match f o (drop skip (positions_of f.array_z o)) (All-drop (IsPositionOf f.array_z o) skip (positions_of f.array_z o) (among_positions f.array_z o))
+    ∙ sym (drop-map (triple_at f) skip (positions_of f.array_z o))
+    ∙ ap (drop skip) (object_triples f o)
+
+pub object_after_budget : (f : BitmapTriples) (o skip next steps : ℕ) (places js : List ℕ) → places ≡ positions_of f.array_z o → next ≡ min skip (length places) → js ≡ drop next places → steps ≡ 0
+    → IsWithinBudget (object_cost o) f steps (map (triple_at f) js)
+unfolding limit object_cost
+object_after_budget f o skip next steps places js is least rest none =
+    omega (arith, none, ap length (object_after f o skip next places js is least rest), length-drop skip (matches (of_object o) (triples_of f)))
 
 pub object_budget_first : (f : BitmapTriples) (o steps : ℕ) → steps ≤ 20 → IsWithinBudget (object_cost o) f steps (map (triple_at f) (positions_of f.array_z o))
 unfolding limit object_cost

@@ -76,6 +76,7 @@ impl<'a> Triples<'a> {
 
     /// Returns the number of matches of a pattern. Scans all triples, in at most four steps each; given nothing,
     /// constant time. Allocates nothing.
+    #[tactic(auto, using(crate::proofs::ScanLaws::matches_fit))]
     pub fn matching(&self, pattern: Pattern, steps: &mut Steps) -> u64
         ensures is { result ≡ length (matches pattern (triples_of (triples_view self.now))) }
         ensures cost { steps.new ≤ steps.old + scan_steps (triples_view self.now) pattern }
@@ -205,6 +206,7 @@ impl<'a> IndexedTriples<'a> {
     /// Returns the number of matches of a pattern. Given a subject, its triples or those of the pair are found by rank
     /// and select; given also an object and no predicate, they are scanned. Given no subject, all triples are scanned,
     /// as by [`Triples::matching`]. Allocates nothing.
+    #[tactic(auto, using(crate::proofs::ScanLaws::matches_fit))]
     pub fn matching(&self, pattern: Pattern, steps: &mut Steps) -> u64
         ensures is { result ≡ length (matches pattern (triples_of (triples_view (triples_indexed self.now)))) }
         // With a subject, the steps are bounded by the table.
@@ -295,6 +297,7 @@ impl<'a> ListedTriples<'a> {
     }
 
     /// Returns the number of triples with this object.
+    #[tactic(auto, using(crate::proofs::MatchCountLaws::object_count))]
     fn count_object(&self, object: u64, steps: &mut Steps) -> u64
         ensures is { result ≡ length (matches (of_object object) (triples_of (triples_view (triples_listed self.now)))) }
         ensures cost { steps.new ≤ steps.old + 2 }
@@ -356,6 +359,7 @@ impl<'a> ListedTriples<'a> {
     /// Returns the number of matches of a pattern. Allocates nothing. Cost, by what is given: constant for nothing or
     /// only an object; logarithmic with a subject; for only a predicate, two searches for each of its pairs, but at
     /// most a scan of all triples; for a predicate and an object, a scan of the object's triples.
+    #[tactic(auto, using(crate::proofs::ScanLaws::matches_fit))]
     pub fn matching(&self, pattern: Pattern, steps: &mut Steps) -> u64
         ensures is { result ≡ length (matches pattern (triples_of (triples_view (triples_listed self.now)))) }
         // The steps are bounded by the table, and by that for the shorter of two lists.

@@ -71,7 +71,7 @@ impl<'a> IndexedTriples<'a> {
 }
 
 impl<'a> ListedTriples<'a> {
-    ghost use Rattle.hdt_triples.specs.Remaining.{remaining_matches, step_limit, shorter_list_step_limit};
+    ghost use Rattle.hdt_triples.specs.Remaining.{remaining_matches, step_limit, shorter_list_step_limit, steps_taken};
     ghost use Rattle.hdt_triples.specs.IndexViews.{triples_listed};
 
     /// Finds the matches of a pattern: the triples that have each given ID, once each, in order. Allocates nothing.
@@ -110,6 +110,7 @@ impl<'a> ListedTriples<'a> {
         ensures items { remaining_matches result ≡ matches pattern (triples_from (triples_view (triples_listed self.now)) from) }
         ensures few { step_limit result ≤ most_steps (triples_view (triples_listed self.now)) pattern }
         ensures short { shorter_list_step_limit result ≤ shorter_list_steps (triples_view (triples_listed self.now)) pattern }
+        ensures fresh { steps_taken result ≡ 0 }
         ensures cost { steps.new ≤ steps.old + start_cost (triples_view (triples_listed self.now)) }
         ensures more { steps.old ≤ steps.new }
     {
@@ -137,12 +138,15 @@ impl<'a> ListedTriples<'a> {
     /// Finds the matches of a pattern from triple `from` on, from 0, in order; from the number of triples on there are
     /// none. It finds the first one by binary search, and those after it as [`ListedTriples::find`] does. Allocates
     /// nothing.
+    #[tactic(auto, unfolding(crate::specs::Remaining::remaining_matches, crate::specs::Remaining::step_limit, crate::specs::Remaining::shorter_list_step_limit, crate::specs::Remaining::steps_taken))]
     pub fn find_from(&self, pattern: Pattern, from: u64, steps: &mut Steps) -> Matches<'_>
         ensures items { remaining_matches result ≡ matches pattern (drop from (triples_of (triples_view (triples_listed self.now)))) }
         ensures fits { length (remaining_matches result) < 2 ^ 64 }
         // The steps of all items are bounded by the tables for all matches,
         ensures few { step_limit result ≤ most_steps (triples_view (triples_listed self.now)) pattern }
         ensures short { shorter_list_step_limit result ≤ shorter_list_steps (triples_view (triples_listed self.now)) pattern }
+        // none of which is taken yet,
+        ensures fresh { steps_taken result ≡ 0 }
         // and those of this call by this.
         ensures cost { steps.new ≤ steps.old + start_cost (triples_view (triples_listed self.now)) }
         ensures more { steps.old ≤ steps.new }

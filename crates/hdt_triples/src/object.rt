@@ -1,8 +1,8 @@
 //! Search by an object.
-ghost use Rattle.std.specs.Prelude.{◌≡◌, ◌≤◌, ◌+◌, ◌<◌, ◌^◌, map, Some, length};
+ghost use Rattle.std.specs.Prelude.{◌≡◌, ◌≤◌, ◌+◌, ◌<◌, ◌^◌, map, Some, drop, length};
 ghost use Rattle.std.specs.List.{All};
 ghost use Rattle.hdt_seq.specs.Width.{digits};
-ghost use Rattle.hdt_triples.specs.Bounds.{object_cost, IsWithinBudget, limit};
+ghost use Rattle.hdt_triples.specs.Bounds.{object_cost, of_object, most_steps, shorter_list_steps, IsWithinBudget, limit};
 ghost use Rattle.hdt_triples.specs.TripleSequences.{triple_at, triples_of};
 ghost use Rattle.hdt_triples.specs.InvertedIndex.{IsPositionOf};
 ghost use Rattle.hdt_triples.specs.Patterns.{matches};
@@ -48,7 +48,7 @@ impl<'a> IndexedTriples<'a> {
 }
 
 impl<'a> ListedTriples<'a> {
-    ghost use Rattle.hdt_triples.specs.Remaining.{remaining_matches, step_limit};
+    ghost use Rattle.hdt_triples.specs.Remaining.{remaining_matches, step_limit, shorter_list_step_limit, steps_taken};
     ghost use Rattle.hdt_triples.specs.IndexViews.{triples_listed};
 
     /// Finds the matches of a pattern with this object, after up to 18 earlier steps.
@@ -72,7 +72,7 @@ impl<'a> ListedTriples<'a> {
     }
 
     /// Finds the matches of a pattern with this object, from a triple on.
-    #[tactic(auto, unfolding(crate::specs::Remaining::remaining_matches, crate::specs::Remaining::step_limit))]
+    #[tactic(auto, unfolding(crate::specs::Remaining::remaining_matches, crate::specs::Remaining::step_limit, crate::specs::Remaining::steps_taken))]
     pub(crate) fn find_object_from(
         &self,
         pattern: Pattern,
@@ -84,6 +84,7 @@ impl<'a> ListedTriples<'a> {
         requires within { from < length (triples_view (triples_listed self.now)).array_z }
         ensures items { remaining_matches result ≡ matches pattern (triples_from (triples_view (triples_listed self.now)) from) }
         ensures limit { step_limit result ≡ limit (object_cost object) (triples_view (triples_listed self.now)) }
+        ensures fresh { steps_taken result ≡ 0 }
         ensures cost { steps.new ≤ steps.old + (digits (length (triples_view (triples_listed self.now)).array_z) + 2) }
         ensures more { steps.old ≤ steps.new }
     {
@@ -92,6 +93,36 @@ impl<'a> ListedTriples<'a> {
         Matches::Object(ObjectMatches {
             indexed: &self.indexed,
             pattern,
+            object,
+            rest: places.split_at(next).1,
+            steps: Steps::new(),
+        })
+    }
+
+    /// Finds the triples of an object after the first `skip`, in order. Its list has the index of each, so those that
+    /// are skipped take no steps. Allocates nothing.
+    #[tactic(auto, unfolding(crate::specs::Remaining::remaining_matches, crate::specs::Remaining::step_limit, crate::specs::Remaining::shorter_list_step_limit, crate::specs::Remaining::steps_taken, crate::specs::Bounds::most_steps, crate::specs::Bounds::shorter_list_steps))]
+    pub fn find_object_after(&self, object: u64, skip: u64, steps: &mut Steps) -> Matches<'_>
+        ensures items { remaining_matches result ≡ drop skip (matches (of_object object) (triples_of (triples_view (triples_listed self.now)))) }
+        ensures fits { length (remaining_matches result) < 2 ^ 64 }
+        // The steps of all items are bounded by the tables for all matches,
+        ensures few { step_limit result ≡ most_steps (triples_view (triples_listed self.now)) (of_object object) }
+        ensures short { shorter_list_step_limit result ≡ shorter_list_steps (triples_view (triples_listed self.now)) (of_object object) }
+        // none of which is taken yet,
+        ensures fresh { steps_taken result ≡ 0 }
+        // and this call takes two.
+        ensures cost { steps.new ≤ steps.old + 2 }
+        ensures more { steps.old ≤ steps.new }
+    {
+        let places = self.positions_of(object, steps);
+        let next = skip.min(places.len() as u64) as usize;
+        Matches::Object(ObjectMatches {
+            indexed: &self.indexed,
+            pattern: Pattern {
+                s: None,
+                p: None,
+                o: Some(object),
+            },
             object,
             rest: places.split_at(next).1,
             steps: Steps::new(),

@@ -31,7 +31,7 @@ pub struct PairMatches<'a> {
 }
 
 impl<'a> IndexedTriples<'a> {
-    ghost use Rattle.hdt_triples.specs.Remaining.{remaining_matches, step_limit};
+    ghost use Rattle.hdt_triples.specs.Remaining.{remaining_matches, step_limit, steps_taken};
     ghost use Rattle.hdt_triples.specs.IndexViews.{triples_indexed};
 
     /// Returns the range of a subject's pairs: the index of the first one and the index after the last one.
@@ -143,7 +143,7 @@ impl<'a> IndexedTriples<'a> {
     }
 
     /// Finds the matches of a pattern with this subject and this predicate, from a triple on.
-    #[tactic(auto, unfolding(crate::specs::Remaining::remaining_matches, crate::specs::Remaining::step_limit))]
+    #[tactic(auto, unfolding(crate::specs::Remaining::remaining_matches, crate::specs::Remaining::step_limit, crate::specs::Remaining::steps_taken))]
     pub(crate) fn find_pair_from(
         &self,
         pattern: Pattern,
@@ -157,6 +157,7 @@ impl<'a> IndexedTriples<'a> {
         requires within { from < length (triples_view (triples_indexed self.now)).array_z }
         ensures items { remaining_matches result ≡ matches pattern (triples_from (triples_view (triples_indexed self.now)) from) }
         ensures limit { step_limit result ≡ limit (pair_cost (triples_view (triples_indexed self.now)) pattern) (triples_view (triples_indexed self.now)) }
+        ensures fresh { steps_taken result ≡ 0 }
         ensures cost { steps.new ≤ steps.old + (2 * digits (groups (triples_view (triples_indexed self.now)).bitmap_y) + 2 * digits (groups (triples_view (triples_indexed self.now)).bitmap_z) + 35 + digits (length (triples_view (triples_indexed self.now)).array_y) + digits (length (triples_view (triples_indexed self.now)).array_z)) }
         ensures more { steps.old ≤ steps.new }
     {

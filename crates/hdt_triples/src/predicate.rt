@@ -28,7 +28,7 @@ pub struct PredicateMatches<'a> {
 }
 
 impl<'a> ListedTriples<'a> {
-    ghost use Rattle.hdt_triples.specs.Remaining.{remaining_matches, step_limit};
+    ghost use Rattle.hdt_triples.specs.Remaining.{remaining_matches, step_limit, steps_taken};
     ghost use Rattle.hdt_triples.specs.IndexViews.{triples_listed};
 
     /// Finds the triples of a predicate.
@@ -54,7 +54,7 @@ impl<'a> ListedTriples<'a> {
     }
 
     /// Finds the triples of a predicate from a triple on.
-    #[tactic(auto, unfolding(crate::specs::Remaining::remaining_matches, crate::specs::Remaining::step_limit))]
+    #[tactic(auto, unfolding(crate::specs::Remaining::remaining_matches, crate::specs::Remaining::step_limit, crate::specs::Remaining::steps_taken))]
     pub(crate) fn find_predicate_from(
         &self,
         predicate: u64,
@@ -64,6 +64,7 @@ impl<'a> ListedTriples<'a> {
         requires { from < length (triples_view (triples_listed self.now)).array_z }
         ensures items { remaining_matches result ≡ matches (of_predicate predicate) (triples_from (triples_view (triples_listed self.now)) from) }
         ensures limit { step_limit result ≡ limit (predicate_cost (triples_view (triples_listed self.now)) predicate) (triples_view (triples_listed self.now)) }
+        ensures fresh { steps_taken result ≡ 0 }
         ensures cost { steps.new ≤ steps.old + (digits (length (triples_view (triples_listed self.now)).array_y) + digits (groups (triples_view (triples_listed self.now)).bitmap_z) + 27) }
         ensures more { steps.old ≤ steps.new }
     {

@@ -38,7 +38,7 @@ pub struct PredicateObjectMatches<'a> {
 }
 
 impl<'a> ListedTriples<'a> {
-    ghost use Rattle.hdt_triples.specs.Remaining.{remaining_matches, step_limit, shorter_list_step_limit};
+    ghost use Rattle.hdt_triples.specs.Remaining.{remaining_matches, step_limit, shorter_list_step_limit, steps_taken};
     ghost use Rattle.hdt_triples.specs.IndexViews.{triples_listed};
 
     /// Finds the matches of a pattern with this predicate, this object and no subject: by the pairs of the predicate,
@@ -78,7 +78,7 @@ impl<'a> ListedTriples<'a> {
     }
 
     /// Finds the matches of a pattern with this predicate, this object and no subject, from a triple on.
-    #[tactic(auto, unfolding(crate::specs::Remaining::remaining_matches, crate::specs::Remaining::step_limit, crate::specs::Remaining::shorter_list_step_limit))]
+    #[tactic(auto, unfolding(crate::specs::Remaining::remaining_matches, crate::specs::Remaining::step_limit, crate::specs::Remaining::steps_taken, crate::specs::Remaining::shorter_list_step_limit))]
     pub(crate) fn find_predicate_object_from(
         &self,
         pattern: Pattern,
@@ -94,6 +94,7 @@ impl<'a> ListedTriples<'a> {
         ensures items { remaining_matches result ≡ matches pattern (triples_from (triples_view (triples_listed self.now)) from) }
         ensures limit { step_limit result ≡ limit (object_cost object) (triples_view (triples_listed self.now)) }
         ensures short { shorter_list_step_limit result ≤ pair_search_cost (triples_view (triples_listed self.now)) * (1 + length (positions_of (triples_view (triples_listed self.now)).array_y predicate)) }
+        ensures fresh { steps_taken result ≡ 0 }
         ensures cost { steps.new ≤ steps.old + (3 * digits (groups (triples_view (triples_listed self.now)).bitmap_z) + digits (length (triples_view (triples_listed self.now)).array_y) + digits (length (triples_view (triples_listed self.now)).array_z) + 46) }
         ensures more { steps.old ≤ steps.new }
     {

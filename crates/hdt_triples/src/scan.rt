@@ -46,14 +46,15 @@ impl<'a> Triples<'a> {
 
 impl<'a> IndexedTriples<'a> {
     ghost use Rattle.hdt_triples.specs.IndexViews.{triples_indexed};
-    ghost use Rattle.hdt_triples.specs.Remaining.{remaining_matches, step_limit};
+    ghost use Rattle.hdt_triples.specs.Remaining.{remaining_matches, step_limit, steps_taken};
 
     /// Finds the matches of a pattern from a triple on, by a scan.
-    #[tactic(auto, unfolding(crate::specs::Remaining::remaining_matches, crate::specs::Remaining::step_limit))]
+    #[tactic(auto, unfolding(crate::specs::Remaining::remaining_matches, crate::specs::Remaining::step_limit, crate::specs::Remaining::steps_taken))]
     pub(crate) fn scan_from(&self, pattern: Pattern, from: u64, steps: &mut Steps) -> Matches<'a>
         requires { from < length (triples_view (triples_indexed self.now)).array_z }
         ensures items { remaining_matches result ≡ matches pattern (triples_from (triples_view (triples_indexed self.now)) from) }
         ensures limit { step_limit result ≡ 4 * length (triples_view (triples_indexed self.now)).array_z }
+        ensures fresh { steps_taken result ≡ 0 }
         ensures cost { steps.new ≤ steps.old + 16 }
         ensures more { steps.old ≤ steps.new }
     {

@@ -31,7 +31,7 @@ pub struct SubjectMatches<'a> {
 
 impl<'a> IndexedTriples<'a> {
     ghost use Rattle.hdt_triples.specs.IndexViews.{triples_indexed};
-    ghost use Rattle.hdt_triples.specs.Remaining.{remaining_matches, step_limit};
+    ghost use Rattle.hdt_triples.specs.Remaining.{remaining_matches, step_limit, steps_taken};
 
     /// Finds the matches of a pattern with this subject.
     #[tactic(auto, using(crate::proofs::SubjectLaws::matches_skipped), unfolding(crate::specs::Remaining::remaining_matches, crate::specs::Remaining::step_limit))]
@@ -53,7 +53,7 @@ impl<'a> IndexedTriples<'a> {
     }
 
     /// Finds the matches of a pattern with this subject, from a triple on.
-    #[tactic(auto, unfolding(crate::specs::Remaining::remaining_matches, crate::specs::Remaining::step_limit))]
+    #[tactic(auto, unfolding(crate::specs::Remaining::remaining_matches, crate::specs::Remaining::step_limit, crate::specs::Remaining::steps_taken))]
     pub(crate) fn find_subject_from(
         &self,
         pattern: Pattern,
@@ -65,6 +65,7 @@ impl<'a> IndexedTriples<'a> {
         requires within { from < length (triples_view (triples_indexed self.now)).array_z }
         ensures items { remaining_matches result ≡ matches pattern (triples_from (triples_view (triples_indexed self.now)) from) }
         ensures limit { step_limit result ≡ limit (subject_cost (triples_view (triples_indexed self.now)) subject) (triples_view (triples_indexed self.now)) }
+        ensures fresh { steps_taken result ≡ 0 }
         ensures cost { steps.new ≤ steps.old + (digits (groups (triples_view (triples_indexed self.now)).bitmap_y) + digits (groups (triples_view (triples_indexed self.now)).bitmap_z) + 33) }
         ensures more { steps.old ≤ steps.new }
     {

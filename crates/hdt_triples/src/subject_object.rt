@@ -84,7 +84,7 @@ impl<'a> IndexedTriples<'a> {
 }
 
 impl<'a> ListedTriples<'a> {
-    ghost use Rattle.hdt_triples.specs.Remaining.{remaining_matches, step_limit, shorter_list_step_limit};
+    ghost use Rattle.hdt_triples.specs.Remaining.{remaining_matches, step_limit, shorter_list_step_limit, steps_taken};
     ghost use Rattle.hdt_triples.specs.IndexViews.{triples_listed};
 
     /// Finds the matches of a pattern with this subject, this object and no predicate.
@@ -120,7 +120,7 @@ impl<'a> ListedTriples<'a> {
     }
 
     /// Finds the matches of a pattern with this subject, this object and no predicate, from a triple on.
-    #[tactic(auto, unfolding(crate::specs::Remaining::remaining_matches, crate::specs::Remaining::step_limit, crate::specs::Remaining::shorter_list_step_limit))]
+    #[tactic(auto, unfolding(crate::specs::Remaining::remaining_matches, crate::specs::Remaining::step_limit, crate::specs::Remaining::steps_taken, crate::specs::Remaining::shorter_list_step_limit))]
     pub(crate) fn find_subject_object_from(
         &self,
         pattern: Pattern,
@@ -136,6 +136,7 @@ impl<'a> ListedTriples<'a> {
         ensures items { remaining_matches result ≡ matches pattern (triples_from (triples_view (triples_listed self.now)) from) }
         ensures limit { step_limit result ≡ limit (subject_cost (triples_view (triples_listed self.now)) subject) (triples_view (triples_listed self.now)) }
         ensures short { shorter_list_step_limit result ≤ lookup_cost (triples_view (triples_listed self.now)) + 4 * list_search_cost (triples_view (triples_listed self.now)) object * (1 + match_count pattern (triples_view (triples_listed self.now))) }
+        ensures fresh { steps_taken result ≡ 0 }
         ensures cost { steps.new ≤ steps.old + (digits (groups (triples_view (triples_listed self.now)).bitmap_y) + digits (groups (triples_view (triples_listed self.now)).bitmap_z) + 35) }
         ensures more { steps.old ≤ steps.new }
     {

@@ -21,6 +21,7 @@ impl<'a> ListedTriples<'a> {
     }
 
     /// Whether a triple has this predicate.
+    #[tactic(auto, using(crate::proofs::UsesLaws::predicate_is), unfolding(crate::specs::Views::triples_view))]
     fn uses_predicate(&self, predicate: u64, steps: &mut Steps) -> bool
         ensures is { result ≡ uses (triples_of (triples_view (triples_listed self.now))) roles.Predicate predicate }
         ensures cost { steps.new ≤ steps.old + 2 }
@@ -29,6 +30,7 @@ impl<'a> ListedTriples<'a> {
     }
 
     /// Whether a triple has this object.
+    #[tactic(auto, using(crate::proofs::UsesLaws::object_is), unfolding(crate::specs::Views::triples_view))]
     fn uses_object(&self, object: u64, steps: &mut Steps) -> bool
         ensures is { result ≡ uses (triples_of (triples_view (triples_listed self.now))) roles.Object object }
         ensures cost { steps.new ≤ steps.old + 2 }

@@ -107,11 +107,13 @@ pub fn are_writable(triples: &[(u64, u64, u64)]) -> bool
 }
 
 /// The checks of triples pass exactly for the triples that are encoded at the offset.
+#[tactic(auto, using(crate::specs::Laws::Triples::triples_exact))]
 pub fn triples_are_exact()
     ensures { (counts : Counts) (bytes : List ℕ) (at : ℕ) → IsBytes bytes → Exactly (decode_triple_parts counts bytes at) (λ t. IsTriples counts t bytes at) }
 {}
 
 /// The triples of four valid sequences strictly ascend, and each ID is from 1 to the count of its role.
+#[tactic(auto, using(crate::specs::Laws::Order::triples_ascend, crate::specs::Laws::Order::triples_in_range))]
 pub fn triples_ascend()
     ensures ascend { (counts : Counts) (f : BitmapTriples) → AreValidSequences counts f → AreAscending (triples_of f) }
     ensures range { (counts : Counts) (f : BitmapTriples) → AreValidSequences counts f → AreInRange counts (triples_of f) }

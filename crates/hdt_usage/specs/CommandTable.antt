@@ -2,7 +2,8 @@
 use Rattle.std.specs.Prelude.{◌≡◌, List, [], ◌∷◌, Some, true, codes, map, pos}
 use Rattle.std.specs.Borrow.{Bor}
 use Rattle.clap.specs.Words.{App, Rule, Text, new_app, new_rule, with_rule, with_subcommand}
-use Rattle.clap.specs.declared.builder.action.ArgAction.TheVariants.{SetTrue}
+use Rattle.clap.specs.declared.builder.action.ArgAction.TheVariants.{SetTrue, Append}
+use Rattle.clap.specs.Lexer.{usize_max}
 use Rattle.clap.specs.declared.builder.value_parser.ValueParser.TheVariants as parser
 use Rattle.hdt_wire.specs.declared.role.Role.{Role}
 use Rattle.hdt_wire.specs.declared.role.Role.TheVariants.{Subject, Predicate, Object}
@@ -41,9 +42,13 @@ number_arg = record (required_arg (codes "N")) { parser = Some (parser.Unsigned 
 abbrev pub verbose_flag : Rule
 verbose_flag = flag_arg (codes "verbose")
 
--- A command with the argument FILE and `--verbose`.
+-- `--no-progress`
+abbrev pub no_progress_flag : Rule
+no_progress_flag = flag_arg (codes "no-progress")
+
+-- A command with the argument FILE, `--verbose` and `--no-progress`.
 abbrev pub file_command : Text → App
-file_command name = with_rule (with_rule (new_app name) (required_arg (codes "FILE"))) verbose_flag
+file_command name = with_rule (with_rule (with_rule (new_app name) (required_arg (codes "FILE"))) verbose_flag) no_progress_flag
 
 -- `head FILE`
 abbrev pub head_command : App
@@ -53,9 +58,9 @@ head_command = file_command (codes "head")
 abbrev pub progress_flag : Rule
 progress_flag = flag_arg (codes "progress")
 
--- `verify FILE`, with `--tight` and `--progress`
+-- `verify FILE`, with `--tight`, `--terms` and `--progress`
 abbrev pub verify_command : App
-verify_command = with_rule (with_rule (file_command (codes "verify")) (flag_arg (codes "tight"))) progress_flag
+verify_command = with_rule (with_rule (with_rule (file_command (codes "verify")) (flag_arg (codes "tight"))) (flag_arg (codes "terms"))) progress_flag
 
 -- `info FILE`, with `--json`
 abbrev pub info_command : App
@@ -87,6 +92,10 @@ limit_option id = record (new_rule id) { long = Some id; value_names = 1; parser
 abbrev pub most_option : Rule
 most_option = limit_option (codes "most")
 
+-- `--skip-non-terms`
+abbrev pub skip_flag : Rule
+skip_flag = flag_arg (codes "skip-non-terms")
+
 -- `count FILE ROLE`, with `--top` and `--raw`
 abbrev pub count_command : Names → App
 count_command names =
@@ -97,15 +106,15 @@ abbrev pub find_pattern_command : App
 find_pattern_command =
     with_rule (with_rule (with_rule (file_command (codes "find")) (required_arg (codes "S"))) (required_arg (codes "P"))) (required_arg (codes "O"))
 
--- `find FILE S P O`, with `--raw`, `--numbers`, `--count`, `--quiet` and `--most`
+-- `find FILE S P O`, with `--raw`, `--numbers`, `--count`, `--quiet`, `--skip-non-terms` and `--most`
 abbrev pub find_command : App
 find_command =
-    with_rule (with_rule (with_rule (with_rule (with_rule find_pattern_command (flag_arg (codes "raw"))) (flag_arg (codes "numbers")))
-    (flag_arg (codes "count"))) (flag_arg (codes "quiet"))) most_option
+    with_rule (with_rule (with_rule (with_rule (with_rule (with_rule find_pattern_command (flag_arg (codes "raw"))) (flag_arg (codes "numbers")))
+    (flag_arg (codes "count"))) (flag_arg (codes "quiet"))) skip_flag) most_option
 
--- `dump FILE`
+-- `dump FILE`, with `--skip-non-terms`
 abbrev pub dump_command : App
-dump_command = file_command (codes "dump")
+dump_command = with_rule (file_command (codes "dump")) skip_flag
 
 -- `--name VALUE`, with a default.
 abbrev pub option_arg : Text → Text → Rule
@@ -129,9 +138,10 @@ answer_command =
     with_rule (with_rule (with_rule (with_rule (with_rule (file_command (codes "answer")) (flag_arg (codes "raw"))) (flag_arg (codes "numbers")))
     (flag_arg (codes "count"))) most_option) longest_request_option
 
--- A command that writes a file, with the arguments IN and OUT and `--verbose`.
+-- A command that writes a file, with the arguments IN and OUT, `--verbose` and `--no-progress`.
 abbrev pub in_out_command : Text → App
-in_out_command name = with_rule (with_rule (with_rule (new_app name) (required_arg (codes "IN"))) (required_arg (codes "OUT"))) verbose_flag
+in_out_command name =
+    with_rule (with_rule (with_rule (with_rule (new_app name) (required_arg (codes "IN"))) (required_arg (codes "OUT"))) verbose_flag) no_progress_flag
 
 -- `build IN OUT`, with `--base`, `--block-size` and `--progress`
 abbrev pub build_command : App
@@ -141,9 +151,35 @@ build_command = with_rule (with_rule (with_rule (in_out_command (codes "build"))
 abbrev pub rewrite_command : App
 rewrite_command = with_rule (with_rule (in_out_command (codes "rewrite")) block_size_option) progress_flag
 
+-- IN: the required argument FILE, shown as IN.
+abbrev pub first_input_arg : Rule
+first_input_arg = record (required_arg (codes "FILE")) { value_names = 1 }
+
+-- `lint IN`, with `--keep` and `--most`
+abbrev pub lint_command : App
+lint_command = with_rule (with_rule (with_rule (with_rule (new_app (codes "lint")) first_input_arg) (flag_arg (codes "keep"))) most_option) verbose_flag
+
 -- `explain REASON`
 abbrev pub explain_command : App
 explain_command = with_rule (new_app (codes "explain")) (required_arg (codes "REASON"))
+
+-- PATHS: any number of texts, none too.
+abbrev pub paths_arg : Rule
+paths_arg = record (new_rule (codes "PATHS")) { action = Some Append; range = Some (record { start_inclusive = 0; end_inclusive = usize_max }) }
+
+-- `--name TEXT`: a text; no default.
+abbrev pub text_option : Text → Rule
+text_option id = record (new_rule id) { long = Some id; value_names = 1 }
+
+-- `split IN PATHS`
+abbrev pub split_paths_command : App
+split_paths_command = with_rule (with_rule (new_app (codes "split")) first_input_arg) paths_arg
+
+-- `split IN PATHS`, with `--parts`, `--of` and `--blank-nodes`
+abbrev pub split_command : App
+split_command =
+    with_rule (with_rule (with_rule (with_rule split_paths_command (limit_option (codes "parts"))) (text_option (codes "of")))
+    (text_option (codes "blank-nodes"))) verbose_flag
 
 -- The program without commands. It requires a command or `--version`.
 abbrev pub empty_program : App
@@ -163,4 +199,5 @@ abbrev pub writing_commands : Names → App
 writing_commands names = with_subcommand (with_subcommand (with_subcommand (triple_commands names) (count_command names).top) build_command.top) rewrite_command.top
 
 abbrev pub table : Names → App
-table names = with_subcommand (writing_commands names) explain_command.top
+table names =
+    with_subcommand (with_subcommand (with_subcommand (writing_commands names) lint_command.top) split_command.top) explain_command.top

@@ -1,5 +1,5 @@
 -- What `hdt explain` prints for a word.
-use Rattle.std.specs.Prelude.{ℕ, Bool, ◌||◌, List, [], ◌∷◌, ◌++◌, Option, None, Some, map, option_map, codes, if◌then◌else◌}
+use Rattle.std.specs.Prelude.{ℕ, Bool, ◌||◌, List, [], ◌∷◌, ◌++◌, Option, None, Some, map, codes, if◌then◌else◌}
 use Rattle.std.specs.Borrow.{Bor}
 use Rattle.std.specs.Str.{bytes_eq}
 use Rattle.std.specs.Char.{to_ascii_lowercase}
@@ -35,17 +35,24 @@ abbrev pub explanation_text : List ℕ → ExplainedError → List ℕ
 explanation_text what e = codes "Error " ++ e.0 ++ codes " of " ++ what ++ codes ": " ++ e.1 ++ codes "\n\n" ++ e.2 ++ codes "\n\nCause: " ++ e.3
     ++ codes "\n\nRemedy: " ++ e.4
 
--- The explanation of the first error that the word names.
-abbrev pub explanation_in : List ℕ → List ℕ → List ExplainedError → Option (List ℕ)
-explanation_in what word errors = option_map (explanation_text what) (first_named word errors)
+-- A line that says which two errors a word names.
+abbrev pub two_errors : ExplainedError → ExplainedError → List ℕ
+two_errors file text = codes "Two errors: " ++ file.0 ++ codes " " ++ file.1 ++ codes " of an HDT file, and " ++ text.0 ++ codes " " ++ text.1
+    ++ codes " of an N-Triples text."
 
--- Two texts with an empty line between them, or one, or none.
-abbrev pub both_texts : Option (List ℕ) → Option (List ℕ) → Option (List ℕ)
-both_texts None text = text
-both_texts (Some file) None = Some file
-both_texts (Some file) (Some text) = Some (file ++ codes "\n\n" ++ text)
+-- The explanations of an error of a file and of one of a text, after a line that names both.
+abbrev pub both_texts : ExplainedError → ExplainedError → List ℕ
+both_texts file text = two_errors file text ++ codes "\n\n" ++ explanation_text (codes "an HDT file") file ++ codes "\n\n"
+    ++ explanation_text (codes "an N-Triples text") text
+
+-- The explanation of an error of a file, of one of a text, or of both.
+abbrev pub explanation_of_errors : Option ExplainedError → Option ExplainedError → Option (List ℕ)
+explanation_of_errors None None = None
+explanation_of_errors (Some file) None = Some (explanation_text (codes "an HDT file") file)
+explanation_of_errors None (Some text) = Some (explanation_text (codes "an N-Triples text") text)
+explanation_of_errors (Some file) (Some text) = Some (both_texts file text)
 
 -- What `hdt explain` prints for a word, without the line feed at its end: the explanation of a file's error, and of a
 -- text's error.
 unfoldable pub explanation_of : List ℕ → Option (List ℕ)
-explanation_of word = both_texts (explanation_in (codes "an HDT file") word file_explanations) (explanation_in (codes "an N-Triples text") word text_explanations)
+explanation_of word = explanation_of_errors (first_named word file_explanations) (first_named word text_explanations)

@@ -2,11 +2,12 @@
 ghost use Rattle.std.specs.Prelude.{◌≡◌, IfOk, false};
 ghost use Rattle.clap.specs.Words.{app_of, rule_of, with_rule};
 ghost use Rattle.clap.specs.declared.builder.command.Command.TheViews.{out-Command as fields_of};
-ghost use Rattle.hdt_usage.specs.CommandTable.{required_arg, flag_arg, option_arg, role_arg, base_option, block_size_option, progress_flag, verbose_flag, number_arg, limit_option, longest_request_option, most_option, prefix_option};
+ghost use Rattle.hdt_usage.specs.CommandTable.{base_option, block_size_option, first_input_arg, flag_arg, limit_option, longest_request_option, most_option, no_progress_flag, number_arg, option_arg, paths_arg, prefix_option, progress_flag, required_arg, role_arg, text_option, verbose_flag};
 
 use crate::help::{
-    BASE, BASE_HELP, BLOCK_SIZE_HELP, LONGEST_REQUEST_HELP, MOST_HELP, NUMBER_HELP, PREFIX_HELP,
-    PROGRESS_HELP, ROLE_HELP, VERBOSE_HELP,
+    BASE, BASE_HELP, BLOCK_SIZE_HELP, LONGEST_REQUEST_HELP, MOST_HELP, NO_PROGRESS_HELP,
+    NUMBER_HELP, PREFIX_HELP, PROGRESS_HELP, ROLE_HELP, SPLIT_IN_HELP, SPLIT_PATHS_HELP,
+    VERBOSE_HELP,
 };
 use clap::{Arg, ArgAction, Command, value_parser};
 use std::alloc::{AllocError, Global};
@@ -129,6 +130,18 @@ pub(crate) fn with_progress<'a>(
     with_flag(alloc, command, "progress", PROGRESS_HELP)
 }
 
+/// Adds `--no-progress` to the command.
+pub(crate) fn with_no_progress<'a>(
+    alloc: Global,
+    command: Command<'a>,
+) -> Result<Command<'a>, AllocError>
+    requires { (fields_of command).has_globals ≡ false }
+    ensures shape { IfOk result (λ c. app_of c ≡ with_rule (app_of command.entry) no_progress_flag) }
+    ensures local { IfOk result (λ c. (fields_of c).has_globals ≡ false) }
+{
+    with_flag(alloc, command, "no-progress", NO_PROGRESS_HELP)
+}
+
 /// Adds `--verbose` to the command.
 pub(crate) fn with_verbose<'a>(
     alloc: Global,
@@ -198,4 +211,49 @@ pub(crate) fn with_longest_request<'a>(
         LONGEST_REQUEST_HELP,
     );
     command.arg(option.value_parser(value_parser!(u32)))
+}
+
+/// Adds the required argument FILE, shown as IN, to the command.
+pub(crate) fn with_first_input<'a>(
+    alloc: Global,
+    command: Command<'a>,
+) -> Result<Command<'a>, AllocError>
+    requires { (fields_of command).has_globals ≡ false }
+    ensures shape { IfOk result (λ c. app_of c ≡ with_rule (app_of command.entry) first_input_arg) }
+    ensures local { IfOk result (λ c. (fields_of c).has_globals ≡ false) }
+{
+    let input = Arg::new(alloc, "FILE")
+        .value_name("IN")
+        .help(SPLIT_IN_HELP)
+        .required(true);
+    command.arg(input)
+}
+
+/// Adds the argument PATHS, any number of texts, to the command.
+pub(crate) fn with_paths<'a>(alloc: Global, command: Command<'a>) -> Result<Command<'a>, AllocError>
+    requires { (fields_of command).has_globals ≡ false }
+    ensures shape { IfOk result (λ c. app_of c ≡ with_rule (app_of command.entry) paths_arg) }
+    ensures local { IfOk result (λ c. (fields_of c).has_globals ≡ false) }
+{
+    let paths = Arg::new(alloc, "PATHS")
+        .help(SPLIT_PATHS_HELP)
+        .action(ArgAction::Append)
+        .num_args(..);
+    command.arg(paths)
+}
+
+/// Adds an option whose value is a text, without a default, to the command.
+pub(crate) fn with_text_option<'a>(
+    alloc: Global,
+    command: Command<'a>,
+    id: &'a str,
+    called: &'a str,
+    help: &'a str,
+) -> Result<Command<'a>, AllocError>
+    requires { (fields_of command).has_globals ≡ false }
+    ensures shape { IfOk result (λ c. app_of c ≡ with_rule (app_of command.entry) (text_option id.entry.now)) }
+    ensures local { IfOk result (λ c. (fields_of c).has_globals ≡ false) }
+{
+    let option = Arg::new(alloc, id).long(id).value_name(called).help(help);
+    command.arg(option)
 }

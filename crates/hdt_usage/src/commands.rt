@@ -2,26 +2,29 @@
 ghost use Rattle.std.specs.Prelude.{◌≡◌, IfOk, false};
 ghost use Rattle.clap.specs.Words.{app_of, with_subcommand};
 ghost use Rattle.clap.specs.declared.builder.command.Command.TheViews.{out-Command as fields_of};
-ghost use Rattle.hdt_usage.specs.CommandTable.{build_command, rewrite_command, in_out_command, file_command, head_command, verify_command, strings_command, string_command, number_command, count_command, answer_command, find_command, find_pattern_command, dump_command, explain_command, empty_program, file_commands, lookup_commands, triple_commands, writing_commands, table, info_command};
+ghost use Rattle.hdt_usage.specs.CommandTable.{build_command, rewrite_command, in_out_command, file_command, head_command, verify_command, strings_command, string_command, number_command, count_command, answer_command, find_command, find_pattern_command, dump_command, explain_command, lint_command, empty_program, file_commands, lookup_commands, triple_commands, writing_commands, table, info_command, split_command, split_paths_command};
 
 use crate::arguments::{
-    with_base, with_block_size, with_flag, with_limit, with_longest_request, with_most,
-    with_number, with_prefix, with_progress, with_required_arg, with_role, with_verbose,
+    with_base, with_block_size, with_first_input, with_flag, with_limit, with_longest_request,
+    with_most, with_no_progress, with_number, with_paths, with_prefix, with_progress,
+    with_required_arg, with_role, with_text_option, with_verbose,
 };
 use crate::help::{
     ABOUT, AFTER_HELP, ANSWER_ABOUT, ANSWER_LONG_ABOUT, BUILD_ABOUT, BUILD_LONG_ABOUT, COUNT_ABOUT,
     COUNT_HELP, COUNT_LONG_ABOUT, DUMP_ABOUT, DUMP_LONG_ABOUT, EXPLAIN_ABOUT, EXPLAIN_LONG_ABOUT,
     FILE_HELP, FIND_ABOUT, FIND_LONG_ABOUT, HEAD_ABOUT, HEAD_LONG_ABOUT, IN_HELP, INFO_ABOUT,
-    INFO_LONG_ABOUT, JSON_HELP, NUMBER_ABOUT, NUMBER_LONG_ABOUT, NUMBERS_HELP, OBJECT_HELP,
-    OUT_HELP, PREDICATE_HELP, QUIET_HELP, RAW_HELP, RAW_PARTS_HELP, RAW_REQUESTS_HELP,
-    RAW_STRINGS_HELP, REASON_HELP, REWRITE_ABOUT, REWRITE_LONG_ABOUT, SERVED_FILE_HELP,
+    INFO_LONG_ABOUT, JSON_HELP, KEEP_HELP, LINT_ABOUT, LINT_LONG_ABOUT, MOST_FAULTY_HELP,
+    NON_TERMS_HELP, NUMBER_ABOUT, NUMBER_LONG_ABOUT, NUMBERS_HELP, OBJECT_HELP, OUT_HELP,
+    PREDICATE_HELP, QUIET_HELP, RAW_HELP, RAW_PARTS_HELP, RAW_REQUESTS_HELP, RAW_STRINGS_HELP,
+    REASON_HELP, REWRITE_ABOUT, REWRITE_LONG_ABOUT, SERVED_FILE_HELP, SKIP_HELP, SPLIT_ABOUT,
+    SPLIT_BLANK_NODES_HELP, SPLIT_LONG_ABOUT, SPLIT_OF_HELP, SPLIT_PARTS_HELP, SPLIT_USAGE,
     STRING_ABOUT, STRINGS_ABOUT, STRINGS_LONG_ABOUT, SUBJECT_HELP, TERM_HELP, TERMS_HELP,
     TIGHT_HELP, TOP_HELP, VERIFY_ABOUT, VERIFY_LONG_ABOUT, VERSION,
 };
 use clap::Command;
 use std::alloc::{AllocError, Global};
 
-/// A command with the argument FILE, with this help, and `--verbose`.
+/// A command with the argument FILE, with this help, and `--verbose` and `--no-progress`.
 fn new_file_command<'a>(
     alloc: Global,
     name: &'a str,
@@ -36,10 +39,11 @@ fn new_file_command<'a>(
         .about(about)
         .long_about(long_about);
     let command = with_required_arg(alloc, command, "FILE", file_help)?;
-    with_verbose(alloc, command)
+    let command = with_verbose(alloc, command)?;
+    with_no_progress(alloc, command)
 }
 
-/// A command with the argument FILE and `--verbose`.
+/// A command with the argument FILE, `--verbose` and `--no-progress`.
 fn file_command<'a>(
     alloc: Global,
     name: &'a str,
@@ -60,13 +64,14 @@ fn new_head_command<'a>(alloc: Global) -> Result<Command<'a>, AllocError>
     file_command(alloc, "head", HEAD_ABOUT, HEAD_LONG_ABOUT)
 }
 
-/// `verify FILE`, with `--tight` and `--progress`.
+/// `verify FILE`, with `--tight`, `--terms` and `--progress`.
 fn new_verify_command<'a>(alloc: Global) -> Result<Command<'a>, AllocError>
     ensures shape { IfOk result (λ c. app_of c ≡ verify_command) }
     ensures local { IfOk result (λ c. (fields_of c).has_globals ≡ false) }
 {
     let command = file_command(alloc, "verify", VERIFY_ABOUT, VERIFY_LONG_ABOUT)?;
     let command = with_flag(alloc, command, "tight", TIGHT_HELP)?;
+    let command = with_flag(alloc, command, "terms", NON_TERMS_HELP)?;
     with_progress(alloc, command)
 }
 
@@ -133,7 +138,7 @@ fn find_pattern_command<'a>(alloc: Global) -> Result<Command<'a>, AllocError>
     with_required_arg(alloc, command, "O", OBJECT_HELP)
 }
 
-/// `find FILE S P O`, with `--raw`, `--numbers`, `--count`, `--quiet` and `--most`.
+/// `find FILE S P O`, with `--raw`, `--numbers`, `--count`, `--quiet`, `--skip-non-terms` and `--most`.
 fn new_find_command<'a>(alloc: Global) -> Result<Command<'a>, AllocError>
     ensures shape { IfOk result (λ c. app_of c ≡ find_command) }
     ensures local { IfOk result (λ c. (fields_of c).has_globals ≡ false) }
@@ -143,18 +148,20 @@ fn new_find_command<'a>(alloc: Global) -> Result<Command<'a>, AllocError>
     let command = with_flag(alloc, command, "numbers", NUMBERS_HELP)?;
     let command = with_flag(alloc, command, "count", COUNT_HELP)?;
     let command = with_flag(alloc, command, "quiet", QUIET_HELP)?;
+    let command = with_flag(alloc, command, "skip-non-terms", SKIP_HELP)?;
     with_most(alloc, command)
 }
 
-/// `dump FILE`.
+/// `dump FILE`, with `--skip-non-terms`.
 fn new_dump_command<'a>(alloc: Global) -> Result<Command<'a>, AllocError>
     ensures shape { IfOk result (λ c. app_of c ≡ dump_command) }
     ensures local { IfOk result (λ c. (fields_of c).has_globals ≡ false) }
 {
-    file_command(alloc, "dump", DUMP_ABOUT, DUMP_LONG_ABOUT)
+    let command = file_command(alloc, "dump", DUMP_ABOUT, DUMP_LONG_ABOUT)?;
+    with_flag(alloc, command, "skip-non-terms", SKIP_HELP)
 }
 
-/// A command that writes a file, with the arguments IN and OUT and `--verbose`.
+/// A command that writes a file, with the arguments IN and OUT, `--verbose` and `--no-progress`.
 fn in_out_command<'a>(
     alloc: Global,
     name: &'a str,
@@ -170,7 +177,8 @@ fn in_out_command<'a>(
         .long_about(long_about);
     let command = with_required_arg(alloc, command, "IN", in_help)?;
     let command = with_required_arg(alloc, command, "OUT", OUT_HELP)?;
-    with_verbose(alloc, command)
+    let command = with_verbose(alloc, command)?;
+    with_no_progress(alloc, command)
 }
 
 /// `build IN OUT`, with `--base`, `--block-size` and `--progress`.
@@ -217,6 +225,46 @@ fn new_answer_command<'a>(alloc: Global) -> Result<Command<'a>, AllocError>
     let command = with_flag(alloc, command, "count", COUNT_HELP)?;
     let command = with_most(alloc, command)?;
     with_longest_request(alloc, command)
+}
+
+/// `lint IN`, with `--keep` and `--most`.
+fn new_lint_command<'a>(alloc: Global) -> Result<Command<'a>, AllocError>
+    ensures shape { IfOk result (λ c. app_of c ≡ lint_command) }
+    ensures local { IfOk result (λ c. (fields_of c).has_globals ≡ false) }
+{
+    let command = Command::new(alloc, "lint")
+        .about(LINT_ABOUT)
+        .long_about(LINT_LONG_ABOUT);
+    let command = with_first_input(alloc, command)?;
+    let command = with_flag(alloc, command, "keep", KEEP_HELP)?;
+    let command = with_limit(alloc, command, "most", MOST_FAULTY_HELP)?;
+    with_verbose(alloc, command)
+}
+
+/// `split IN PATHS`.
+fn split_paths_command<'a>(alloc: Global) -> Result<Command<'a>, AllocError>
+    ensures shape { IfOk result (λ c. app_of c ≡ split_paths_command) }
+    ensures local { IfOk result (λ c. (fields_of c).has_globals ≡ false) }
+{
+    let command = Command::new(alloc, "split")
+        .about(SPLIT_ABOUT)
+        .long_about(SPLIT_LONG_ABOUT)
+        .override_usage(SPLIT_USAGE);
+    let command = with_first_input(alloc, command)?;
+    with_paths(alloc, command)
+}
+
+/// `split IN PATHS`, with `--parts`, `--of` and `--blank-nodes`.
+fn new_split_command<'a>(alloc: Global) -> Result<Command<'a>, AllocError>
+    ensures shape { IfOk result (λ c. app_of c ≡ split_command) }
+    ensures local { IfOk result (λ c. (fields_of c).has_globals ≡ false) }
+{
+    let command = split_paths_command(alloc)?;
+    let command = with_limit(alloc, command, "parts", SPLIT_PARTS_HELP)?;
+    let command = with_text_option(alloc, command, "of", "K/N", SPLIT_OF_HELP)?;
+    let blank_nodes = "blank-nodes";
+    let command = with_text_option(alloc, command, blank_nodes, "WORD", SPLIT_BLANK_NODES_HELP)?;
+    with_verbose(alloc, command)
 }
 
 /// `explain REASON`.
@@ -303,5 +351,7 @@ pub fn make_command_table<'a>(
     ensures { IfOk result (λ c. app_of c ≡ table roles.entry) }
 {
     let program = writing_commands(alloc, roles)?;
+    let program = with_command(program, new_lint_command(alloc)?)?;
+    let program = with_command(program, new_split_command(alloc)?)?;
     with_command(program, new_explain_command(alloc)?)
 }

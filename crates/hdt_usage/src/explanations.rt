@@ -1,6 +1,6 @@
 //! `hdt explain`: what an error means, what usually causes it, and what to do.
 ghost use Rattle.std.specs.Prelude.{◌≡◌, IfOk, option_map, map, string_bytes};
-ghost use Rattle.hdt_usage.specs.Explanations.{explained_error, is_named, first_named, explanation_text, explanation_in, both_texts, file_explanations, text_explanations, explanation_of};
+ghost use Rattle.hdt_usage.specs.Explanations.{explained_error, is_named, first_named, explanation_text, two_errors, both_texts, file_explanations, text_explanations, explanation_of};
 
 use crate::file_errors::FILE_ERRORS;
 use crate::text_errors::TEXT_ERRORS;
@@ -61,38 +61,30 @@ fn explanation_text(alloc: Global, what: &str, error: &Explanation) -> Result<St
     )
 }
 
-/// The explanation of the first error that a word names.
-fn explanation_in(
-    alloc: Global,
-    word: &str,
-    what: &str,
-    errors: &[Explanation],
-) -> Result<Option<String>, AllocError>
-    ensures { IfOk result (λ found. option_map string_bytes found ≡ explanation_in what.now word.now (map explained_error errors.now)) }
+/// The line that says which two errors a word names.
+fn two_errors(alloc: Global, file: &Explanation, text: &Explanation) -> Result<String, AllocError>
+    ensures { IfOk result (λ line. string_bytes line ≡ two_errors (explained_error file.now) (explained_error text.now)) }
 {
-    match first_named(word, errors) {
-        Some(error) => Ok(Some(explanation_text(alloc, what, error)?)),
-        None => Ok(None),
-    }
+    let (file_number, file_name, _, _, _) = *file;
+    let (text_number, text_name, _, _, _) = *text;
+    format!(in alloc;
+        "Two errors: {file_number} {file_name} of an HDT file, and {text_number} {text_name} of an N-Triples text."
+    )
 }
 
-/// Two explanations with an empty line between them, or one, or none.
-fn both_texts(
-    alloc: Global,
-    file: Option<String>,
-    text: Option<String>,
-) -> Result<Option<String>, AllocError>
-    ensures { IfOk result (λ found. option_map string_bytes found ≡ both_texts (option_map string_bytes file) (option_map string_bytes text)) }
+/// The explanations of an error of a file and of one of a text, after a line that names both.
+fn both_texts(alloc: Global, file: &Explanation, text: &Explanation) -> Result<String, AllocError>
+    ensures { IfOk result (λ found. string_bytes found ≡ both_texts (explained_error file.now) (explained_error text.now)) }
 {
-    match (file, text) {
-        (Some(file), Some(text)) => Ok(Some(format!(in alloc; "{file}\n\n{text}")?)),
-        (Some(text), None) => Ok(Some(text)),
-        (None, text) => Ok(text),
-    }
+    let line = two_errors(alloc, file, text)?;
+    let of_file = explanation_text(alloc, "an HDT file", file)?;
+    let of_text = explanation_text(alloc, "an N-Triples text", text)?;
+    format!(in alloc; "{line}\n\n{of_file}\n\n{of_text}")
 }
 
 /// The explanation of an error of an HDT file, then that of an N-Triples text, which a word names by its number or by
-/// its name in letters of any case; `None` if there is neither. The text has no line feed at its end.
+/// its name in letters of any case, after a line that names both if there are two; `None` if there is neither. The text
+/// has no line feed at its end.
 ///
 /// # Errors
 ///
@@ -101,7 +93,13 @@ fn both_texts(
 pub fn explain(alloc: Global, word: &str) -> Result<Option<String>, AllocError>
     ensures { IfOk result (λ found. option_map string_bytes found ≡ explanation_of word.now) }
 {
-    let file = explanation_in(alloc, word, "an HDT file", file_explanations())?;
-    let text = explanation_in(alloc, word, "an N-Triples text", text_explanations())?;
-    both_texts(alloc, file, text)
+    let file = first_named(word, file_explanations());
+    let text = first_named(word, text_explanations());
+    let found = match (file, text) {
+        (Some(file), Some(text)) => both_texts(alloc, file, text)?,
+        (Some(file), None) => explanation_text(alloc, "an HDT file", file)?,
+        (None, Some(text)) => explanation_text(alloc, "an N-Triples text", text)?,
+        (None, None) => return Ok(None),
+    };
+    Ok(Some(found))
 }

@@ -17,16 +17,16 @@ again. If they are equal, build the file again.",
         "2",
         "OverlongNumber",
         "A VByte number has more bytes than it needs: its last digit is 0.",
-        "The program that wrote the file pads its numbers to a fixed length, or
-the file is damaged.",
+        "The program that wrote it pads its numbers to a fixed length, or the
+file is damaged.",
         "Fetch the file again, or build it again.",
     ),
     (
         "3",
         "NumberTooLarge",
         "A VByte number is 2^64 or greater, or has no last byte among its first ten.",
-        "The file is damaged, or its writer sets the top bit of all bytes but
-the last, as LEB128 does. In HDT it is the last byte that has the top bit set.",
+        "The file is damaged, or the program that wrote it sets the top bit of
+all bytes but the last, as LEB128 does. In HDT the last byte alone has it set.",
         "Fetch the file again, or build it again.",
     ),
     (
@@ -36,8 +36,8 @@ the last, as LEB128 does. In HDT it is the last byte that has the top bit set.",
         "At offset 0, the input is no HDT file: it is compressed, N-Triples, or
 an HTML page. At a greater offset, the header was edited, and its property
 length was not.",
-        "Decompress the file (zcat FILE | hdt verify /dev/stdin), or build one
-from N-Triples. Do not edit the header of a file by hand.",
+        "Decompress the file (zcat FILE | hdt verify -), or build one from
+N-Triples. Do not edit the header of a file by hand.",
     ),
     (
         "5",
@@ -71,8 +71,7 @@ these.",
         "HeaderLength",
         "The header has no property length, or its value is no decimal number below
 2^64.",
-        "The program that wrote the file left it out, or the property was
-edited.",
+        "The program that wrote it left it out, or the property was edited.",
         "Build the file again.",
     ),
     (
@@ -89,7 +88,8 @@ these.",
         "Check8",
         "The CRC-8 of the type and the lengths of a section, a log sequence or a bitmap
 does not match.",
-        "The file is damaged, or its writer computes the CRC wrongly.",
+        "The file is damaged, or the program that wrote it computes the CRC
+wrongly.",
         "Compare the checksum of the file with that of the original, and fetch
 it again. If they are equal, build the file again.",
     ),
@@ -98,7 +98,8 @@ it again. If they are equal, build the file again.",
         "Check32",
         "The CRC-32C of the strings of a section, or of the data of a log sequence or a
 bitmap, does not match.",
-        "The file is damaged, or its writer computes the CRC wrongly.",
+        "The file is damaged, or the program that wrote it computes the CRC
+wrongly.",
         "Compare the checksum of the file with that of the original, and fetch
 it again. If they are equal, build the file again.",
     ),
@@ -106,8 +107,8 @@ it again. If they are equal, build the file again.",
         "12",
         "SequenceKind",
         "The type byte of a log sequence is not 1.",
-        "The writer stores its integers in another encoding, such as 32 bits
-each, or the file is damaged.",
+        "The program that wrote it stores integers in another encoding, such as
+32 bits each, or the file is damaged.",
         "Fetch the file again. If it is as its author made it, export
 N-Triples, and build from these.",
     ),
@@ -115,15 +116,15 @@ N-Triples, and build from these.",
         "13",
         "Width",
         "A log sequence has entries of more than 64 bits.",
-        "The file is damaged, or its writer has a defect.",
+        "The file is damaged, or the program that wrote it has a defect.",
         "Fetch the file again, or build it again.",
     ),
     (
         "14",
         "BitsKind",
         "The type byte of a bitmap is not 1.",
-        "The writer stores its bitmaps in another encoding, such as a compressed
-one, or the file is damaged.",
+        "The program that wrote it stores bitmaps in another encoding, such as a
+compressed one, or the file is damaged.",
         "Fetch the file again. If it is as its author made it, export
 N-Triples, and build from these.",
     ),
@@ -131,8 +132,8 @@ N-Triples, and build from these.",
         "15",
         "SectionKind",
         "The type byte of a dictionary section is not 2, which is plain front coding.",
-        "The writer compresses the strings in another way, or the file is
-damaged.",
+        "The program that wrote it compresses the strings in another way, or the
+file is damaged.",
         "Fetch the file again. If it is as its author made it, export
 N-Triples, and build from these.",
     ),
@@ -140,8 +141,7 @@ N-Triples, and build from these.",
         "16",
         "BlockSize",
         "A section that has strings has the block size 0.",
-        "The program that wrote the file has a defect: the CRC of the number is
-right.",
+        "The program that wrote it has a defect: the CRC of the number is right.",
         "Build the file again.",
     ),
     (
@@ -149,8 +149,8 @@ right.",
         "BlockCount",
         "A section does not have one block offset for each block, and one more for the
 end of the last.",
-        "The program that wrote the file leaves the last offset out, or counts
-its blocks wrongly.",
+        "The program that wrote it leaves the last offset out, or counts its
+blocks wrongly.",
         "Build the file again.",
     ),
     (
@@ -158,16 +158,16 @@ its blocks wrongly.",
         "BlockPlace",
         "A block offset of a section is not where its block begins, or the last one is
 not where the strings end.",
-        "The program that wrote the file computes the offsets wrongly, or copied
-those of other strings.",
+        "The program that wrote it computes the offsets wrongly, or copied those
+of other strings.",
         "Build the file again.",
     ),
     (
         "19",
         "PrefixTooLong",
         "A string shares more bytes with the string before than that has.",
-        "The program that wrote the file computes prefixes over another string
-than the one before.",
+        "The program that wrote it computes prefixes over another string than
+the one before.",
         "Build the file again.",
     ),
     (
@@ -175,8 +175,8 @@ than the one before.",
         "PackedLength",
         "The front-coded strings of a section do not end exactly where their stored
 length says.",
-        "The program that wrote the file counts strings or bytes wrongly, or
-does not end each string with a zero byte.",
+        "The program that wrote it counts strings or bytes wrongly, or does not
+end each string with a zero byte.",
         "Build the file again.",
     ),
     (
@@ -193,8 +193,8 @@ file again.",
         "StringsNotAscending",
         "A string of a section is not greater than the string before, compared by
 unsigned bytes.",
-        "The program that wrote the file sorts strings in another order, such as
-that of UTF-16 or of a language, or keeps duplicates.",
+        "The program that wrote it sorts strings in another order, such as that
+of UTF-16 or of a language, or keeps duplicates.",
         "Export N-Triples with the program that wrote the file, and build from
 these.",
     ),
@@ -203,8 +203,8 @@ these.",
         "SectionsOverlap",
         "A string is in two of the sections shared, subjects and objects. The offset is
 that of the second one.",
-        "The program that wrote the file does not move strings that are subject
-and object to the shared section.",
+        "The program that wrote it does not move strings that are subject and
+object to the shared section.",
         "Export N-Triples with the program that wrote the file, and build from
 these.",
     ),
@@ -221,40 +221,40 @@ file here.",
         "25",
         "LengthsDiffer",
         "A bitmap and its log sequence have different lengths.",
-        "The program that wrote the file has a defect, or the sequences are
-those of two files.",
+        "The program that wrote it has a defect, or the sequences are those of
+two files.",
         "Build the file again.",
     ),
     (
         "26",
         "LastMark",
         "The last bit of a bitmap of the triples is 0, so its last list does not end.",
-        "The program that wrote the file sets bits where lists begin, not where
-they end, or lost the last triples.",
+        "The program that wrote it sets bits where lists begin, not where they
+end, or lost the last triples.",
         "Build the file again.",
     ),
     (
         "27",
         "MarkCount",
         "Bitmap Z does not have one 1-bit for each pair of a subject and a predicate.",
-        "The program that wrote the file has a defect, or stores the two bitmaps
-in the wrong order.",
+        "The program that wrote it has a defect, or stores the two bitmaps in
+the wrong order.",
         "Build the file again.",
     ),
     (
         "28",
         "SubjectRange",
         "The triples have more subjects than the dictionary.",
-        "The dictionary and the triples belong to two files, or the writer sets
-1-bits of bitmap Y wrongly.",
+        "The dictionary and the triples belong to two files, or 1-bits of bitmap
+Y are wrong.",
         "Build the file again.",
     ),
     (
         "29",
         "PredicateRange",
         "A predicate ID is 0 or greater than the number of predicates.",
-        "The program that wrote the file counts IDs from 0, or the dictionary
-and the triples belong to two files.",
+        "The program that wrote it counts IDs from 0, or the dictionary and the
+triples belong to two files.",
         "Build the file again.",
     ),
     (
@@ -262,15 +262,15 @@ and the triples belong to two files.",
         "ObjectRange",
         "An object ID is 0 or greater than the number of objects, the shared strings
 included.",
-        "The program that wrote the file counts IDs from 0, or counts objects
-without the shared strings.",
+        "The program that wrote it counts IDs from 0, or counts objects without
+the shared strings.",
         "Build the file again.",
     ),
     (
         "31",
         "PredicatesNotAscending",
         "A predicate ID is not greater than the one before of the same subject.",
-        "The program that wrote the file did not sort the triples.",
+        "The program that wrote it did not sort the triples.",
         "Export N-Triples with the program that wrote the file, and build from
 these.",
     ),
@@ -279,8 +279,8 @@ these.",
         "ObjectsNotAscending",
         "An object ID is not greater than the one before of the same subject and
 predicate.",
-        "The program that wrote the file did not sort the triples, or stored a
-triple twice.",
+        "The program that wrote it did not sort the triples, or stored a triple
+twice.",
         "Export N-Triples with the program that wrote the file, and build from
 these.",
     ),

@@ -12,13 +12,16 @@ Exit status:
   0  success
   1  invalid input, with the first error and its position on standard error; no triples to build
      from; no such term or ID; a string that has no form in N-Triples; an invalid request of
-     `answer`
-  2  usage error, or `build` would overwrite its input
+     `answer`; a faulty line for `lint`
+  2  usage error, or `build` or `lint` would write to its input
   3  reading or writing failed; a closed pipe is a failed write
   4  out of memory
 
 After an error message more lines follow, indented, if standard error is a terminal or with
 --verbose: the path, the place and the system's reason, the line, the error's meaning, and hints.
+
+If standard error is a terminal, a command shows its progress in one line once it has read 16 MiB.
+The line is removed at the end. --no-progress turns it off; --progress prints lines for a log.
 
 Beyond a limit on file size (ulimit -f) the system ends the program by the signal SIGXFSZ.
 If that signal is ignored, writing fails.";
@@ -38,11 +41,20 @@ pub(crate) const VERIFY_LONG_ABOUT: &str = "Verify a file.
 For a valid file, print `ok` and five counts: the triples, then the strings of the sections
 shared, subjects, predicates and objects. Otherwise report the first error and its byte offset.
 With --tight, also reject a file whose dictionary has a string that no triple uses in the role
-of its section. `rewrite` leaves such strings out.";
+of its section. `rewrite` leaves such strings out.
+
+With --terms, print a line for each string of a valid file that is not a term of its role, which
+has no form in N-Triples: its role, its ID and its byte offset, separated by tabs. A string of
+the section shared is a subject and an object. If there is a line, the exit status is 1, and if
+there is none, `ok` and the counts are printed.";
 
 pub(crate) const TIGHT_HELP: &str = "Also reject strings that no triple uses";
 
-pub(crate) const PROGRESS_HELP: &str = "Report the bytes read on standard error";
+pub(crate) const NON_TERMS_HELP: &str = "Print the strings that are not terms of their role";
+
+pub(crate) const PROGRESS_HELP: &str = "Report the bytes read in lines on standard error";
+
+pub(crate) const NO_PROGRESS_HELP: &str = "Show no progress on a terminal";
 
 pub(crate) const INFO_ABOUT: &str = "Print the sizes of the parts of a file";
 
@@ -115,6 +127,11 @@ strings that have no form in N-Triples. With --count only the number of matching
 printed, and --numbers has no effect. With --most N only the first N matching triples are
 printed or counted.
 
+With --skip-non-terms triples with a string that has no form in N-Triples are left out; without
+it such a string is an error, and nothing is printed. The number of the triples left out is on
+standard error, and the exit status 1 if there are any. With --most N it is that of the triples
+before the end of the N lines. It has no effect with --numbers.
+
 With --quiet nothing is printed. The exit status is 0 if a triple matches and 1 if none does. The
 search stops at the first match, so --numbers, --count and --most have no effect.";
 
@@ -143,7 +160,11 @@ pub(crate) const LONGEST_REQUEST_HELP: &str = "Reject request lines of more than
 pub(crate) const DUMP_ABOUT: &str = "Print all triples";
 
 pub(crate) const DUMP_LONG_ABOUT: &str =
-    "Print all triples in N-Triples, one line each, in the order of the file.";
+    "Print all triples in N-Triples, one line each, in the order of the file.
+
+If a string has no form in N-Triples, nothing is printed and the exit status is 1. With
+--skip-non-terms its triples are left out; their number is on standard error, and the exit status
+is 1 if there are any.";
 
 pub(crate) const BUILD_ABOUT: &str = "Build a file from N-Triples";
 
@@ -181,6 +202,60 @@ regular file, it is opened and written.
 If OUT is - or the file or pipe of standard output, the file goes there, after what is already
 written there, and the line of counts to standard error. If that goes there too, the line is not
 printed.";
+
+pub(crate) const LINT_ABOUT: &str = "Report every faulty line of N-Triples";
+
+pub(crate) const LINT_LONG_ABOUT: &str = "Report every faulty line of N-Triples.
+
+One line per faulty line: `line L column C: N NAME`, with its number, the column of its first
+error in bytes, both from 1, and the number and the name of the reason, as `explain` takes them.
+The exit status is 1 if there are any, else 0. With --most N only the first N faulty lines are
+reported, and nothing after them is checked.
+
+Without --keep the reports are printed to standard output. With --keep the lines without an error
+are printed there, byte for byte and with their ends, also blank lines and comments; the reports
+go to standard error. So `hdt lint --keep IN | hdt build - OUT` builds a file from the valid lines
+of IN. Standard output must not be IN.";
+
+pub(crate) const KEEP_HELP: &str = "Print the lines without an error; report to standard error";
+
+pub(crate) const MOST_FAULTY_HELP: &str = "Stop after N faulty lines";
+
+pub(crate) const SPLIT_ABOUT: &str = "Split N-Triples into parts, by subject";
+
+pub(crate) const SPLIT_USAGE: &str = "hdt split [OPTIONS] --parts <N> <IN>... <FOLDER>
+       hdt split [OPTIONS] --of <K/N> <IN>...";
+
+pub(crate) const SPLIT_LONG_ABOUT: &str = "Split N-Triples into parts, by subject.
+
+All triples of a subject go to one part: its number, from 0, is the CRC-32 (that of gzip) of the
+subject's dictionary string in UTF-8, modulo N. A line with a triple goes whole to its part; lines
+without one go nowhere. A part has its lines in the order of the inputs.
+
+With --parts N, FOLDER is made, with the files part-00000.nt, part-00001.nt and so on: one for
+each part that has triples. FOLDER must not be there. It is made under another name beside it and
+then renamed; on failure it is removed. A killed program may leave FOLDER.unfinished- and 16
+digits: remove it. With --of K/N, only the part K of N is printed, to standard output, before all
+of the input is read: the output is complete only if the exit status is 0.
+
+Where two inputs have blank nodes, say by --blank-nodes whether a label is one node in all inputs
+(one), or not (apart): then labels of the first input get the prefix f0_, those of the second one
+f1_, and so on. The part is that of the label with its prefix.
+
+An error message has the path of its input. Memory: 64 KiB for each part that has triples, and
+the longest line.";
+
+pub(crate) const SPLIT_IN_HELP: &str =
+    "Path of an N-Triples document to read, or - for standard input";
+
+pub(crate) const SPLIT_PATHS_HELP: &str = "Paths of further documents, and without --of of FOLDER";
+
+pub(crate) const SPLIT_PARTS_HELP: &str = "The number of parts, 1 to 65536";
+
+pub(crate) const SPLIT_OF_HELP: &str = "Print the part K, from 0, of N parts";
+
+pub(crate) const SPLIT_BLANK_NODES_HELP: &str =
+    "Whether a label is one node in all inputs: one or apart";
 
 pub(crate) const EXPLAIN_ABOUT: &str = "Explain an error of a file or a text";
 
@@ -234,5 +309,7 @@ pub(crate) const NUMBERS_HELP: &str = "Print the IDs of each triple";
 pub(crate) const COUNT_HELP: &str = "Print the number of matching triples only";
 
 pub(crate) const QUIET_HELP: &str = "Print nothing; exit with 0 if a triple matches, else 1";
+
+pub(crate) const SKIP_HELP: &str = "Leave out triples with a string that is not a term";
 
 pub(crate) const MOST_HELP: &str = "Stop after N triples";

@@ -1,6 +1,6 @@
 //! Hints for an input that is not what the command reads.
 ghost use Rattle.std.specs.Prelude.{◌≡◌, slice_index};
-ghost use Rattle.hdt_usage.specs.Hints.{hint_in, term_hint, begins_as_term, begins_as_number};
+ghost use Rattle.hdt_usage.specs.Hints.{hint_in, term_hint, prefix_hint, begins_as_term, begins_as_number};
 
 /// A hint for a document or a file that begins with certain bytes.
 #[derive(Clone, Copy, Debug)]
@@ -189,6 +189,19 @@ pub fn term_hint(term: &[u8]) -> &'static str
         "a number is a literal: '\"5\"^^<http://www.w3.org/2001/XMLSchema#integer>'"
     } else {
         "a literal is written in double quotes, within single ones: '\"text\"'"
+    }
+}
+
+/// What to do about a prefix with which no string of a dictionary begins, or an empty text.
+pub fn prefix_hint(prefix: &[u8]) -> &'static str
+    ensures { result.now ≡ prefix_hint prefix.now }
+{
+    if first_byte(prefix) == b'<' {
+        "an IRI has no < and > in a dictionary: --prefix http://example.org/"
+    } else if begins_as_term(prefix) || prefix.contains(&b':') {
+        ""
+    } else {
+        "a literal begins with a double quote in a dictionary: --prefix '\"text'"
     }
 }
 

@@ -22,5 +22,5 @@ mod text_errors;
 
 pub use commands::make_command_table;
 pub use explanations::{Explanation, explain, file_explanations, first_named, text_explanations};
-pub use hints::{DOCUMENT_HINTS, FILE_HINTS, Hint, hint_in, term_hint};
+pub use hints::{DOCUMENT_HINTS, FILE_HINTS, Hint, hint_in, prefix_hint, term_hint};
 pub use shown_line::{marked_line, put_shown};

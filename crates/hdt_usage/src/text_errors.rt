@@ -7,12 +7,14 @@ pub const TEXT_ERRORS: &[Explanation] = &[
     (
         "1",
         "Syntax",
-        "A token is missing, or something else is where it should be.",
-        "A missing dot, bracket or quote; a line end within a string; a literal
-as subject. Or the document is Turtle, with @prefix or prefixed names, or has
-quads.",
-        "Correct the line at that column. Convert Turtle first:
-serdi -i turtle -o ntriples IN > OUT.",
+        "The line is not N-Triples: the byte at this column is not allowed there, or
+the line ends too soon (the column is then one past its end).",
+        "At the end of the line: no dot, or a string without its closing quote.
+Where a term begins: Turtle (@prefix, ex:a, 5), or a literal as subject or
+predicate. Within an IRI: a space, or no >. After the object: ;, or a graph,
+as in N-Quads.",
+        "Correct the line at that column; a space in an IRI is %20. Convert
+Turtle: serdi -i turtle -o ntriples IN > OUT.",
     ),
     (
         "2",

@@ -4,6 +4,7 @@ from __future__ import annotations
 
 import argparse
 import dataclasses
+import logging
 import sys
 from socketserver import ThreadingMixIn
 from wsgiref.simple_server import WSGIRequestHandler, WSGIServer, make_server
@@ -43,7 +44,7 @@ def main() -> int:
     parser.add_argument("--config", help="a file of TOML or JSON")
     parser.add_argument("dataset", nargs="*", metavar="NAME=FILE", help="a dataset and its HDT file")
     words = parser.parse_args()
-    log_to_standard_error()
+    logging.getLogger("hdt.fragments").addHandler(logging.NullHandler())  # (so that one line says what is wrong)
     try:
         application = Application(_config(words))
     except (OSError, ValueError) as error:
@@ -51,6 +52,14 @@ def main() -> int:
         return 2
     if not application.datasets:
         parser.error("there is no dataset")
+    wrong = {name: dataset for name, dataset in application.datasets.items() if dataset.error}
+    for word in words.dataset:  # (a dataset of the configuration answers 503, as under another server)
+        if dataset := wrong.get(word.partition("=")[0]):
+            print(f"hdt.fragments: {word}: {dataset.error}", file=sys.stderr)
+            return 2
+    log_to_standard_error()
+    for dataset in wrong.values():
+        dataset.log_error()
     with make_server("127.0.0.1", words.port, application, server_class=Server, handler_class=Handler) as server:
         print(f"http://127.0.0.1:{server.server_port}/", file=sys.stderr, flush=True)
         try:

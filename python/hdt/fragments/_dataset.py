@@ -48,7 +48,7 @@ class Dataset:
         self._lock = threading.Lock()
         self._loaded: Optional[Loaded] = None
         self._refused: Optional[Identity] = None
-        self._reported = ""
+        self.error = ""  # why the file as it is now can't be opened
         self._checked = time.monotonic()
         self._load()
 
@@ -71,12 +71,12 @@ class Dataset:
         try:
             identity = identity_of(os.stat(self.source.file))
             if self._loaded and identity == self._loaded.identity:
-                self._reported = ""
+                self.error = ""
                 return
             if identity == self._refused:
                 return
             again = self._loaded is not None
-            self._loaded, self._refused, self._reported = Loaded(self.source, self._most_predicates), None, ""
+            self._loaded, self._refused, self.error = Loaded(self.source, self._most_predicates), None, ""
             if again:
                 log.warning("%s: the file was replaced: %d triples", self.name, self._loaded.reader.counts.triples)
         except (OSError, ValueError, MemoryError) as error:
@@ -85,7 +85,11 @@ class Dataset:
 
     def _report(self, why: str) -> None:
         """Log an error, once."""
-        if why != self._reported:
-            self._reported = why
-            kept = "the file before it is kept" if self._loaded else "it answers 503"
-            log.error("%s: %s can't be opened: %s: %s", self.name, self.source.file, why, kept)
+        if why != self.error:
+            self.error = why
+            self.log_error()
+
+    def log_error(self) -> None:
+        """Log why the file can't be opened."""
+        kept = "the file before it is kept" if self._loaded else "it answers 503"
+        log.error("%s: %s can't be opened: %s: %s", self.name, self.source.file, self.error, kept)

@@ -10,6 +10,7 @@ from dataclasses import dataclass
 from functools import cached_property
 from typing import Optional
 
+from hdt._calls import is_bracketed
 from hdt.fragments import _terms as terms
 from hdt.fragments._config import Config
 from hdt.fragments._dataset import Dataset, Loaded
@@ -52,6 +53,7 @@ def asked(text: str, role: int, reader: Reader, prefix: str, prefixes: Mapping[s
         return Asked(label)
     if text.startswith("_:") or reader.has(role, text):
         return Asked(text)
+    text = text.strip("<>") if is_bracketed(text) else text  # (a search for brackets raises ValueError)
     name, colon, local = text.partition(":")
     if colon and name in prefixes:
         return Asked(prefixes[name] + local)

@@ -12,7 +12,7 @@ from operator import itemgetter
 from typing import Any, Optional, TypeVar
 
 import hdt
-from hdt._calls import Path, StringTriple, closed
+from hdt._calls import Path, StringTriple, bracketed, closed, is_bracketed
 from hdt.parts import _files
 from hdt.parts._errors import PartFault
 from hdt.parts._executor import Task, results
@@ -71,11 +71,13 @@ class OpenFolder:
         return Task(self._executor, part.file, _files.run, self._folder, part, call, *parameters)
 
     def _asked(self, pattern: Pattern) -> list[int]:
-        """The parts that may have matches. Raises TypeError for what is no term."""
+        """The parts that may have matches. Raises TypeError for what is no str, and ValueError for one in brackets."""
         self._check_open()
         for term in pattern:
             if not (term is None or isinstance(term, str)):
                 raise TypeError(f"a term is a str, not {type(term).__name__}")
+            if term is not None and is_bracketed(term):  # (`build` puts terms alone into a folder)
+                raise bracketed(term)
         if pattern[0] is None:
             return self._there
         home = part_of(pattern[0], len(self._parts))

@@ -1,14 +1,16 @@
 """A store of rdflib over an HDT file, which is searched in place and never changes.
 
     >>> from rdflib import Graph
-    >>> from hdt.rdflib import HDTStore, plan_sparql
-    >>> plan_sparql()  # once: queries over such stores are planned by the counts of the file
-    >>> with HDTStore("graph.hdt") as store:
+    >>> from hdt.rdflib import HDTStore, planned
+    >>> with HDTStore("graph.hdt") as store, planned():
     ...     graph = Graph(store)
     ...     for row in graph.query("SELECT ?s ?o { ?s <u:p> ?o }"):
     ...         print(row.s, row.o)
     u:a u:b
     u:b u:a
+
+Within `planned()` the joins of queries over such stores are ordered by the counts of the file; `plan_sparql()` does so
+from then on. Without either, rdflib orders them.
 
 `Graph("HDT")` and its `open(path)` do it by name. It needs rdflib, of 6.1.1 or newer (tested with 6.1.1):
 `pip install 'tickmarl-hdt[rdflib]'`.
@@ -21,8 +23,8 @@ all the same: a join over them may give a solution once or twice, by its order. 
 literals are the same only if their strings are. (rdflib compares terms itself in DISTINCT, GROUP BY, FILTER, MINUS and
 the join of groups: there its own equality holds, with tags of either case.)
 
-Errors: `ReadOnly`, a TypeError, for what would change the file; `Fault` of a file that is none; `NotATerm` for a string
-of the file that is no term; ValueError once the store is closed. `Fault` and `NotATerm` are those of `hdt`.
+Errors: `ReadOnly`, a TypeError, for what would change the file; `Fault` of a file that is not valid; `NotATerm` for a
+string of the file that is no term; ValueError once the store is closed. `Fault` and `NotATerm` are those of `hdt`.
 """
 
 from __future__ import annotations

@@ -23,7 +23,7 @@ def counted(file: OpenFile, ctx: Any, part: Any) -> Iterator[Any]:
     NotImplementedError. Groups by predicate take one count of each predicate, other ones and DISTINCT a walk over the
     IDs of the triples.
     """
-    triple, keys = _pattern(ctx, part)
+    triple, keys = _pattern(part)
     if not all(_is_counted(it, triple, keys) for it in part.A):
         raise NotImplementedError
     searches = file.searches([ctx[term] for term in triple])
@@ -40,9 +40,8 @@ def counted(file: OpenFile, ctx: Any, part: Any) -> Iterator[Any]:
     return _bindings(ctx, part, keys, groups, distinct)
 
 
-def _pattern(ctx: Any, part: Any) -> tuple[list[Any], list[Variable]]:
-    """The pattern of a part that is one, with different variables, none of which is bound, and the variables of GROUP
-    BY."""
+def _pattern(part: Any) -> tuple[list[Any], list[Variable]]:
+    """The pattern of a part that is one, with different variables, and the variables of GROUP BY."""
     group = part.p
     bgp = group.p if group.name == "Group" else None
     if bgp is None or bgp.name != "BGP" or len(bgp.triples) != 1:
@@ -51,9 +50,7 @@ def _pattern(ctx: Any, part: Any) -> tuple[list[Any], list[Variable]]:
     variables = [term for term in triple if isinstance(term, (Variable, BNode))]
     if isinstance(triple[1], Path) or len(set(variables)) < len(variables):
         raise NotImplementedError
-    if any(ctx[term] is not None for term in variables) or not all(isinstance(key, Variable) for key in keys):
-        raise NotImplementedError
-    if not set(keys) <= set(variables):
+    if not all(isinstance(key, Variable) for key in keys) or not set(keys) <= set(variables):
         raise NotImplementedError
     return triple, keys
 

@@ -1,22 +1,19 @@
 -- Merging two ascending lists: which strings are less than another one, whether it is in the list, and one step.
-use Rattle.std.proofs.Common.{◌≡◌, ◌≢◌, ℕ, ◌+◌, ◌<◌, ◌≤◌, Bool, true, false, cond, not, List, [], ◌∷◌, ◌++◌, length, get_or, take, refl, ap, sym, ◌∙◌, inl, inr, arith}
+use Rattle.std.proofs.Common.{◌≡◌, ◌≢◌, ℕ, ◌<◌, ◌≤◌, Bool, true, false, not, List, length, get_or, refl, ap, sym, ◌∙◌, inl, inr, arith}
 use Rattle.std.specs.declared.cmp.Ordering.{Ordering}
 use Rattle.std.specs.declared.cmp.Ordering.TheVariants.{Less, Equal, Greater}
 use Rattle.std.specs.Ordering.{is_lt, ordering_reverse}
-use Rattle.std.specs.List.{Contains, filter}
+use Rattle.std.specs.List.{Contains}
 use Rattle.std.specs.Cmp.{both_ways}
 use Rattle.std.specs.Cmp.Lexicographic.{nat_list_cmp_total}
 use Rattle.std.specs.Str.{bytes_eq}
 use Rattle.std.proofs.lemmas.Bool.{cases_lt, cases_eq}
 use Rattle.std.proofs.lemmas.Cmp.{tied_itself}
-use Rattle.std.proofs.lemmas.List.{length-map, map_push, append-nil}
-use Rattle.std.proofs.lemmas.List.Elements.{filter_more}
 use Rattle.std.proofs.lemmas.Map.Lookups.{exact_bytes}
 use Rattle.std.proofs.lemmas.Map.Keys.{Less-from_sorted}
 use Rattle.std.proofs.lemmas.Slice.Eq.{bytes_eq-Decides}
-use Rattle.hdt_dict.specs.Laws.Strings.{has-Contains, Contains-has, string_at}
-use Rattle.hdt_front.specs.Canonical.{borrowed_texts}
-use Rattle.hdt_dict.specs.Strings.{BorrowedString, has, FirstBelow}
+use Rattle.hdt_dict.specs.Laws.Strings.{has-Contains, Contains-has}
+use Rattle.hdt_dict.specs.Strings.{has, FirstBelow}
 use Rattle.hdt_front.specs.Order.{IsAscending, string_cmp}
 
 pub not_Less : (o : Ordering) → is_lt o ≡ false → o ≢ Less
@@ -64,25 +61,6 @@ pub below_or : (z x y : List ℕ) (o : Ordering) → string_cmp x y ≡ o → st
 below_or z x y Less e less up = nat_list_cmp_total.trans z x y less e
 below_or z x y Equal e less up = ap (string_cmp z) (sym (exact_bytes x y e)) ∙ less
 below_or z x y Greater e less up = absurd (up (nat_list_cmp_total.antisymm y x ∙ ap ordering_reverse e))
-
--- a loop's step: the string at i passes, and goes to the end of what was kept, or doesn't
-module _ (p : List ℕ → Bool) (vs ws : List BorrowedString) (i : ℕ) (e : BorrowedString) (below : i < length vs) (front : borrowed_texts ws ≡ filter p (take i (borrowed_texts vs))) where
-  within : i < length (borrowed_texts vs)
-  within = omega (arith, length-map vs (λ (w : BorrowedString). w.now))
-
-  step : (b : Bool) → p (get_or vs i e).now ≡ b → filter p (take (i + 1) (borrowed_texts vs)) ≡ borrowed_texts ws ++ cond b ((get_or vs i e).now ∷ []) []
-  step b is =
-      let x = (get_or vs i e).now in
-      filter_more p (borrowed_texts vs) i x within
-      ∙ ap (λ y. filter p (take i (borrowed_texts vs)) ++ cond (p y) (y ∷ []) []) (string_at vs i e x below)
-      ∙ ap (λ t. filter p (take i (borrowed_texts vs)) ++ cond t (x ∷ []) []) is
-      ∙ ap (λ l. l ++ cond b (x ∷ []) []) (sym front)
-
-  pub kept_more : p (get_or vs i e).now ≡ true → borrowed_texts (ws ++ get_or vs i e ∷ []) ≡ filter p (take (i + 1) (borrowed_texts vs))
-  kept_more is = map_push (λ (w : BorrowedString). w.now) ws (get_or vs i e) ∙ sym (step true is)
-
-  pub left_more : p (get_or vs i e).now ≡ false → borrowed_texts ws ≡ filter p (take (i + 1) (borrowed_texts vs))
-  left_more is = sym (step false is ∙ append-nil (borrowed_texts ws))
 
 module _ (ys : List (List ℕ)) (x : List ℕ) where
   by : (absent : ¬ Contains ys x) (b : Bool) → has ys x ≡ b → not b ≡ true

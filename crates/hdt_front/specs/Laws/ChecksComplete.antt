@@ -105,7 +105,7 @@ entry_decodes false before string entry rest more is none e =
       after_is = t.after;
     }
 
-or_holds : (a b : Bool) → b ≡ true → (a || b) ≡ true
+pub or_holds : (a b : Bool) → b ≡ true → (a || b) ≡ true
 or_holds true b e = refl
 or_holds false b e = e
 

@@ -17,7 +17,7 @@ use Rattle.hdt_front.specs.Laws.FrontCodingSteps.{AreEntries, AreBlockStarts, Is
 use Rattle.hdt_front.specs.Laws.StringSteps.{step}
 use Rattle.hdt_front.specs.Laws.CheckedEntries.{ok_is}
 
-take_no_zero : (k : ℕ) (xs : List ℕ) → NoZero xs → NoZero (take k xs)
+pub take_no_zero : (k : ℕ) (xs : List ℕ) → NoZero xs → NoZero (take k xs)
 unfolding NoZero
 take_no_zero zero xs h = tt
 take_no_zero (suc k) [] h = tt

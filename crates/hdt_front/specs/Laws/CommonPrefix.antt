@@ -18,7 +18,7 @@ byte_by false b c n k e h = absurd (omega (arith, h))
 same_byte : (b c n k : ℕ) → suc k ≤ cond (nat_eq b c) (1 + n) 0 → (b ≡ c) × (k ≤ n)
 same_byte b c n k h = byte_by (nat_eq b c) b c n k refl h
 
-equal_bytes : (b c : ℕ) → b ≡ c → nat_eq b c ≡ true
+pub equal_bytes : (b c : ℕ) → b ≡ c → nat_eq b c ≡ true
 equal_bytes b c e = grind (arith, nat_tests, e)
 
 pub lcp_le_flip : (k : ℕ) (x y : List ℕ) → k ≤ lcp_len x y → k ≤ lcp_len y x

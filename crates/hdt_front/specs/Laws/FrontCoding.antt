@@ -141,7 +141,7 @@ unfolding NoZero
 nonzero_to [] h = tt
 nonzero_to (c ∷ cs) h = (nonzero_test c (h 0 0 (omega arith)), nonzero_to cs (λ k d lt. h (suc k) d (omega (arith, lt))))
 
-less_from : (o : Ordering) → is_lt o ≡ true → o ≡ Less
+pub less_from : (o : Ordering) → is_lt o ≡ true → o ≡ Less
 less_from Less e = refl
 less_from Equal e = absurd (cc)
 less_from Greater e = absurd (cc)

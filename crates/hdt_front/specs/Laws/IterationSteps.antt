@@ -46,7 +46,7 @@ string_made h last rest s t k e ek et = e ∙ ap (λ k. take k last ++ t) ek ∙
 
 -- ---- the order
 
-not_zero : (r : ℕ) → 1 ≤ r → eqb r 0 ≡ false
+pub not_zero : (r : ℕ) → 1 ≤ r → eqb r 0 ≡ false
 not_zero r h = grind (arith, nat_tests)
 
 or_second : (i : ℕ) (b : Bool) → (eqb (suc i) 0 || b) ≡ true → b ≡ true

@@ -6,7 +6,6 @@ use Rattle.std.proofs.Math.Pow.{mod-mod-pow}
 use Rattle.std.proofs.lemmas.Grind.{common_steps}
 use Rattle.std.proofs.lemmas.List.FromFn.{length-map-range_with_len, get_or-map-range_with_len}
 use Rattle.hdt_wire.specs.Checks.{IsBytes}
-use Rattle.hdt_wire.specs.Laws.Checks.{IsBytes-drop}
 use Rattle.hdt_seq.specs.PackedBits.{little, entry, entries, bit, bits}
 
 rest_bytes : (b : ℕ) (bs : List ℕ) → IsBytes (b ∷ bs) → IsBytes bs
@@ -67,11 +66,6 @@ length-entries bytes width n = length-map-range_with_len (entry bytes width) 0 n
 pub get_or-entries : (bytes : List ℕ) (width n i : ℕ) → i < n → get_or (entries bytes width n) i 0 ≡ entry bytes width i
 unfolding entries
 get_or-entries bytes width n i lt = get_or-map-range_with_len (entry bytes width) 0 n i i 0 lt (omega arith)
-
--- an entry is below 2 to the power of its width
-pub entry_fits : (bytes : List ℕ) (width i : ℕ) → entry bytes width i < 2 ^ width
-unfolding entry
-entry_fits bytes width i = mod_below (little bytes / 2 ^ (width * i)) (2 ^ width) (pow_pos width)
 
 pub length-bits : (bytes : List ℕ) (n : ℕ) → length (bits bytes n) ≡ n
 unfolding bits

@@ -1,9 +1,9 @@
 -- Laws of the entries of a log sequence, for other crates.
 use Rattle.std.proofs.Common.{◌≡◌, ℕ, ◌*◌, ◌^◌, ◌<◌, ◌≤◌, length, get_or, arith}
-use Rattle.std.proofs.Math.Nat.{mul-le-mul_left, pow-le-pow_right}
+use Rattle.std.proofs.Math.Nat.{mul-le-mul_left}
 use Rattle.hdt_seq.specs.declared.numbers.Numbers.{Numbers}
 use Rattle.hdt_seq.specs.PackedBits.{entry}
-use Rattle.hdt_seq.specs.Laws.LittleEndian.{length-entries, get_or-entries, entry_fits}
+use Rattle.hdt_seq.specs.Laws.LittleEndian.{length-entries, get_or-entries}
 use Rattle.hdt_seq.specs.Numbers.{numbers_of}
 
 -- the count is the number of entries, which is below 2 ^ 64

@@ -68,10 +68,6 @@ pub ones_before_past_end : (bits : List Bool) (i j : ℕ) → length bits ≤ i 
 unfolding ones_before
 ones_before_past_end bits i j h k = ap (count_by (λ b. b)) (take_all i bits h ∙ sym (take_all j bits k))
 
--- no rank is greater than that of the length
-pub ones_before_le_total : (bits : List Bool) (i : ℕ) → ones_before bits i ≤ ones_before bits (length bits)
-ones_before_le_total bits i = omega (arith, ones_before_mono bits i (length bits + i) (omega arith), ones_before_past_end bits (length bits + i) (length bits) (omega arith) (omega arith))
-
 -- a position with a smaller rank is smaller
 pub less_by_ones : (bits : List Bool) (i j : ℕ) → ones_before bits i < ones_before bits j → i < j
 less_by_ones bits i j h = lt_of_not-le (λ le. omega (arith, h, ones_before_mono bits j i le))

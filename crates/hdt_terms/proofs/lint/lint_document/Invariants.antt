@@ -9,12 +9,12 @@ use Rattle.hdt_terms.proofs.lint.lint_document.Given as goal
 abbrev pub invariant-lines : goal.invariant-lines
 invariant-lines g l = record {
   linted : (lines : List DocumentLine) × HasReadLines l.lines (g.R.Read.remaining (inner l.fn.input)) (left l.lines (g.R.Read.remaining (inner l.input))) lines
-      × Linted l.keep lines (g.K.Write.contents (inner l.fn.kept)) (g.K.Write.contents (inner l.kept)) (g.T.Write.contents (inner l.fn.told)) (g.T.Write.contents (inner l.told)) l.linter.kept.items l.linter.told.items l.linter.faulty
+      × Linted l.keep lines (g.K.Write.contents (inner l.fn.kept)) (g.K.Write.contents (inner l.kept)) (g.T.Write.contents (inner l.fn.reported)) (g.T.Write.contents (inner l.reported)) l.linter.kept.items l.linter.reported.items l.linter.faulty
       × (l.count ≡ length (faulty_lines lines));
   within : l.count ≤ l.most;
   keep : l.linter.keep ≡ l.keep;
   kept : failures l.kept ≡ failures l.fn.kept;
-  told : failures l.told ≡ failures l.fn.told;
+  reported : failures l.reported ≡ failures l.fn.reported;
   input : failures l.input ≡ failures l.fn.input;
 }
 

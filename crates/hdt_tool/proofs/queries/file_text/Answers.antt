@@ -12,7 +12,7 @@ use Rattle.hdt_tool.specs.ListedStrings.{IsListFault, PrintsListed}
 use Rattle.hdt_tool.specs.StringsText.{PrintsNumber}
 use Rattle.hdt_tool.specs.TriplesText.{PrintsFound}
 use Rattle.hdt_tool.specs.Verdict.{verdict}
-use Rattle.hdt_tool.proofs.InputFaults.{no_counts, no_find, no_listing, no_match, no_number, no_term, no_text}
+use Rattle.hdt_tool.proofs.InputFaults.{no_counts, no_find, no_listing, no_match, no_number, no_term, no_text, reported}
 use Rattle.hdt_tool.proofs.queries.file_text.Goals as goal
 
 pub returns-in_ok-verdict-in-Verify-clause-ok : goal.returns-in_ok-verdict-in-Verify-clause-ok
@@ -144,3 +144,7 @@ returns-in_err-check_match-in-Exists-clause-err c =
     let p = err_from_is_err_and c.from_residual-in_err-check_match-in-Exists.result c.from_residual-in_err-check_match-in-Exists.ensures.1 in
     rw (p.1, p.2) (subst (λ (a : Action). IsFaultOfBytes a c.args.bytes.now c.in_err-check_match-in-Exists.field-0.0) (sym c.in-Exists.is)
     (no_match c.in-Exists.given c.args.bytes.now (layout_view c.in_ok-read-in-Exists.field-0) c.in_err-check_match-in-Exists.field-0.0 c.in_ok-read-in-Exists.ensures.found c.in_err-check_match-in-Exists.ensures.err))
+
+pub returns-in_ok-text-in-VerifyTerms-clause-ok : goal.returns-in_ok-text-in-VerifyTerms-clause-ok
+returns-in_ok-text-in-VerifyTerms-clause-ok c =
+    reported c.args.action.now c.args.bytes.now c.in_ok-text-in-VerifyTerms.text.items _ c.in_ok-text-in-VerifyTerms.ensures.ok

@@ -18,10 +18,25 @@ returns-in-Answer-clause-given c =
     ends_with (λ words. map string_bytes words.items) c.args.words c.parse_process_arguments.result c.in-Ok.invocation c.run_answer_on_streams.result c.in-Ok.is
     c.parse_process_arguments.ensures.ok c.parse_process_arguments.ensures.refused (inl c.run_answer_on_streams.ensures)
 
+pub returns-in-Lint-clause-given : goal.returns-in-Lint-clause-given
+returns-in-Lint-clause-given c =
+    ends_with (λ words. map string_bytes words.items) c.args.words c.parse_process_arguments.result c.in-Ok.invocation c.lint_path.result c.in-Ok.is
+    c.parse_process_arguments.ensures.ok c.parse_process_arguments.ensures.refused (inl c.lint_path.ensures)
+
+pub returns-in-Split-clause-given : goal.returns-in-Split-clause-given
+returns-in-Split-clause-given c =
+    ends_with (λ words. map string_bytes words.items) c.args.words c.parse_process_arguments.result c.in-Ok.invocation c.run_split.result c.in-Ok.is
+    c.parse_process_arguments.ensures.ok c.parse_process_arguments.ensures.refused (inl c.run_split.ensures)
+
+pub returns-in-SkipNonTerms-clause-given : goal.returns-in-SkipNonTerms-clause-given
+returns-in-SkipNonTerms-clause-given c =
+    ends_with (λ words. map string_bytes words.items) c.args.words c.parse_process_arguments.result c.in-Ok.invocation c.run_report_on_streams.result c.in-Ok.is
+    c.parse_process_arguments.ensures.ok c.parse_process_arguments.ensures.refused (inl c.run_report_on_streams.ensures)
+
 pub returns-clause-given : goal.returns-clause-given
 returns-clause-given c =
-    ends_with (λ words. map string_bytes words.items) c.args.words c.parse_process_arguments.result c.in-Ok.invocation c.run_query.result c.in-Ok.is
-    c.parse_process_arguments.ensures.ok c.parse_process_arguments.ensures.refused (inl c.run_query.ensures.statuses)
+    ends_with (λ words. map string_bytes words.items) c.args.words c.parse_process_arguments.result c.in-Ok.invocation c.run_query-status.result c.in-Ok.is
+    c.parse_process_arguments.ensures.ok c.parse_process_arguments.ensures.refused (inl c.run_query-status.ensures.statuses)
 
 pub returns-clause-memory : goal.returns-clause-memory
 returns-clause-memory c =

@@ -1,7 +1,7 @@
 use Rattle.std.proofs.Common.{arith, ap, sym, ◌∙◌, length}
 use Rattle.hdt_triples.specs.Views.{triples_view}
 use Rattle.hdt_triples.specs.Patterns.{matches}
-use Rattle.hdt_triples.specs.Remaining.{remaining_matches, step_limit, shorter_list_step_limit}
+use Rattle.hdt_triples.specs.Remaining.{remaining_matches}
 use Rattle.hdt_triples.proofs.ScanLaws.{matches_fit, matches_none}
 use Rattle.hdt_triples.proofs.StartLaws.{dropped, fewer}
 use Rattle.hdt_triples.proofs.listed_triples.ListedTriples.find_from.Goals as goal
@@ -11,18 +11,6 @@ unfolding remaining_matches
 returns-then-from-len-clause-items c =
     let f = triples_view c.args.self.now.indexed.triples in
     sym (ap (matches c.args.pattern) (dropped f c.args.from) ∙ matches_none c.args.pattern f c.args.from (omega (arith, c.if-from-len.true, c.len.ensures)))
-
-pub returns-then-from-len-clause-fits : goal.returns-then-from-len-clause-fits
-unfolding remaining_matches
-returns-then-from-len-clause-fits c = omega arith
-
-pub returns-then-from-len-clause-few : goal.returns-then-from-len-clause-few
-unfolding step_limit
-returns-then-from-len-clause-few c = omega arith
-
-pub returns-then-from-len-clause-short : goal.returns-then-from-len-clause-short
-unfolding shorter_list_step_limit step_limit
-returns-then-from-len-clause-short c = omega arith
 
 pub returns-clause-items : goal.returns-clause-items
 returns-clause-items c =

@@ -1,0 +1,23 @@
+use Rattle.std.proofs.Common.{◌+◌, ◌∙◌, ap, arith, length, refl, sym}
+use Rattle.hdt_file.proofs.NonTermLaws.{all_found, ended, given, is_none, non_term_found}
+use Rattle.hdt_file.proofs.non_terms.append_non_terms.Goals as goal
+
+pub strings-preserved-in_ok-push : goal.strings-preserved-in_ok-push
+strings-preserved-in_ok-push c =
+    let l = c.strings in
+    let w = l.strings in
+    let new = c.next.new.self in
+    let role = c.args.role in
+    let first = given w new c.in-Some.place w.ahead (sym c.in_ok-place.ensures.place ∙ c.in-Some.is) c.in_ok-place.ensures.ok in
+    let none = is_none role new.last c.last.result.now c.in_ok-is_term.field-0 c.if-not-branch.true c.last.ensures c.in_ok-is_term.ensures in
+    record {
+      finds = non_term_found role c.args.before l.number (l.number + 1) c.args.strings.ahead w.ahead new.ahead _ c.args.found.now.items l.found.items c.push.new.self.items _ l.invariant.finds first refl none refl c.in_ok-push.ensures.items;
+      fits = omega (arith, l.invariant.fits, ap length first);
+    }
+
+pub returns : goal.returns
+returns c =
+    let l = c.strings in
+    let w = l.strings in
+    all_found c.args.role c.args.before l.number c.args.strings.ahead w.ahead c.args.found.now.items l.found.items l.invariant.finds
+    (ended w.ahead c.in_ok-place.field-0 c.in_ok-place.ensures.place (λ k. c.in_default.not-Some k))

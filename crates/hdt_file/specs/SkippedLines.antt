@@ -1,0 +1,45 @@
+-- Triples that have no line of N-Triples, since one of their strings is not a term which its role allows.
+use Rattle.std.specs.Prelude.{◌≡◌, ℕ, zero, suc, not, cond, Bool, true, false, List, [], ◌∷◌, length, Option, None, Some}
+use Rattle.std.specs.List.{All, filter}
+use Rattle.hdt_wire.specs.declared.role.Role.{Role}
+use Rattle.hdt_triples.specs.TripleSequences.{Triple}
+use Rattle.hdt_triples.specs.Uses.{role_component}
+use Rattle.hdt_file.specs.Denoted.{denoted_triple}
+use Rattle.hdt_file.specs.File.{GraphParts}
+use Rattle.hdt_file.specs.Text.{HasTerm, HasNoTerm}
+use Rattle.hdt_file.specs.TextWriting.{limited}
+
+-- each string of the triple is a term that its role allows
+abbrev pub HasLine : GraphParts → Triple → Type 0
+HasLine g t = (role : Role) → HasTerm role (role_component role (denoted_triple g t))
+
+-- one of its strings is not
+abbrev pub HasNoLine : GraphParts → Triple → Type 0
+HasNoLine g t = (role : Role) × HasNoTerm role (role_component role (denoted_triple g t))
+
+-- true exactly for the triples that have a line
+pub record TellsLines (g : GraphParts) (has_line : Triple → Bool) : Type 0 where
+  pub some : (t : Triple) → has_line t ≡ true → HasLine g t
+  pub none : (t : Triple) → has_line t ≡ false → HasNoLine g t
+
+-- each triple has a line
+abbrev pub HaveLines : GraphParts → List Triple → Type 0
+HaveLines g ts = All (HasLine g) ts
+
+-- how many triples have no line before the n-th that has one, or at all if fewer have one
+abbrev pub skipped_before : (Triple → Bool) → ℕ → List Triple → ℕ
+skipped_before has_line n [] = 0
+skipped_before has_line zero (t ∷ ts) = 0
+skipped_before has_line (suc n) (t ∷ ts) = cond (has_line t) (skipped_before has_line n ts) (suc (skipped_before has_line (suc n) ts))
+
+-- the number of triples without a line: of all, or before the last of the first `most` that have one
+abbrev pub skipped_among : (Triple → Bool) → Option ℕ → List Triple → ℕ
+skipped_among has_line None ts = length (filter (λ t. not (has_line t)) ts)
+skipped_among has_line (Some most) ts = skipped_before has_line most ts
+
+-- `kept` are the triples that have a line, or the first `most` of these; so many without one were skipped for them
+pub record SkipsNonTerms (g : GraphParts) (most : Option ℕ) (ts kept : List Triple) (skipped : ℕ) : Type 0 where
+  pub has_line : Triple → Bool
+  pub tells : TellsLines g has_line
+  pub kept_are : kept ≡ limited most (filter has_line ts)
+  pub skipped_is : skipped ≡ skipped_among has_line most ts

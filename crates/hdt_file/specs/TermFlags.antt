@@ -1,0 +1,33 @@
+-- Which strings of a graph are terms that their roles allow, as flags in the order of their IDs.
+use Rattle.std.specs.Prelude.{ℕ, zero, suc, ◌&&◌, Bool, true, false, List, slice_index_or}
+use Rattle.hdt_wire.specs.declared.role.Role.{Role}
+use Rattle.hdt_wire.specs.declared.role.Role.TheVariants.{Subject, Predicate, Object}
+use Rattle.hdt_dict.specs.Dictionary.{role_strings}
+use Rattle.hdt_triples.specs.TripleSequences.{Triple}
+use Rattle.hdt_file.specs.File.{GraphParts}
+use Rattle.hdt_file.specs.Text.{HasTerm, HasNoTerm, Pairwise}
+use Rattle.hdt_file.specs.declared.term_flags.TermFlags.{TermFlags}
+
+-- whether the string is a term that the role allows
+abbrev pub IsTermFlag : Role → List ℕ → Bool → Type 0
+IsTermFlag role string true = HasTerm role string
+IsTermFlag role string false = HasNoTerm role string
+
+-- a flag for each string of the role
+abbrev pub AreRoleFlags : GraphParts → Role → List Bool → Type 0
+AreRoleFlags g role flags = Pairwise (IsTermFlag role) (role_strings g.dictionary role) flags
+
+-- the flags of the three roles
+pub record AreTermFlags (g : GraphParts) (flags : TermFlags) : Type 0 where
+  pub subjects : AreRoleFlags g Subject flags.subjects.items
+  pub predicates : AreRoleFlags g Predicate flags.predicates.items
+  pub objects : AreRoleFlags g Object flags.objects.items
+
+-- the flag of string n, from 1; false if there is none
+abbrev pub term_flag : List Bool → ℕ → Bool
+term_flag flags zero = false
+term_flag flags (suc i) = slice_index_or flags i false
+
+-- whether the flags of all three strings are true
+abbrev pub has_line : TermFlags → Triple → Bool
+has_line flags t = term_flag flags.subjects.items t.0 && term_flag flags.predicates.items t.1 && term_flag flags.objects.items t.2

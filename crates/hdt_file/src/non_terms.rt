@@ -1,0 +1,134 @@
+//! Finding the strings of a file that are not terms which their roles allow.
+ghost use Rattle.std.specs.Prelude.{◌≡◌, ◌<◌, ◌+◌, ◌^◌, ◌++◌, List, length, OnOk, IfOk, IfErr, IfSome, Err};
+ghost use Rattle.hdt_file.specs.Faults.{open_fault_of};
+ghost use Rattle.hdt_file.specs.File.{decode_graph};
+ghost use Rattle.hdt_file.specs.Inside.NonTermIteration.{AreNonTermsIn};
+ghost use Rattle.hdt_file.specs.LayoutParts.{parts_dictionary};
+ghost use Rattle.hdt_file.specs.LayoutPartsViews.{parts_of_layout};
+ghost use Rattle.hdt_file.specs.declared.non_terms.NonTerm.{NonTerm as NonTermOf};
+ghost use Rattle.hdt_file.specs.NonTerms.{AreNonTerms, IsTermVerdict};
+
+use crate::fault::OpenFault;
+use crate::layout::Layout;
+use crate::term_flags::is_term;
+use hdt_dict::{Role, SectionIter};
+use std::alloc::{AllocError, Global};
+
+/// A string that is not a term which its role allows.
+#[derive(Clone, Copy)]
+pub struct NonTerm {
+    /// The role.
+    pub role: Role,
+    /// The ID in this role, from 1.
+    pub number: u64,
+    /// The byte offset of the string in the file.
+    pub place: u64,
+}
+
+/// What [`verify_terms`] finds out about a valid file.
+#[derive(Drop)]
+pub struct TermVerdict {
+    /// The numbers of triples and of the strings of each section, as [`crate::verify`] returns them.
+    pub counts: [u64; 5],
+    /// The strings that are not terms: those of the subjects, the predicates, then the objects, in the order of their
+    /// IDs. A shared string has an ID as subject and one as object.
+    pub non_terms: Vec<NonTerm>,
+}
+
+/// Appends the strings of a section that are not terms which the role allows. Their IDs follow `before` other ones.
+fn append_non_terms(
+    alloc: Global,
+    strings: SectionIter<'_>,
+    role: Role,
+    before: u64,
+    found: &mut Vec<NonTerm>,
+) -> Result<(), AllocError>
+    requires { before + length strings.ahead < 2 ^ 64 }
+    ensures { OnOk result ((more : List NonTermOf) × AreNonTermsIn role before strings.entry.ahead more × (found.new.items ≡ found.old.items ++ more)) }
+{
+    let mut strings = strings;
+    let mut text = Vec::new(alloc);
+    let mut number = before;
+    'strings: while let Some(place) = strings.next()? {
+        number += 1;
+        if !is_term(role, strings.last(), &mut text)? {
+            found.push(NonTerm {
+                role,
+                number,
+                place: place as u64,
+            })?;
+        }
+    }
+    Ok(())
+}
+
+/// The strings of a layout that are not terms which their roles allow. Linear time: each string of each role is decoded
+/// once.
+fn non_terms(alloc: Global, layout: &Layout<'_>) -> Result<Vec<NonTerm>, AllocError>
+    ensures { IfOk result (λ found. AreNonTerms (parts_dictionary (parts_of_layout layout.now)) found.items) }
+{
+    let [_, shared, _, _, _] = layout.lens();
+    let dictionary = &layout.dictionary;
+    let mut found = Vec::new(alloc);
+    append_non_terms(
+        alloc,
+        dictionary.located_strings(alloc, 0),
+        Role::Subject,
+        0,
+        &mut found,
+    )?;
+    append_non_terms(
+        alloc,
+        dictionary.located_strings(alloc, 1),
+        Role::Subject,
+        shared,
+        &mut found,
+    )?;
+    append_non_terms(
+        alloc,
+        dictionary.located_strings(alloc, 2),
+        Role::Predicate,
+        0,
+        &mut found,
+    )?;
+    append_non_terms(
+        alloc,
+        dictionary.located_strings(alloc, 0),
+        Role::Object,
+        0,
+        &mut found,
+    )?;
+    append_non_terms(
+        alloc,
+        dictionary.located_strings(alloc, 3),
+        Role::Object,
+        shared,
+        &mut found,
+    )?;
+    Ok(found)
+}
+
+/// Verifies a file as [`crate::verify`] does, and finds its strings that are not terms which their roles allow: triples
+/// with such a string cannot be written as N-Triples.
+///
+/// Linear time in the bytes, and in the strings that are found. Memory: 24 bytes for each string that is found, and the
+/// longest string and its term.
+///
+/// # Errors
+///
+/// The first error of the file, which is that of [`crate::verify`]; [`OpenFault::OutOfMemory`].
+pub fn verify_terms(alloc: Global, bytes: &[u8]) -> Result<TermVerdict, OpenFault>
+    // The bytes encode a file with these counts, of whose strings exactly these are not terms.
+    ensures found { IfOk result (IsTermVerdict bytes.now) }
+    // Otherwise it is the first error of the file.
+    ensures err { IfErr result (λ e. IfSome (open_fault_of e) (λ fault. decode_graph bytes.now ≡ Err fault)) }
+{
+    let layout = Layout::read(alloc, bytes)?;
+    let Ok(non_terms) = non_terms(alloc, &layout) else {
+        return Err(OpenFault::OutOfMemory);
+    };
+    Ok(TermVerdict {
+        counts: layout.lens(),
+        non_terms,
+    })
+}

@@ -1,0 +1,83 @@
+//! Which strings of a graph are terms that their roles allow, and so which triples have a line of N-Triples.
+ghost use Rattle.std.specs.Prelude.{◌≡◌, IfOk};
+ghost use Rattle.hdt_file.specs.LayoutView.{layout_view};
+ghost use Rattle.hdt_file.specs.TermFlags.{AreRoleFlags, AreTermFlags, IsTermFlag, term_flag};
+
+use crate::layout::Layout;
+use crate::term_writing::render_term;
+use hdt_dict::Role;
+use hdt_terms::StringFault;
+use std::alloc::{AllocError, Global};
+
+/// For each string of each role, in the order of the IDs, whether it is a term that the role allows. One byte for each.
+#[derive(Drop)]
+pub struct TermFlags {
+    subjects: Vec<bool>,
+    predicates: Vec<bool>,
+    objects: Vec<bool>,
+}
+
+/// Whether a string is a term that the role allows. `text` is a buffer.
+#[tactic(auto, using(crate::proofs::TermFlagLaws::rendered))]
+pub(crate) fn is_term(role: Role, string: &[u8], text: &mut Vec<u8>) -> Result<bool, AllocError>
+    ensures { IfOk result (IsTermFlag role string.now) }
+{
+    text.clear();
+    match render_term(role, string, text) {
+        Ok(()) => Ok(true),
+        Err(StringFault::NotATerm) => Ok(false),
+        Err(StringFault::OutOfMemory) => Err(AllocError),
+    }
+}
+
+/// The flags of the strings of a role. Each string is decoded once.
+fn role_flags(alloc: Global, layout: &Layout<'_>, role: Role) -> Result<Vec<bool>, AllocError>
+    ensures { IfOk result (λ flags. AreRoleFlags (layout_view layout.now) role flags.items) }
+{
+    let mut flags = Vec::new(alloc);
+    let mut text = Vec::new(alloc);
+    let mut strings = layout.strings(alloc, role);
+    'strings: while let Some(_number) = strings.next()? {
+        flags.push(is_term(role, strings.last(), &mut text)?)?;
+    }
+    Ok(flags)
+}
+
+/// The flag of string n, from 1; false if there is none.
+fn term_flag(flags: &[bool], n: u64) -> bool
+    ensures { result ≡ term_flag flags.now n }
+{
+    if n == 0 {
+        return false;
+    }
+    match flags.get((n - 1) as usize) {
+        Some(flag) => *flag,
+        None => false,
+    }
+}
+
+impl TermFlags {
+    ghost use Rattle.hdt_file.specs.TermFlags.{has_line};
+
+    /// Returns the flags of a layout. Time linear in the dictionary, however it is front-coded: each string of each role
+    /// is decoded once. Memory: one byte for each, while the flags are kept, and the longest string and its term.
+    pub fn of(alloc: Global, layout: &Layout<'_>) -> Result<TermFlags, AllocError>
+        ensures { IfOk result (AreTermFlags (layout_view layout.now)) }
+    {
+        Ok(TermFlags {
+            subjects: role_flags(alloc, layout, Role::Subject)?,
+            predicates: role_flags(alloc, layout, Role::Predicate)?,
+            objects: role_flags(alloc, layout, Role::Object)?,
+        })
+    }
+
+    /// Whether the flags of all three strings of a triple are true.
+    pub(crate) fn has_line(&self, triple: (u64, u64, u64)) -> bool
+        ensures { result ≡ has_line self.now triple }
+    {
+        let (subject, predicate, object) = triple;
+        term_flag(&self.subjects, subject)
+            && term_flag(&self.predicates, predicate)
+            && term_flag(&self.objects, object)
+    }
+}

@@ -1,0 +1,43 @@
+-- The outcomes of `lint`. `input` is what its reader yields, and `given` what it still yields after an error.
+use Rattle.std.specs.Prelude.{◌≡◌, ◌<◌, ◌-◌, ◌^◌, ℕ, Bool, true, false, List, Option, None, Some}
+use Rattle.hdt_terms.specs.Lint.{LintsInput, LintsUntilFault}
+use Rattle.hdt_terms.specs.declared.lint.LintFault.{LintFault}
+use Rattle.hdt_terms.specs.declared.lint.LintFault.TheVariants as linting
+use Rattle.hdt_tool.specs.Faults.{line_fault_of}
+use Rattle.hdt_tool.specs.declared.fault.ToolFault.{ToolFault}
+use Rattle.hdt_tool.specs.declared.fault.ToolFault.TheVariants.{Write, OutOfMemory}
+
+-- The number of faulty lines after which `lint` stops: that of `--most`, or the largest of 64 bits.
+abbrev pub most_faulty : Option ℕ → ℕ
+most_faulty None = 2 ^ 64 - 1
+most_faulty (Some n) = n
+
+-- Whether a number is above zero.
+abbrev pub IsAny : ℕ → Bool → Type 0
+IsAny n false = n ≡ 0
+IsAny n true = 0 < n
+
+-- All lines of the input, or its first lines up to the last of `most` faulty ones, were checked, and `faulty` is whether
+-- any of these is faulty. The two writers have gained the kept lines and the reports.
+pub record Lints (keep : Bool) (most : Option ℕ) (input kept_before kept_after reported_before reported_after : Option (List ℕ)) (faulty : Bool) : Type 0 where
+  pub count : ℕ
+  pub any : IsAny count faulty
+  pub lints : LintsInput keep (most_faulty most) input kept_before kept_after reported_before reported_after count
+
+-- The error of the command for an error of the library.
+abbrev pub lint_fault_of : LintFault → ToolFault
+lint_fault_of (linting.Line fault) = line_fault_of fault
+lint_fault_of (linting.Write n) = Write n
+lint_fault_of linting.OutOfMemory = OutOfMemory
+
+-- The error ended the run after some lines: the two writers have gained a prefix of the kept lines and of the reports. If
+-- a line could not be read, these are all lines before it.
+pub record LintsUntilError (keep : Bool) (input given kept_before kept_after reported_before reported_after : Option (List ℕ)) (error : ToolFault) : Type 0 where
+  pub fault : LintFault
+  pub is : error ≡ lint_fault_of fault
+  pub lints : LintsUntilFault keep input given kept_before kept_after reported_before reported_after fault
+
+-- The same for a run that takes ownership of its reader, so that `given` is only known to exist.
+pub record LintsOwnedUntilError (keep : Bool) (input kept_before kept_after reported_before reported_after : Option (List ℕ)) (error : ToolFault) : Type 0 where
+  pub given : Option (List ℕ)
+  pub lints : LintsUntilError keep input given kept_before kept_after reported_before reported_after error

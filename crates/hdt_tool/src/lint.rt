@@ -1,0 +1,143 @@
+//! The command `lint`: reports every faulty line of a document.
+ghost use Rattle.std.specs.Prelude.{◌≡◌, ◌≢◌, ◌⊎◌, ◌+◌, false, true, IfOk, IfErr, IsErrOf, MatchResult, OnOk};
+ghost use Rattle.std.specs.IoError.{error_kind};
+ghost use Rattle.hdt_wire.specs.Counted.{inner, failures};
+ghost use Rattle.hdt_tool.specs.ErrorLines.{fault_status};
+ghost use Rattle.hdt_tool.specs.Linting.{IsAny, Lints, LintsOwnedUntilError, LintsUntilError, most_faulty};
+ghost use Rattle.hdt_tool.specs.Status.{IsCommandStatus};
+
+use crate::error_context::Subject;
+use crate::fault::{ToolFault, file_fault, line_fault};
+use crate::files::{STDOUT_PATH, open_input, would_overwrite};
+use crate::status::{answers_status, done, print_error_line};
+use hdt_terms::{LintFault, lint_document};
+use hdt_wire::Counted;
+use std::alloc::Global;
+use std::io::{self, ErrorKind, Read, Write};
+
+const SAME_FILE_MESSAGE: &str = "error: IN and standard output are the same file
+
+For more information, try '--help'.";
+
+impl From<LintFault> for ToolFault {
+    ghost use Rattle.hdt_tool.specs.Linting.{lint_fault_of};
+
+    ghost from_gives = { λ fault e. e ≡ lint_fault_of fault };
+
+    fn from(fault: LintFault) -> ToolFault {
+        match fault {
+            LintFault::Line(fault) => line_fault(fault),
+            LintFault::Write(count) => ToolFault::Write(count),
+            LintFault::OutOfMemory => ToolFault::OutOfMemory,
+        }
+    }
+}
+
+/// The number of faulty lines after which to stop.
+fn most_faulty(most: Option<u64>) -> u64
+    ensures { result ≡ most_faulty most }
+{
+    most.unwrap_or(u64::MAX)
+}
+
+/// Whether a number is above zero.
+fn is_any(count: u64) -> bool
+    ensures { IsAny count result }
+{
+    count > 0
+}
+
+/// Checks every line of a document and reports each faulty one to `reported`, as [`lint_document`] does. Returns whether
+/// there are any. With `keep`, writes the lines without an error to `kept`. Stops after `most` faulty lines, if that is
+/// given.
+///
+/// # Errors
+///
+/// [`ToolFault::Read`] if the reader failed, [`ToolFault::Write`] if a writer did, [`ToolFault::Input`] if the input has
+/// 2^63 bytes or more, and [`ToolFault::OutOfMemory`].
+pub fn lint_input<R: Read, K: Write, T: Write>(
+    alloc: Global,
+    keep: bool,
+    most: Option<u64>,
+    input: &mut Counted<R>,
+    kept: &mut Counted<K>,
+    reported: &mut Counted<T>,
+) -> Result<bool, ToolFault>
+    // All lines were checked, or those up to the last of `most` faulty ones; the result is whether any is faulty.
+    ensures ok { IfOk result (Lints keep most (R.remaining (inner input.old)) (K.contents (inner kept.old)) (K.contents (inner kept.new))
+        (T.contents (inner reported.old)) (T.contents (inner reported.new))) }
+    ensures writers_well { OnOk result ((failures kept.new ≡ failures kept.old) × (failures reported.new ≡ failures reported.old)) }
+    // The writers have gained a prefix of the output for some first lines; all lines before one that cannot be read.
+    ensures stopped { IfErr result (LintsUntilError keep (R.remaining (inner input.old)) (R.remaining (inner input.new)) (K.contents (inner kept.old))
+        (K.contents (inner kept.new)) (T.contents (inner reported.old)) (T.contents (inner reported.new))) }
+    // `Read`: the reader failed once in this call. With any other result it did not fail.
+    ensures read { IsErrOf result ToolFault.Read → failures input.new ≡ failures input.old + 1 }
+    ensures reader_well { OnOk result (failures input.new ≡ failures input.old) }
+    ensures reader_told { IfErr result (λ e. e ≢ ToolFault.Read → failures input.new ≡ failures input.old) }
+{
+    let count = lint_document(alloc, keep, most_faulty(most), input, kept, reported)?;
+    Ok(is_any(count))
+}
+
+/// Lints the result of opening a document, and returns the status.
+fn run_lint<R: Read + Drop, K: Write, T: Write>(
+    rt: &HostRuntime,
+    subject: Subject<'_>,
+    keep: bool,
+    most: Option<u64>,
+    file: io::Result<R>,
+    kept: &mut Counted<K>,
+    reported: &mut Counted<T>,
+) -> u8
+    ensures statuses { IsCommandStatus result }
+    // 0: no line that was checked is faulty, and `kept` has gained the lines if `keep`.
+    ensures done { result ≡ 0 → MatchResult file (λ input. Lints keep most (R.remaining input) (K.contents (inner kept.old)) (K.contents (inner kept.new))
+        (T.contents (inner reported.old)) (T.contents (inner reported.new)) false) (λ _. ⊥) }
+    ensures well { result ≡ 0 → (failures kept.new ≡ failures kept.old) × (failures reported.new ≡ failures reported.old) }
+    // If the document could not be opened: 4 if its error is `OutOfMemory`, else 3; or 4 if there is no memory for the
+    // message.
+    ensures memory { IfErr file (λ e. error_kind e ≡ ErrorKind.OutOfMemory → result ≡ 4) }
+    ensures unopened { IfErr file (λ e. error_kind e ≢ ErrorKind.OutOfMemory → (result ≡ 3) ⊎ (result ≡ 4)) }
+    // Otherwise nothing was written; or the status is 1, some of the lines that were checked are faulty, and the writers
+    // have gained the reports of exactly these and the other lines; or an error with this status, or lack of memory for
+    // its message, ended the run.
+    ensures stopped { result ≢ 0 → ((kept.new ≡ kept.old) × (reported.new ≡ reported.old))
+        ⊎ ((result ≡ 1) × MatchResult file (λ input. Lints keep most (R.remaining input) (K.contents (inner kept.old)) (K.contents (inner kept.new))
+        (T.contents (inner reported.old)) (T.contents (inner reported.new)) true) (λ _. ⊥))
+        ⊎ ((e : ToolFault) × ((result ≡ fault_status e) ⊎ (result ≡ 4)) × MatchResult file (λ input. LintsOwnedUntilError keep (R.remaining input)
+        (K.contents (inner kept.old)) (K.contents (inner kept.new)) (T.contents (inner reported.old)) (T.contents (inner reported.new)) e) (λ _. ⊥)) }
+{
+    let mut input = match file {
+        Ok(input) => Counted::new(input),
+        Err(why) => return done(rt, subject, Err(file_fault(&why, ToolFault::Read))),
+    };
+    answers_status(
+        rt,
+        subject,
+        lint_input(rt.alloc(), keep, most, &mut input, kept, reported),
+    )
+}
+
+/// Lints the document at a path, and returns the status. The reports go to standard output; with `keep`, to standard
+/// error, and the lines without an error to standard output.
+pub(crate) fn lint_path(
+    rt: &HostRuntime,
+    subject: Subject<'_>,
+    path: &str,
+    keep: bool,
+    most: Option<u64>,
+) -> u8
+    ensures { IsCommandStatus result }
+{
+    if would_overwrite(rt, STDOUT_PATH, path) {
+        return print_error_line(rt, 2, SAME_FILE_MESSAGE);
+    }
+    let session = subject.session;
+    let file = open_input(rt, path, session);
+    let mut out = Counted::new(session.watch(io::writer(rt)));
+    let mut errors = Counted::new(session.watch(rt.stderr()));
+    if keep {
+        return run_lint(rt, subject, true, most, file, &mut out, &mut errors);
+    }
+    run_lint(rt, subject, false, most, file, &mut errors, &mut out)
+}

@@ -1,0 +1,54 @@
+//! The texts of progress: lines for a log, and the line of a terminal.
+ghost use Rattle.std.specs.Prelude.{◌≡◌, ◌*◌, ◌/◌, max, IfOk, string_bytes};
+ghost use Rattle.hdt_tool.specs.Inside.ProgressText.{progress_line, reading_text, phase_text};
+
+use std::alloc::{AllocError, Global};
+
+/// A line with the number of bytes read, and the length of the input if it is known.
+pub(crate) fn progress_line(
+    alloc: Global,
+    read: u64,
+    size: Option<u64>,
+) -> Result<String, AllocError>
+    ensures { IfOk result (λ line. string_bytes line ≡ progress_line read size) }
+{
+    match size {
+        Some(size) => format!(in alloc; "hdt: read {read} of {size} bytes\n"),
+        None => format!(in alloc; "hdt: read {read} bytes\n"),
+    }
+}
+
+/// The percentage of the input that has been read.
+fn percentage(read: u64, size: u64) -> u128
+    ensures { result ≡ read * 100 / max size 1 }
+{
+    u128::from(read) * 100 / u128::from(size.max(1))
+}
+
+/// What a terminal shows while the input is read: the megabytes read, and if the length of the input is known, their
+/// percentage and the megabytes of the input.
+pub(crate) fn reading_text(
+    alloc: Global,
+    read: u64,
+    size: Option<u64>,
+) -> Result<String, AllocError>
+    ensures { IfOk result (λ text. string_bytes text ≡ reading_text read size) }
+{
+    let read_mb = read / 1_000_000;
+    match size {
+        Some(size) => {
+            let percent = percentage(read, size);
+            let size_mb = size / 1_000_000;
+            format!(in alloc; "hdt: reading {percent}%, {read_mb} of {size_mb} MB")
+        }
+        None => format!(in alloc; "hdt: reading, {read_mb} MB"),
+    }
+}
+
+/// What a terminal shows after the input was read: what is done now, and a number of megabytes.
+pub(crate) fn phase_text(alloc: Global, phase: &str, bytes: u64) -> Result<String, AllocError>
+    ensures { IfOk result (λ text. string_bytes text ≡ phase_text phase.now bytes) }
+{
+    let megabytes = bytes / 1_000_000;
+    format!(in alloc; "hdt: {phase}, {megabytes} MB")
+}

@@ -1,0 +1,242 @@
+//! What a command shows on standard error beside its message: its progress on a terminal. And what the lines after a
+//! message need: the system's last error, and lines of a document that cannot be read again. Nothing is known of it to
+//! contracts; if it fails, or runs out of memory, less is shown.
+ghost use Rattle.std.specs.Prelude.{◌≡◌};
+
+use crate::error_context::is_terminal;
+use crate::files::{STDERR_PATH, is_same_file, is_stdin_path, output_path};
+use crate::kept_lines::KeptLines;
+use crate::progress_text::{phase_text, progress_line, reading_text};
+use crate::request::{Action, Invocation, Progress};
+use crate::watched::Watched;
+use std::alloc::AllocError;
+use std::cell::{Cell, RefCell};
+use std::io::{self, Write};
+use std::{env, fs};
+
+/// The minimum number of bytes between two reports of progress. An input with fewer bytes has no line on a terminal.
+pub(crate) const STEP: u64 = 16 << 20;
+
+/// Removes the line of a terminal.
+const ERASED: &str = "\r\x1b[K";
+
+/// What a command does once it has read its input.
+#[derive(Clone, Copy)]
+pub(crate) enum Phase {
+    /// It sorts and encodes what it has read.
+    Sorting,
+    /// It checks the file and writes it again.
+    Rewriting,
+    /// It checks the file and makes indexes.
+    Indexing,
+    /// It checks the file.
+    Checking,
+    /// It writes OUT.
+    Writing,
+}
+
+/// The name of a phase.
+fn phase_name<'a>(phase: Phase) -> &'a str {
+    match phase {
+        Phase::Sorting => "sorting",
+        Phase::Rewriting => "rewriting",
+        Phase::Indexing => "indexing",
+        Phase::Checking => "checking",
+        Phase::Writing => "writing",
+    }
+}
+
+/// What a command shows on standard error beside its message, and what the lines after a message need.
+#[derive(Drop)]
+pub(crate) struct Session<'a> {
+    rt: &'a HostRuntime,
+    progress: Progress,
+    /// What is done once the input has been read.
+    phase: Phase,
+    /// Whether more lines are wanted than an error message.
+    is_verbose: bool,
+    keeps_lines: bool,
+    has_line: Cell<bool>,
+    has_output: Cell<bool>,
+    error: Cell<Option<io::Error>>,
+    kept: RefCell<KeptLines>,
+}
+
+/// What a command does once it has read its input.
+fn phase_of(action: &Action) -> Phase {
+    match action {
+        Action::Build(_) => Phase::Sorting,
+        Action::Rewrite(_) => Phase::Rewriting,
+        Action::Count { .. } | Action::Answer(_) | Action::VerifyTight => Phase::Indexing,
+        _ => Phase::Checking,
+    }
+}
+
+/// Whether the terminal knows the codes that `show` takes.
+fn knows_codes(rt: &HostRuntime) -> bool {
+    match env::var(rt, "TERM") {
+        Ok(name) => !name.as_str().is_empty() && name.as_str() != "dumb",
+        Err(_) => false,
+    }
+}
+
+/// How progress is reported: on a terminal only if standard error is one, and never in a file that is OUT.
+fn progress_of(rt: &HostRuntime, invocation: &Invocation) -> Progress {
+    if let Some(path) = &invocation.request.out {
+        if is_same_file(rt, output_path(path.as_str()), STDERR_PATH) {
+            return Progress::Off;
+        }
+    }
+    match invocation.progress {
+        Progress::Automatic if !is_terminal(rt) || !knows_codes(rt) => Progress::Off,
+        progress => progress,
+    }
+}
+
+/// Whether the input is a document that cannot be read again.
+fn is_read_once(rt: &HostRuntime, invocation: &Invocation) -> bool {
+    let Action::Build(_) = &invocation.request.action else {
+        return false;
+    };
+    let path = invocation.request.file.as_str();
+    if is_stdin_path(path) {
+        return true;
+    }
+    match fs::metadata(rt, path) {
+        Ok(metadata) => !metadata.is_file(),
+        Err(_) => false,
+    }
+}
+
+impl<'a> Session<'a> {
+    /// The session of an invocation. More lines than the message are wanted with `--verbose` and on a terminal.
+    pub(crate) fn new(rt: &'a HostRuntime, invocation: &Invocation) -> Session<'a> {
+        let is_verbose = invocation.verbose || is_terminal(rt);
+        Session {
+            rt,
+            progress: progress_of(rt, invocation),
+            phase: phase_of(&invocation.request.action),
+            is_verbose,
+            keeps_lines: is_verbose && is_read_once(rt, invocation),
+            has_line: Cell::new(false),
+            has_output: Cell::new(false),
+            error: Cell::new(None),
+            kept: RefCell::new(KeptLines::new(rt.alloc())),
+        }
+    }
+
+    /// Whether more lines are wanted than an error message.
+    pub(crate) fn is_verbose(&self) -> bool {
+        self.is_verbose
+    }
+
+    /// Whether anything was written to a watched writer.
+    pub(crate) fn has_output(&self) -> bool {
+        self.has_output.get()
+    }
+
+    /// The system's last error.
+    pub(crate) fn error(&self) -> Option<io::Error> {
+        self.error.get()
+    }
+
+    /// The line with a number, from 1, of a document that cannot be read again, if it is kept.
+    pub(crate) fn kept_line(&self, number: u64) -> Option<Vec<u8>> {
+        match self.kept.try_borrow() {
+            Ok(kept) if self.keeps_lines => kept.line(self.rt.alloc(), number),
+            _ => None,
+        }
+    }
+
+    /// Watches a standard stream or a device, which may be the terminal of standard error.
+    pub(crate) fn watch<'b, T>(&'b self, inner: T) -> Watched<'b, T>
+        ensures { result.inner ≡ inner }
+    {
+        Watched::new(inner, self, true)
+    }
+
+    /// Watches a regular file.
+    pub(crate) fn watch_file<'b, T>(&'b self, inner: T) -> Watched<'b, T>
+        ensures { result.inner ≡ inner }
+    {
+        Watched::new(inner, self, false)
+    }
+
+    /// Notes the error of an operation, if it is one, and returns the outcome.
+    pub(crate) fn note<T>(&self, outcome: io::Result<T>) -> io::Result<T>
+        ensures { result ≡ outcome }
+    {
+        if let Err(error) = &outcome {
+            self.error.set(Some(*error));
+        }
+        outcome
+    }
+
+    /// Keeps what was read of a document that cannot be read again: the first `count` bytes of a buffer.
+    pub(crate) fn keep(&self, buffer: &[u8], count: usize) {
+        if !self.keeps_lines {
+            return;
+        }
+        let Some(piece) = buffer.get(..count) else {
+            return;
+        };
+        if let Ok(mut kept) = self.kept.try_borrow_mut() {
+            kept.push(piece);
+        }
+    }
+
+    /// Writes to standard error, if there is memory for the text.
+    fn print(&self, text: Result<String, AllocError>) {
+        if let Ok(text) = text {
+            let mut errors = self.rt.stderr();
+            let _ = errors.write_all(text.as_str().as_bytes());
+        }
+    }
+
+    /// Shows a text in place of the line of a terminal. It is not wrapped, so that it can be removed at any width.
+    fn show(&self, text: Result<String, AllocError>) {
+        let Ok(text) = text else {
+            return;
+        };
+        self.has_line.set(true);
+        self.print(format!(in self.rt.alloc(); "\r\x1b[?7l{text}\x1b[K\x1b[?7h"));
+    }
+
+    /// Reports that some of the input has been read, of its length if that is known.
+    pub(crate) fn show_reading(&self, read: u64, size: Option<u64>) {
+        match self.progress {
+            Progress::Lines => self.print(progress_line(self.rt.alloc(), read, size)),
+            Progress::Automatic => self.show(reading_text(self.rt.alloc(), read, size)),
+            Progress::Off => {}
+        }
+    }
+
+    /// Reports that all of the input has been read.
+    pub(crate) fn show_read(&self, read: u64, size: Option<u64>) {
+        match self.progress {
+            Progress::Lines => self.print(progress_line(self.rt.alloc(), read, size)),
+            _ => self.show_phase(self.phase, read),
+        }
+    }
+
+    /// Shows on a terminal what is done now with a number of bytes, unless they are few.
+    pub(crate) fn show_phase(&self, phase: Phase, bytes: u64) {
+        if matches!(self.progress, Progress::Automatic) && bytes >= STEP {
+            self.show(phase_text(self.rt.alloc(), phase_name(phase), bytes));
+        }
+    }
+
+    /// Removes the line of a terminal.
+    pub(crate) fn clear(&self) {
+        if self.has_line.replace(false) {
+            let mut errors = self.rt.stderr();
+            let _ = errors.write_all(ERASED.as_bytes());
+        }
+    }
+
+    /// Removes the line of a terminal, since output follows.
+    pub(crate) fn begin_output(&self) {
+        self.clear();
+        self.has_output.set(true);
+    }
+}

@@ -1,0 +1,379 @@
+//! `split` over files and streams.
+ghost use Rattle.std.specs.Prelude.{◌≡◌, ◌⊎◌, ◌<◌, ◌^◌, IfOk, length};
+ghost use Rattle.hdt_tool.specs.ErrorLines.{fault_status};
+ghost use Rattle.hdt_tool.specs.Status.{IsCommandStatus};
+
+use crate::atomic_replace::random_number;
+use crate::error_context::{Subject, print_context};
+use crate::error_lines::{OUT_OF_MEMORY, fault_line};
+use crate::fault::{ToolFault, file_fault, line_fault};
+use crate::files::{Source, move_off_std_streams};
+use crate::request::Request;
+use crate::session::Session;
+use crate::split_options::{SplitOptions, SplitOutput};
+use crate::splitting::{SplitStop, split_inputs};
+use crate::status::{done, print_error_line};
+use hdt_terms::SplitFault;
+use hdt_usage::put_shown;
+use hdt_wire::Counted;
+use std::alloc::{AllocError, Global};
+use std::fs::{self, OpenOptions};
+use std::io::{self, ErrorKind, Read, Write};
+
+/// The number of random names to try for a new folder.
+const NAME_ATTEMPTS: u64 = 1000;
+
+const BLANK_NODES_MESSAGE: &str =
+    " have blank nodes: say by --blank-nodes whether a label is one node in \
+both (one), or not (apart)
+
+For more information, try '--help'.
+";
+
+const FOLDER_MESSAGE: &str = "error: FOLDER is there already
+
+For more information, try '--help'.";
+
+/// An input that is opened once it is read, so that few files are open at a time.
+#[derive(Drop)]
+struct LateInput<'a> {
+    rt: &'a HostRuntime,
+    session: &'a Session<'a>,
+    path: &'a str,
+    opened: Option<Source>,
+}
+
+impl Read for LateInput<'_> {
+    fn read(&mut self, buf: &mut [u8]) -> io::Result<usize> {
+        if self.opened.is_none() {
+            self.opened = Some(self.session.note(Source::open(self.rt, self.path))?);
+        }
+        match &mut self.opened {
+            Some(source) => source.read(buf),
+            None => Ok(0),
+        }
+    }
+}
+
+/// A file that is opened for each write, at its end, so that any number of parts needs one descriptor. It is made by the
+/// first write.
+#[derive(Drop)]
+struct PartFile<'a> {
+    rt: &'a HostRuntime,
+    path: String,
+}
+
+impl Write for PartFile<'_> {
+    fn write(&mut self, buf: &[u8]) -> io::Result<usize> {
+        let mut options = OpenOptions::new();
+        options.append(true).create(true);
+        let mut file = move_off_std_streams(options.open(self.rt, self.path.as_str())?)?;
+        file.write(buf)
+    }
+
+    fn flush(&mut self) -> io::Result<()> {
+        Ok(())
+    }
+}
+
+/// A part that is printed, or one that is not.
+#[derive(Drop)]
+struct PrintedPart<W: Write> {
+    /// Where it goes; `None` if nowhere.
+    out: Option<W>,
+}
+
+impl<W: Write> Write for PrintedPart<W> {
+    ghost use Rattle.std.specs.Prelude.{option_and_then};
+
+    ghost contents = { λ part. option_and_then (λ out. W.contents out) part.out };
+
+    fn write(&mut self, buf: &[u8]) -> io::Result<usize> {
+        match &mut self.out {
+            Some(out) => out.write(buf),
+            None => Ok(buf.len()),
+        }
+    }
+
+    fn flush(&mut self) -> io::Result<()> {
+        match &mut self.out {
+            Some(out) => out.flush(),
+            None => Ok(()),
+        }
+    }
+}
+
+/// The paths of all inputs.
+fn input_path<'a>(request: &'a Request, options: &'a SplitOptions, number: u64) -> &'a str {
+    if number == 0 {
+        return request.file.as_str();
+    }
+    match options.others.get((number - 1) as usize) {
+        Some(path) => path.as_str(),
+        None => request.file.as_str(),
+    }
+}
+
+/// All inputs, none of them opened.
+fn late_inputs<'a>(
+    rt: &'a HostRuntime,
+    session: &'a Session<'a>,
+    request: &'a Request,
+    options: &'a SplitOptions,
+) -> Result<Vec<LateInput<'a>>, AllocError> {
+    let mut inputs = Vec::new(rt.alloc());
+    inputs.push(LateInput {
+        rt,
+        session,
+        path: request.file.as_str(),
+        opened: None,
+    })?;
+    'paths: for path in options.others.as_slice() {
+        inputs.push(LateInput {
+            rt,
+            session,
+            path: path.as_str(),
+            opened: None,
+        })?;
+    }
+    Ok(inputs)
+}
+
+/// A file for each part, in a folder. None is made yet.
+fn part_files<'a>(
+    rt: &'a HostRuntime,
+    folder: &str,
+    parts: u32,
+) -> Result<Vec<Counted<PartFile<'a>>>, AllocError>
+    ensures { IfOk result (λ files. length files.items ≡ parts) }
+{
+    let mut files = Vec::new(rt.alloc());
+    'parts: for part in 0..parts {
+        let path = format!(in rt.alloc(); "{folder}/part-{part:05}.nt")?;
+        files.push(Counted::new(PartFile { rt, path }))?;
+    }
+    Ok(files)
+}
+
+/// All parts, of which one goes to a writer.
+fn printed_parts<W: Write + Drop>(
+    alloc: Global,
+    part: u32,
+    parts: u32,
+    out: W,
+) -> Result<Vec<Counted<PrintedPart<W>>>, AllocError>
+    ensures { IfOk result (λ outs. length outs.items ≡ parts) }
+{
+    let mut outs = Vec::new(alloc);
+    let mut out = Some(out);
+    'parts: for number in 0..parts {
+        let out = if number == part { out.take() } else { None };
+        outs.push(Counted::new(PrintedPart { out }))?;
+    }
+    Ok(outs)
+}
+
+/// The status of an error. Prints its message.
+fn report(rt: &HostRuntime, subject: Subject<'_>, fault: ToolFault) -> u8
+    ensures { IsCommandStatus result }
+{
+    done(rt, subject, Err(fault))
+}
+
+/// Prints an error with the path of the input.
+fn print_input_line(rt: &HostRuntime, path: &str, line: &str) -> Result<(), AllocError> {
+    let mut text = Vec::new(rt.alloc());
+    text.extend_from_slice(b"hdt: ")?;
+    put_shown(path.as_bytes(), &mut text)?;
+    text.extend_from_slice(b": ")?;
+    text.extend_from_slice(line.strip_prefix("hdt: ").unwrap_or(line).as_bytes())?;
+    text.push(b'\n')?;
+    let mut errors = rt.stderr();
+    let _ = errors.write_all(&text);
+    Ok(())
+}
+
+/// The status of an error of the input at a path. Prints the message, and the lines that follow it.
+fn report_input(rt: &HostRuntime, subject: Subject<'_>, path: &str, fault: &ToolFault) -> u8
+    ensures { (result ≡ fault_status fault.now) ⊎ (result ≡ 4) }
+{
+    let Ok((status, line)) = fault_line(rt.alloc(), fault) else {
+        return print_error_line(rt, 4, OUT_OF_MEMORY);
+    };
+    let Ok(()) = print_input_line(rt, path, line.as_str()) else {
+        return print_error_line(rt, 4, OUT_OF_MEMORY);
+    };
+    print_context(rt, subject, fault);
+    status
+}
+
+/// The status of an error in a line of the input at a path, or of reading it.
+fn report_line_fault(rt: &HostRuntime, subject: Subject<'_>, path: &str, fault: &ToolFault) -> u8
+    ensures { IsCommandStatus result }
+{
+    if *fault == ToolFault::OutOfMemory {
+        return report(rt, subject, *fault);
+    }
+    report_input(rt, subject, path, fault)
+}
+
+/// Prints that two inputs have blank nodes, and what to do.
+fn print_blank_nodes_line(rt: &HostRuntime, one: &str, other: &str) -> Result<(), AllocError> {
+    let mut text = Vec::new(rt.alloc());
+    text.extend_from_slice(b"error: ")?;
+    put_shown(one.as_bytes(), &mut text)?;
+    text.extend_from_slice(b" and ")?;
+    put_shown(other.as_bytes(), &mut text)?;
+    text.extend_from_slice(BLANK_NODES_MESSAGE.as_bytes())?;
+    let mut errors = rt.stderr();
+    let _ = errors.write_all(&text);
+    Ok(())
+}
+
+/// The status for two inputs with blank nodes.
+fn report_blank_nodes(rt: &HostRuntime, one: &str, other: &str) -> u8
+    ensures { IsCommandStatus result }
+{
+    match print_blank_nodes_line(rt, one, other) {
+        Ok(()) => 2,
+        Err(AllocError) => print_error_line(rt, 4, OUT_OF_MEMORY),
+    }
+}
+
+/// The status of a split. Prints the message of an error.
+fn split_status(
+    rt: &HostRuntime,
+    subject: Subject<'_>,
+    request: &Request,
+    options: &SplitOptions,
+    outcome: Result<(), SplitStop>,
+) -> u8
+    ensures { IsCommandStatus result }
+{
+    let stop = match outcome {
+        Ok(()) => return 0,
+        Err(stop) => stop,
+    };
+    match stop {
+        SplitStop::Input(number, SplitFault::Line(fault)) => {
+            let path = input_path(request, options, number);
+            report_line_fault(rt, subject.of_input(path), path, &line_fault(fault))
+        }
+        SplitStop::Input(_, SplitFault::Write(_)) => report(rt, subject, ToolFault::Write(0)),
+        SplitStop::Input(_, SplitFault::OutOfMemory) => {
+            report(rt, subject, ToolFault::OutOfMemory)
+        }
+        SplitStop::OutOfMemory => report(rt, subject, ToolFault::OutOfMemory),
+        SplitStop::BlankNodes(one, other) => report_blank_nodes(
+            rt,
+            input_path(request, options, one),
+            input_path(request, options, other),
+        ),
+    }
+}
+
+/// Splits the inputs of a request to these writers, and returns the status.
+fn split_to<W: Write + Drop>(
+    rt: &HostRuntime,
+    subject: Subject<'_>,
+    request: &Request,
+    options: &SplitOptions,
+    outs: Result<Vec<Counted<W>>, AllocError>,
+) -> u8
+    requires { IfOk outs (λ outs. length outs.items < 2 ^ 32) }
+    ensures { IsCommandStatus result }
+{
+    let (Ok(mut outs), Ok(inputs)) = (outs, late_inputs(rt, subject.session, request, options))
+    else {
+        return report(rt, subject, ToolFault::OutOfMemory);
+    };
+    if outs.is_empty() {
+        return report(rt, subject, ToolFault::BadOptions);
+    }
+    let outcome = split_inputs(rt.alloc(), options.blank_nodes, inputs, outs.as_mut_slice());
+    split_status(rt, subject, request, options, outcome)
+}
+
+/// Makes a new folder beside a path, under a random name.
+fn make_folder_beside(rt: &HostRuntime, path: &str) -> io::Result<String> {
+    'names: for _ in 0..NAME_ATTEMPTS {
+        let number = random_number(rt);
+        let name = format!(in rt.alloc(); "{path}.unfinished-{number:016x}")?;
+        match fs::create_dir(rt, name.as_str()) {
+            Ok(()) => return Ok(name),
+            Err(error) if error.kind() == ErrorKind::AlreadyExists => {}
+            Err(error) => return Err(error),
+        }
+    }
+    Err(io::Error::from(ErrorKind::AlreadyExists))
+}
+
+/// Gives the folder its name if it is complete, or removes it. Returns the status.
+fn finish_folder(rt: &HostRuntime, subject: Subject<'_>, made: &str, path: &str, status: u8) -> u8
+    requires { IsCommandStatus status }
+    ensures { IsCommandStatus result }
+{
+    let mut status = status;
+    if status == 0 {
+        match fs::rename(rt, made, path) {
+            Ok(()) => return 0,
+            Err(error) => status = report(rt, subject, file_fault(&error, ToolFault::Write(0))),
+        }
+    }
+    let _ = fs::remove_dir_all(rt, made);
+    status
+}
+
+/// The path without slashes at its end.
+fn without_slashes(path: &str) -> &str {
+    match path.trim_end_matches('/') {
+        "" => path,
+        trimmed => trimmed,
+    }
+}
+
+/// Splits the inputs to a new folder, which is complete or not there, and returns the status.
+fn split_to_folder(
+    rt: &HostRuntime,
+    subject: Subject<'_>,
+    request: &Request,
+    options: &SplitOptions,
+    folder: &str,
+) -> u8
+    ensures { IsCommandStatus result }
+{
+    let path = without_slashes(folder);
+    if fs::symlink_metadata(rt, path).is_ok() {
+        let _ = rt.eprintln(FOLDER_MESSAGE);
+        return 2;
+    }
+    let made = match make_folder_beside(rt, path) {
+        Ok(made) => made,
+        Err(error) => return report(rt, subject, file_fault(&error, ToolFault::Write(0))),
+    };
+    let files = part_files(rt, made.as_str(), options.parts);
+    let status = split_to(rt, subject, request, options, files);
+    finish_folder(rt, subject, made.as_str(), path, status)
+}
+
+/// Runs `split`, and returns the status. The folder is made under another name beside it, and renamed once it is complete;
+/// a part is printed as it is read. (Contracts cannot describe the file system; tests/test_split.py checks this.)
+pub(crate) fn run_split(
+    rt: &HostRuntime,
+    subject: Subject<'_>,
+    request: &Request,
+    options: &SplitOptions,
+) -> u8
+    ensures { IsCommandStatus result }
+{
+    match &options.output {
+        SplitOutput::Folder(folder) => {
+            let subject = subject.of_output(folder.as_str());
+            split_to_folder(rt, subject, request, options, folder.as_str())
+        }
+        SplitOutput::Part(part) => {
+            let outs = printed_parts(rt.alloc(), *part, options.parts, io::writer(rt));
+            split_to(rt, subject, request, options, outs)
+        }
+    }
+}

@@ -1,0 +1,125 @@
+//! `split`: several documents into the parts of one graph, by subject.
+ghost use Rattle.std.specs.Prelude.{◌≡◌, ◌<◌, ◌^◌, None, IfOk, IfErr, OnOk, length, map, true};
+ghost use Rattle.hdt_wire.specs.Counted.{inner, failures};
+ghost use Rattle.hdt_terms.specs.Split.{SplitsInput};
+ghost use Rattle.hdt_tool.specs.SplitInputs.{IsScopeFault, SplitsInTurn, StopsHere, StopsInTurn, are_mixed, first_with, input_prefix};
+ghost use Rattle.hdt_tool.specs.declared.splitting.SplitStop.TheVariants as SplitStop;
+
+use crate::split_options::BlankNodes;
+use hdt_terms::{SplitFault, SplitReport, split_document};
+use hdt_wire::Counted;
+use std::alloc::{AllocError, Global};
+use std::io::{Read, Write};
+
+/// Why [`split_inputs`] stopped. Inputs are numbered from 0.
+#[derive(Clone, Copy, Debug, PartialEq, Eq)]
+pub enum SplitStop {
+    /// The input with this number has an error, could not be read, or a part of it not written.
+    Input(u64, SplitFault),
+    /// Both inputs have blank nodes, and whether a label is one node in both was not said.
+    BlankNodes(u64, u64),
+    /// Memory ran out before the next input was read.
+    OutOfMemory,
+}
+
+impl From<AllocError> for SplitStop {
+    ghost from_gives = { λ _ e. e ≡ SplitStop.OutOfMemory };
+
+    fn from(_error: AllocError) -> SplitStop {
+        SplitStop::OutOfMemory
+    }
+}
+
+/// What goes before the labels of an input.
+fn input_prefix(
+    alloc: Global,
+    blank_nodes: Option<BlankNodes>,
+    number: u64,
+) -> Result<Vec<u8>, AllocError>
+    ensures { IfOk result (λ prefix. prefix.items ≡ input_prefix blank_nodes number) }
+{
+    match blank_nodes {
+        Some(BlankNodes::Apart) => Ok(format!(in alloc; "f{number}_")?.into_bytes()),
+        Some(BlankNodes::One) => Ok(Vec::new(alloc)),
+        None => Ok(Vec::new(alloc)),
+    }
+}
+
+/// The first input with blank nodes so far; an error if this is another one and it matters.
+fn first_with_blank_nodes(
+    blank_nodes: Option<BlankNodes>,
+    first: Option<u64>,
+    number: u64,
+    has_blank_nodes: bool,
+) -> Result<Option<u64>, SplitStop>
+    ensures ok { IfOk result (λ next. (next ≡ first_with first number has_blank_nodes) × (are_mixed blank_nodes first has_blank_nodes → ⊥)) }
+    ensures err { IfErr result (λ stop. IsScopeFault blank_nodes first number stop × (has_blank_nodes ≡ true)) }
+{
+    match (blank_nodes, first, has_blank_nodes) {
+        (None, Some(first), true) => Err(SplitStop::BlankNodes(first, number)),
+        (_, None, true) => Ok(Some(number)),
+        _ => Ok(first),
+    }
+}
+
+/// Splits the input with this number.
+#[tactic(auto, using(crate::proofs::SplitRuns::stops_at_fault))]
+fn split_input<R: Read, W: Write>(
+    alloc: Global,
+    blank_nodes: Option<BlankNodes>,
+    number: u64,
+    input: &mut Counted<R>,
+    outs: &mut [Counted<W>],
+) -> Result<SplitReport, SplitStop>
+    requires parts { (0 < length outs.old) × (length outs.old < 2 ^ 32) }
+    ensures ok { IfOk result (SplitsInput (input_prefix blank_nodes number) (R.remaining (inner input.old))
+        (map (λ out. W.contents (inner out)) outs.old) (map (λ out. W.contents (inner out)) outs.new)) }
+    ensures stopped { IfErr result (StopsHere blank_nodes None number (R.remaining (inner input.old))
+        (map (λ out. W.contents (inner out)) outs.old) (map (λ out. W.contents (inner out)) outs.new)) }
+    ensures len { length outs.new ≡ length outs.old }
+    ensures well { OnOk result (map (λ out. failures out) outs.new ≡ map (λ out. failures out) outs.old) }
+{
+    let prefix = input_prefix(alloc, blank_nodes, number)?;
+    match split_document(alloc, &prefix, input, outs) {
+        Ok(report) => Ok(report),
+        Err(fault) => Err(SplitStop::Input(number, fault)),
+    }
+}
+
+/// Splits documents, one after another: each line with a triple goes whole to the writer of the part of its subject
+/// ([`part_of`](hdt_terms::part_of) its dictionary string), in the order of inputs and lines; other lines go nowhere.
+/// There are as many parts as writers. With `Apart` the labels of blank nodes get a prefix: `f0_` those of the first
+/// input, `f1_` those of the second one, and so on. Each input is dropped before the next one is read.
+///
+/// Linear time. Memory: the longest line, twice, and 64 KiB for the input and for each part.
+///
+/// # Errors
+///
+/// [`SplitStop::Input`] with the first error of the first input that has one; [`SplitStop::BlankNodes`] once a second
+/// input with blank nodes is read, if `blank_nodes` is `None`; [`SplitStop::OutOfMemory`].
+pub fn split_inputs<R: Read + Drop, W: Write>(
+    alloc: Global,
+    blank_nodes: Option<BlankNodes>,
+    inputs: Vec<R>,
+    outs: &mut [Counted<W>],
+) -> Result<(), SplitStop>
+    requires parts { (0 < length outs.old) × (length outs.old < 2 ^ 32) }
+    // Each input in turn was split: the writers have gained the lines of their parts of all of them.
+    ensures ok { OnOk result (SplitsInTurn blank_nodes None 0 (map (λ input. R.remaining input) inputs.items)
+        (map (λ out. W.contents (inner out)) outs.old) (map (λ out. W.contents (inner out)) outs.new)) }
+    // The inputs before that of the error were split, and a front of its lines.
+    ensures stopped { IfErr result (StopsInTurn blank_nodes None 0 (map (λ input. R.remaining input) inputs.items)
+        (map (λ out. W.contents (inner out)) outs.old) (map (λ out. W.contents (inner out)) outs.new)) }
+    // At `Ok` no writer failed.
+    ensures well { OnOk result (map (λ out. failures out) outs.new ≡ map (λ out. failures out) outs.old) }
+{
+    let mut first = None;
+    let mut number = 0;
+    'inputs: for input in inputs {
+        let mut input = Counted::new(input);
+        let report = split_input(alloc, blank_nodes, number, &mut input, outs)?;
+        first = first_with_blank_nodes(blank_nodes, first, number, report.has_blank_nodes)?;
+        number += 1;
+    }
+    Ok(())
+}
