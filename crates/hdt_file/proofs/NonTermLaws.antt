@@ -35,11 +35,6 @@ FindsUpTo role before all old n left found = (more : List NonTerm) → AreNonTer
 pub none_found : (role : Role) (before : ℕ) (all : List LocatedString) (old : List NonTerm) → FindsUpTo role before all old before all old
 none_found role before all old more h = (more, h, refl)
 
-pub term_passed : (role : Role) (before n m : ℕ) (all left rest : List LocatedString) (p : LocatedString) (old found : List NonTerm) → FindsUpTo role before all old n left found → left ≡ p ∷ rest → m ≡ n + 1 → HasTerm role p.string
-    → FindsUpTo role before all old m rest found
-term_passed role before n m all left rest p old found h first next is more k =
-    subst (λ (l : List LocatedString). FindsUpTo role before all old n l found) first h more (inl (is, subst (λ (i : ℕ). AreNonTermsIn role i rest more) next k))
-
 pub non_term_found : (role : Role) (before n m : ℕ) (all left rest : List LocatedString) (p : LocatedString) (old found new : List NonTerm) (x : NonTerm) → FindsUpTo role before all old n left found → left ≡ p ∷ rest → m ≡ n + 1
     → HasNoTerm role p.string → x ≡ record { role = role; number = n + 1; place = p.place } → new ≡ found ++ x ∷ [] → FindsUpTo role before all old m rest new
 non_term_found role before n m all left rest p old found new x h first next none is grown more k =

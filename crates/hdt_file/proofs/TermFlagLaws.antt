@@ -25,15 +25,6 @@ rendered role string old new h = (h.term, h.is)
 abbrev pub FlagsUpTo : Role → List (List ℕ) → List (List ℕ) → List Bool → Type 0
 FlagsUpTo role all left flags = (more : List Bool) → Pairwise (IsTermFlag role) left more → Pairwise (IsTermFlag role) all (flags ++ more)
 
-pub no_flags : (role : Role) (all : List (List ℕ)) → FlagsUpTo role all all []
-no_flags role all more h = h
-
-pub one_flag : (role : Role) (all left : List (List ℕ)) (x : List ℕ) (flags new : List Bool) (flag : Bool) → FlagsUpTo role all (x ∷ left) flags → IsTermFlag role x flag
-    → new ≡ flags ++ flag ∷ [] → FlagsUpTo role all left new
-one_flag role all left x flags new flag h is grown more rest =
-    subst (λ (b : List Bool). Pairwise (IsTermFlag role) all (b ++ more)) (sym grown)
-    (subst (Pairwise (IsTermFlag role) all) (sym (append_assoc flags (flag ∷ []) more)) (h (flag ∷ more) (is, rest)))
-
 pub all_flags : (role : Role) (all left : List (List ℕ)) (flags : List Bool) → FlagsUpTo role all left flags → left ≡ [] → Pairwise (IsTermFlag role) all flags
 all_flags role all [] flags h none = subst (Pairwise (IsTermFlag role) all) (append-nil flags) (h [] tt)
 all_flags role all (x ∷ left) flags h none = absurd cc

@@ -96,9 +96,6 @@ each_wrote_all a b c text pending h more = (
       wrote_all (get_or a part None) (get_or c part None) (text part) [] gone refl,
 )
 
-pub each_wrote_none : (a : List (Option (List ℕ))) (pending : List (List ℕ)) → length pending ≡ length a → EachGainsAllBut a a (λ part. get_or pending part []) pending
-each_wrote_none a pending len = (refl, len, λ part lt. wrote_none (get_or a part None) (get_or pending part []))
-
 -- A prefix was written; the rest is pending.
 pub each_pending : (a b : List (Option (List ℕ))) (text : ℕ → List ℕ) (pending : List (List ℕ)) → EachGainsAllBut a b text pending → EachGainsPrefix a b text
 each_pending a b text pending h = (h.0, λ part lt. (get_or pending part [], h.2 part lt))

@@ -33,10 +33,6 @@ buffer_fails r s h given given' fault room does others is =
     subst (λ (f : LineFault). IsNextLineError f s (left s given) given') (sym is)
     (record { line = ap (λ (t : LinesState). t.ends + 1) others; column = refl; fault_is = unread_of r s.buffered h.buffered given given' s.taken s.limit room does })
 
-pub no_room : (s h : LinesState) (before given : Option (List ℕ)) (fault : LineFault) → h ≡ record s { buffered = h.buffered } → fault ≡ record { line = h.ends + 1; column = 0; reason = OutOfMemory } → IsNextLineError fault s before given
-no_room s h before given fault others is =
-    subst (λ (f : LineFault). IsNextLineError f s before given) (sym is) (record { line = ap (λ (t : LinesState). t.ends + 1) others; column = refl; fault_is = tt })
-
 pub whole_taken : (s h new : LinesState) (given given' : Option (List ℕ)) (n most : ℕ) (bytes : List ℕ) → BuffersLine (Ok n) s.buffered h.buffered given given' most → h ≡ record s { buffered = h.buffered } → s.taken + length h.buffered ≤ s.limit
     → s.ended ≡ false → new ≡ take_line h n → bytes ≡ take (n + 1) h.buffered → TakesWholeLine n s new (left s given) (left new given') bytes
 whole_taken s h new given given' n most bytes filled others within going is bytes_is =

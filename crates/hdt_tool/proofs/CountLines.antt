@@ -120,11 +120,6 @@ pub none_ahead : (w : Progress) (ahead : List (List ℕ)) (r : Option ℕ) → r
 none_ahead w [] r e not = refl
 none_ahead w (x ∷ xs) r e not = absurd (not (w.given + 1) e)
 
-pub walked_all : (g : GraphParts) (role : Role) (raw : Bool) (w : Progress) (r : Option ℕ) (text : List ℕ) → AreWalked g role raw w text → r ≡ next_id w w.ahead → ((n : ℕ) → r ≡ Some n → ⊥) → PrintsCounts g role None raw text
-walked_all g role raw w r text h e not =
-    let all : role_strings g.dictionary role ≡ h.done = h.all ∙ ap (λ l. h.done ++ l) (none_ahead w w.ahead r e not) ∙ append-nil h.done in
-    record { ids = range_with_len 1 w.given; counted = ap (range_with_len 1) (h.given ∙ ap length (sym all)); lines = h.lines }
-
 -- ---- the most frequent IDs
 
 -- Each key is that of an ID of the role.

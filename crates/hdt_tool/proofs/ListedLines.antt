@@ -144,11 +144,6 @@ id_fails strings role terms ids at number d text string e lt is lines there (inr
     } in
     subst (IsLineFault strings ids role terms) (sym fails.0) (refl, fails.1, last)
 
-pub list_fails : (strings : List (List ℕ)) (prefix ids : List ℕ) (role : Role) (terms : Bool) (e : ToolFault) → ArePrefixIds strings prefix ids → IsLineFault strings ids role terms e → IsListFault strings prefix role terms e
-list_fails strings prefix ids role terms (NotATerm other n) h fails = (fails.0, (fails.1, (ids, h, fails.2)))
-list_fails strings prefix ids role terms OutOfMemory h fails = tt
-list_fails strings prefix ids role terms e h fails = absurd fails
-
 -- ---- walking
 
 -- The default of an element that is there makes no difference.

@@ -38,5 +38,3 @@ same_error {T} {U} a b e = let is : a ≡ b = cc in ap Err is
 pub not_error : {T P : Type 0} (x : T) (e : ToolFault) → IsErrOf {T = T} (Ok x) e → P
 not_error {T} {P} x e is = absurd cc
 
-pub not_bad : {T P : Type 0} (n : ℕ) → IsErrOf {T = T} (Err (Write n)) BadOptions → P
-not_bad {T} {P} n is = absurd cc
