@@ -356,6 +356,12 @@ def test_definitions_table(defined: Path) -> None:
     ]
 
 
+def test_definitions_of_a_function(defined: Path) -> None:
+    """Those that its contract reaches, exported or not."""
+    assert definitions(defined, "--of", "toy::shown") == ["3 definitions, 9 lines, 3 of them comments"]
+    assert definitions(defined, "--of", "toy::kept") == ["4 definitions, 11 lines, 3 of them comments"]
+
+
 # ---- contracts
 
 # A library before and after a change: a clause of `a` is weaker, one is gone, one is new; `b` has another name, and its

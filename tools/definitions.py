@@ -3,6 +3,7 @@
     python3 -m tools.definitions             print a table, crate by crate
     python3 -m tools.definitions --list      name each definition that is reached
     python3 -m tools.definitions --others    name each definition that is not
+    python3 -m tools.definitions --of NAME   count those of one function, as hdt_file::open or hdt_file::Graph::find
 
 A contract reaches the definitions that its clauses name, and all that those name, in any crate; so does the view of a
 type. A program exports the public functions of all its modules.
@@ -119,8 +120,8 @@ def is_exported(name: str, names: Optional[set[str]]) -> bool:
     return names is None or name in names
 
 
-def contracts(crate: Path) -> Iterator[Name]:
-    """Give what the clauses of a crate's exported functions, and the views of its types, name."""
+def contracts(crate: Path, only: str = "") -> Iterator[Name]:
+    """Give what the clauses of a crate's exported functions and the views of its types name, or one function's."""
     names = exported(crate)
     for file in (crate / "src").rglob("*.rt"):
         if file.stem.endswith("tests"):
@@ -131,13 +132,15 @@ def contracts(crate: Path) -> Iterator[Name]:
             block, kind, function = IMPL.match(line), TYPE.match(line), FUNCTION.match(line)
             if block:
                 owner = block[2]
-                is_public = block[1] == "Model for " and is_exported(owner, names)
+                is_public = not only and block[1] == "Model for " and is_exported(owner, names)
             elif kind:
-                is_public = bool(kind[1]) and is_exported(kind[2], names)
+                is_public = not only and bool(kind[1]) and is_exported(kind[2], names)
             elif function:
                 indent, public, foreign, name = function.groups()
                 is_public = bool(foreign) or bool(public) and is_exported(owner if indent else name, names)
                 is_public = is_public or names is None and file.stem == "main"
+                if only:
+                    is_public = only == (f"{owner}::{name}" if indent else name)
             if line.strip() == "{":
                 is_inside = False
             if is_public and (CLAUSE.match(line) or is_inside):
@@ -145,9 +148,11 @@ def contracts(crate: Path) -> Iterator[Name]:
                 yield from (imported[word] for word in WORD.findall(line) if word in imported)
 
 
-def reached(found: dict[Name, Definition], top: Path) -> set[Name]:
-    """Return the definitions that contracts of exported functions reach."""
-    left = [it for crate in repository.crates(top) for it in contracts(top / "crates" / crate)]
+def reached(found: dict[Name, Definition], top: Path, only: str = "") -> set[Name]:
+    """Return the definitions that contracts of exported functions reach, or the contract of one function."""
+    crate_of_only, _, function = only.partition("::")
+    crates = [crate_of_only] if only else repository.crates(top)
+    left = [it for crate in crates for it in contracts(top / "crates" / crate, function)]
     seen: set[Name] = set()
     while left:
         at = left.pop()
@@ -183,11 +188,15 @@ def main() -> int:
     )
     words.add_argument("--list", action="store_true", help="name the definitions that are reached, with their lines")
     words.add_argument("--others", action="store_true", help="name those that are not, with their lines")
+    words.add_argument("--of", default="", metavar="NAME", help="count those that the contract of a function reaches")
     words.add_argument("--top", type=Path, default=TOP, metavar="DIR", help="the repository (this one)")
     given = words.parse_args()
     found = definitions(given.top)
-    seen = reached(found, given.top)
-    if given.list or given.others:
+    seen = reached(found, given.top, given.of)
+    if given.of:
+        lines, comments = sum(len(found[at].lines) for at in seen), sum(found[at].comments() for at in seen)
+        print(f"{len(seen)} definitions, {lines} lines, {comments} of them comments")
+    elif given.list or given.others:
         for at in sorted(found):
             if given.list and at in seen or given.others and at not in seen:
                 print(".".join(at), len(found[at].lines))
