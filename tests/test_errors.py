@@ -163,16 +163,29 @@ def test_messages_of_the_program() -> None:
 
 @pytest.mark.parametrize("entry", ENTRIES, ids=lambda entry: f"{entry.kind}-{entry.name}")
 def test_texts_are_short(entry: errors.Entry) -> None:
-    """Meaning, cause and remedy are sentences without markup, which a terminal shows in three lines each."""
-    for text in entry.plain():
+    """Meaning, cause and remedy are sentences without markup, which a terminal shows in four lines each."""
+    for text in filter(None, entry.plain()):
         lines = text.splitlines()
         assert len(lines) <= errors.LINES and max(map(len, lines)) <= errors.COLUMNS
         assert text.endswith(".") and not set(text) & set("`[]*")
 
 
+def test_shared_texts() -> None:
+    """An error has its own cause and remedy, else those of its section; a message has none."""
+    found = {(it.kind, it.name): it for it in ENTRIES}
+    shared, own, part = (found["file", name] for name in ("Width", "Unused", "Truncated"))
+    assert shared.cause.startswith("The file is damaged, or") and shared.remedy.startswith("Download the file again.")
+    assert own.cause.startswith("Triples were removed") and own.remedy.startswith("`hdt rewrite FILE NEW`")
+    assert part.cause.startswith("An interrupted download") and part.remedy == shared.remedy
+    assert {(it.cause, it.remedy) for it in ENTRIES if it.kind == "message"} == {("", "")}
+
+
 @pytest.mark.parametrize("text", [
-    "## Other messages\n\n### no triples\n\nA.\n\n- Cause: B.\n- Remedy: C.\n- Example: `d`:\n  `e`\n",
-    "## Other messages\n\n### no triples (status 1)\n\nA.\n\n- Cause: B.\n- Example: `d`:\n  `e`\n"])
+    "## Other messages\n\n### no triples\n\nA.\n\n- Example: `d`:\n  `e`\n",
+    "## Other messages\n\n### no triples (status 1)\n\nA.\n\n- Cause: B.\n- Example: `d`:\n  `e`\n",
+    "## Other messages\n\n### no triples (status 1)\n\nA.\n",
+    "## Errors of an N-Triples text\n\n### 1 Syntax\n\nA.\n\n- Cause: B.\n- Example: `d`:\n  `e`\n",
+    "## Errors of an HDT file\n\nA.\n\n- Cause: B.\n\n### 1 Truncated\n\nC.\n\n- Example: d; at 1\n"])
 def test_entries_of_another_form(text: str) -> None:
     """A heading or an error of another form is refused."""
     with pytest.raises(ValueError, match="another form|without one of its parts"):
