@@ -66,8 +66,8 @@ def filled(text: str, title: str = "") -> str:
 class Entry(NamedTuple):
     """An error of the page.
 
-    `number` and `name` are those of a reason; a message has an exit status and its text, and no cause or remedy. In texts
-    are no line ends.
+    `number` and `name` are those of a reason; a message has an exit status and its text, and no cause or remedy. Texts
+    have no line ends.
     """
 
     kind: str
