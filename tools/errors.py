@@ -446,7 +446,8 @@ def tried(entry: Entry) -> Tried:
     wanted_status, pattern = expected(entry)
     is_right = status == wanted_status and re.fullmatch(pattern, line)
     wrong = "" if is_right else f"the example ({it.shown}) ends with status {status} and prints: {line}"
-    return Tried("" if entry.kind == "file" else f" {it.shown}:\n  `{line}`\n", wrong)
+    output = "" if line == f"hdt: {entry.name}" else f":\n  `{line}`"
+    return Tried("" if entry.kind == "file" else f" {it.shown}{output}\n", wrong)
 
 
 def with_examples(page: str, examples: list[str]) -> str:
