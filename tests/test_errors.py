@@ -104,12 +104,11 @@ def test_example_without_an_error(monkeypatch: pytest.MonkeyPatch) -> None:
 
 @pytest.mark.parametrize("name", errors.FILES)
 def test_damaged_file(name: str) -> None:
-    """The program and the reference find the error of the page in its damaged file, at the same byte offset."""
+    """The reference finds the same error, at the same byte offset, as the page says of the program."""
     entry = next(it for it in ENTRIES if (it.kind, it.name) == ("file", name))
+    offset = re.search(r"; at (\d+)\n$", entry.example)
     error = checks.error_of(model.read_file, errors.FILES[name][1], name == "Unused")
-    assert error and error[:2] == (entry.number, name)
-    status, line = errors.printed(errors.file_example(name))
-    assert (status, line) == (1, "hdt: fault {} {} at {}".format(*error))
+    assert offset and error == (entry.number, entry.name, int(offset[1]))
 
 
 def test_files_are_printed() -> None:
@@ -186,9 +185,7 @@ def test_shared_texts() -> None:
     "## Other messages\n\n### no triples (status 1)\n\nA.\n\n- Cause: B.\n- Example: `d`:\n  `e`\n",
     "## Other messages\n\n### no triples (status 1)\n\nA.\n",
     "## Errors of an N-Triples text\n\n### 1 Syntax\n\nA.\n\n- Cause: B.\n- Example: `d`:\n  `e`\n",
-    "## Errors of an HDT file\n\nA.\n\n- Cause: B.\n\n### 1 Truncated\n\nC.\n",
-    "## Errors of an HDT file\n\n- Cause: A.\n- Remedy: B.\n\n### 1 Truncated\n\nC.\n\n- Example: `d`:\n  `e`\n",
-    "## Errors of an HDT file\n\n- Cause: A.\n- Remedy: B.\n\n### 1 Truncated\n\nC.\n\n- Other: D.\n"])
+    "## Errors of an HDT file\n\nA.\n\n- Cause: B.\n\n### 1 Truncated\n\nC.\n\n- Example: d; at 1\n"])
 def test_entries_of_another_form(text: str) -> None:
     """A heading or an error of another form is refused."""
     with pytest.raises(ValueError, match="another form|without one of its parts"):

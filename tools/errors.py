@@ -7,10 +7,10 @@
 
 The page is the source of the texts. An error is a heading (`### 13 Width`), one paragraph of meaning, and a list of its
 cause, its remedy and its example; `entries` reads them. Before its first error a section may have a cause and a remedy,
-which are those of errors without one; a message has neither. The example alone is made here: a shell command, and the
-line that the program prints. Of an error of a file it is the damaged file, which is tried but is not on the page. The
-program is that of the folder HDT_BUILT, else the one that belongs to the sources (tools/current). The last line is 'N
-passed, M failed', the status 1 if one failed.
+which are those of errors without one; a message has neither. The example alone is made here: what is wrong with a file,
+and the offset of the error; or a shell command, and the line that the program prints. The program is that of the folder
+HDT_BUILT, else the one that belongs to the sources (tools/current). The last line is 'N passed, M failed', the status 1
+if one failed.
 """
 
 from __future__ import annotations
@@ -45,15 +45,12 @@ SECTIONS = {
     "Errors of an N-Triples text": "text",
     "Other messages": "message",
 }
-# (a part of a list goes on up to the next one)
-PART = r".*\n(?:(?!- ).+\n)*"
 ENTRY = re.compile(
-    r"### (?P<title>.*)\n\n(?P<meaning>(?:.+\n)+)"
-    rf"(?:\n(?:- Cause: (?P<cause>{PART}))?(?:- Remedy: (?P<remedy>{PART}))?(?:- Example:(?P<example>{PART}))?)?"
-    r"(?=\n#|\n?\Z)"
+    r"### (?P<title>.*)\n\n(?P<meaning>(?:.+\n)+)\n"
+    r"(?:- Cause: (?P<cause>(?:.+\n)+?))?(?:- Remedy: (?P<remedy>(?:.+\n)+?))?- Example:(?P<example>.*\n(?:.+\n)*)"
 )
 # The cause and the remedy of the errors of a section that have none of their own.
-SHARED = re.compile(rf"^- Cause: (?P<cause>{PART})- Remedy: (?P<remedy>{PART})", re.M)
+SHARED = re.compile(r"^- Cause: (?P<cause>(?:.+\n)+?)- Remedy: (?P<remedy>(?:.+\n)+)", re.M)
 
 
 def filled(text: str, title: str = "") -> str:
@@ -82,10 +79,9 @@ class Entry(NamedTuple):
     example: str
 
     def is_whole(self) -> bool:
-        """Whether there are a cause and a remedy, which a message lacks, and an example, which a file's error lacks."""
+        """Whether there are a cause and a remedy; a message has neither."""
         parts = (self.cause, self.remedy)
-        has_texts = not any(parts) if self.kind == "message" else all(parts)
-        return has_texts and bool(self.example) == (self.kind != "file")
+        return not any(parts) if self.kind == "message" else all(parts)
 
     def plain(self) -> tuple[str, str, str]:
         """Return meaning, cause and remedy without markup, in lines of at most COLUMNS columns."""
@@ -126,7 +122,7 @@ def rattle_module(kind: str, found: list[Entry]) -> str:
 
 
 class Example(NamedTuple):
-    """A shell command that gives an error, how it is described, and the file `bad.hdt` that it reads."""
+    """A shell command that gives an error, what the page says of it, and the file `bad.hdt` that it reads."""
 
     shown: str
     command: str
@@ -156,7 +152,7 @@ def entries(page: str) -> list[Entry]:
         for it in matches:
             number, name = numbered(kind, it["title"])
             cause, remedy = (joined(it[part] or shared.get(part, "")) for part in ("cause", "remedy"))
-            found.append(Entry(kind, number, name, joined(it["meaning"]), cause, remedy, it["example"] or ""))
+            found.append(Entry(kind, number, name, joined(it["meaning"]), cause, remedy, it["example"]))
         if len(matches) != len(re.findall(r"^### ", text, re.M)) or not all(map(Entry.is_whole, found)):
             raise ValueError(f"an error without one of its parts, in the section {title}")
     return found
@@ -446,14 +442,15 @@ def tried(entry: Entry) -> Tried:
     wanted_status, pattern = expected(entry)
     is_right = status == wanted_status and re.fullmatch(pattern, line)
     wrong = "" if is_right else f"the example ({it.shown}) ends with status {status} and prints: {line}"
+    offset = line.rpartition(" ")[2]
     output = "" if line == f"hdt: {entry.name}" else f":\n  `{line}`"
-    return Tried("" if entry.kind == "file" else f" {it.shown}{output}\n", wrong)
+    return Tried(f" {it.shown}; at {offset}\n" if entry.kind == "file" else f" {it.shown}{output}\n", wrong)
 
 
 def with_examples(page: str, examples: list[str]) -> str:
-    """Return the page with these examples, one for each of its errors; an empty one is not on it."""
+    """Return the page with these examples, one for each of its errors."""
     left = iter(examples)
-    return ENTRY.sub(lambda it: it[0].removesuffix(it["example"] or "") + next(left), page)
+    return ENTRY.sub(lambda it: it[0][: it.start("example") - it.start()] + next(left), page)
 
 
 def main() -> int:
