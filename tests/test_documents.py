@@ -30,7 +30,7 @@ BLOCKS = {
     "docs/C.md": {"c": 1, "sh": 1},
     "docs/GUIDE.md": {"python": 3, "sh": 5, "text": 7},
     "docs/PROBES.md": {"sh": 1},
-    "docs/PYTHON.md": {"python": 8},
+    "docs/PYTHON.md": {"python": 7},
     "docs/RATTLE.md": {"rust": 5, "text": 3},
     "docs/RUST.md": {"rs": 1, "toml": 1},
 }
@@ -39,8 +39,8 @@ COMMANDS = 54
 # Words that are not in the dictionary of British English. Names with capitals or digits are not looked up.
 WORDS = set("""
 Dask Jena Tickmarl allocator cgroup checksums cpp datatype endian enum glibc gunicorn hdt inode lossy mpi nginx ns
-nullable numpy ontologies prefetching prover py pytest rdflib seq serdi syntaxes toolchain txt umask unescaped untrusted
-utils xored
+nullable numpy ontologies prefetching prover py pytest rdflib seq serdi setuptools syntaxes toolchain txt umask
+unescaped untrusted utils xored
 """.split())
 # At least so many examples in Rust do the comments of the sources have.
 EXAMPLES = 36
@@ -348,7 +348,7 @@ def test_examples_in_comments() -> None:
 FUNCTION = re.compile(r"\[`([\w:]+)`\]\(\.\./(crates/\w+/src/\w+\.rt)\)((?:[:,] `\w+`)*)")
 DEFINED = re.compile(r"\[`(\w+)`\]\(\.\./(crates/\w+/specs/\w+\.antt)\)")
 # At least so many functions, clauses and definitions does it name.
-NAMED = (45, 84, 18)
+NAMED = (25, 47, 18)
 PROOFS = (TOP / "docs/PROOFS.md").read_text()
 
 

@@ -104,11 +104,12 @@ def test_example_without_an_error(monkeypatch: pytest.MonkeyPatch) -> None:
 
 @pytest.mark.parametrize("name", errors.FILES)
 def test_damaged_file(name: str) -> None:
-    """The reference finds the same error, at the same byte offset, as the page says of the program."""
+    """The program and the reference find the error of the page in its damaged file, at the same byte offset."""
     entry = next(it for it in ENTRIES if (it.kind, it.name) == ("file", name))
-    offset = re.search(r"; at (\d+)\n$", entry.example)
     error = checks.error_of(model.read_file, errors.FILES[name][1], name == "Unused")
-    assert offset and error == (entry.number, entry.name, int(offset[1]))
+    assert error and error[:2] == (entry.number, name)
+    status, line = errors.printed(errors.file_example(name))
+    assert (status, line) == (1, "hdt: fault {} {} at {}".format(*error))
 
 
 def test_files_are_printed() -> None:
@@ -163,16 +164,31 @@ def test_messages_of_the_program() -> None:
 
 @pytest.mark.parametrize("entry", ENTRIES, ids=lambda entry: f"{entry.kind}-{entry.name}")
 def test_texts_are_short(entry: errors.Entry) -> None:
-    """Meaning, cause and remedy are sentences without markup, which a terminal shows in three lines each."""
-    for text in entry.plain():
+    """Meaning, cause and remedy are sentences without markup, which a terminal shows in four lines each."""
+    for text in filter(None, entry.plain()):
         lines = text.splitlines()
         assert len(lines) <= errors.LINES and max(map(len, lines)) <= errors.COLUMNS
         assert text.endswith(".") and not set(text) & set("`[]*")
 
 
+def test_shared_texts() -> None:
+    """An error has its own cause and remedy, else those of its section; a message has none."""
+    found = {(it.kind, it.name): it for it in ENTRIES}
+    shared, own, part = (found["file", name] for name in ("Width", "Unused", "Truncated"))
+    assert shared.cause.startswith("The file is damaged, or") and shared.remedy.startswith("Download the file again.")
+    assert own.cause.startswith("Triples were removed") and own.remedy.startswith("`hdt rewrite FILE NEW`")
+    assert part.cause.startswith("An interrupted download") and part.remedy == shared.remedy
+    assert {(it.cause, it.remedy) for it in ENTRIES if it.kind == "message"} == {("", "")}
+
+
 @pytest.mark.parametrize("text", [
-    "## Other messages\n\n### no triples\n\nA.\n\n- Cause: B.\n- Remedy: C.\n- Example: `d`:\n  `e`\n",
-    "## Other messages\n\n### no triples (status 1)\n\nA.\n\n- Cause: B.\n- Example: `d`:\n  `e`\n"])
+    "## Other messages\n\n### no triples\n\nA.\n\n- Example: `d`:\n  `e`\n",
+    "## Other messages\n\n### no triples (status 1)\n\nA.\n\n- Cause: B.\n- Example: `d`:\n  `e`\n",
+    "## Other messages\n\n### no triples (status 1)\n\nA.\n",
+    "## Errors of an N-Triples text\n\n### 1 Syntax\n\nA.\n\n- Cause: B.\n- Example: `d`:\n  `e`\n",
+    "## Errors of an HDT file\n\nA.\n\n- Cause: B.\n\n### 1 Truncated\n\nC.\n",
+    "## Errors of an HDT file\n\n- Cause: A.\n- Remedy: B.\n\n### 1 Truncated\n\nC.\n\n- Example: `d`:\n  `e`\n",
+    "## Errors of an HDT file\n\n- Cause: A.\n- Remedy: B.\n\n### 1 Truncated\n\nC.\n\n- Other: D.\n"])
 def test_entries_of_another_form(text: str) -> None:
     """A heading or an error of another form is refused."""
     with pytest.raises(ValueError, match="another form|without one of its parts"):

@@ -6,10 +6,11 @@
     python3 -m tools.errors --rattle        write the texts of `hdt explain`, crates/hdt_usage/src/*_errors.rt
 
 The page is the source of the texts. An error is a heading (`### 13 Width`), one paragraph of meaning, and a list of its
-cause, its remedy and its example; `entries` reads them. The example alone is made here: what is wrong with a file, and
-the offset of the error; or a shell command, and the line that the program prints. The program is that of the folder
-HDT_BUILT, else the one that belongs to the sources (tools/current). The last line is 'N passed, M failed', the status 1
-if one failed.
+cause, its remedy and its example; `entries` reads them. Before its first error a section may have a cause and a remedy,
+which are those of errors without one; a message has neither. The example alone is made here: a shell command, and the
+line that the program prints. Of an error of a file it is the damaged file, which is tried but is not on the page. The
+program is that of the folder HDT_BUILT, else the one that belongs to the sources (tools/current). The last line is 'N
+passed, M failed', the status 1 if one failed.
 """
 
 from __future__ import annotations
@@ -44,10 +45,15 @@ SECTIONS = {
     "Errors of an N-Triples text": "text",
     "Other messages": "message",
 }
+# (a part of a list goes on up to the next one)
+PART = r".*\n(?:(?!- ).+\n)*"
 ENTRY = re.compile(
-    r"### (?P<title>.*)\n\n(?P<meaning>(?:.+\n)+)\n"
-    r"- Cause: (?P<cause>(?:.+\n)+?)- Remedy: (?P<remedy>(?:.+\n)+?)- Example:(?P<example>.*\n(?:.+\n)*)"
+    r"### (?P<title>.*)\n\n(?P<meaning>(?:.+\n)+)"
+    rf"(?:\n(?:- Cause: (?P<cause>{PART}))?(?:- Remedy: (?P<remedy>{PART}))?(?:- Example:(?P<example>{PART}))?)?"
+    r"(?=\n#|\n?\Z)"
 )
+# The cause and the remedy of the errors of a section that have none of their own.
+SHARED = re.compile(rf"^- Cause: (?P<cause>{PART})- Remedy: (?P<remedy>{PART})", re.M)
 
 
 def filled(text: str, title: str = "") -> str:
@@ -63,7 +69,8 @@ def filled(text: str, title: str = "") -> str:
 class Entry(NamedTuple):
     """An error of the page.
 
-    `number` and `name` are those of a reason; a message has an exit status and its text. In texts are no line ends.
+    `number` and `name` are those of a reason; a message has an exit status and its text, and no cause or remedy. Texts
+    have no line ends.
     """
 
     kind: str
@@ -73,6 +80,12 @@ class Entry(NamedTuple):
     cause: str
     remedy: str
     example: str
+
+    def is_whole(self) -> bool:
+        """Whether there are a cause and a remedy, which a message lacks, and an example, which a file's error lacks."""
+        parts = (self.cause, self.remedy)
+        has_texts = not any(parts) if self.kind == "message" else all(parts)
+        return has_texts and bool(self.example) == (self.kind != "file")
 
     def plain(self) -> tuple[str, str, str]:
         """Return meaning, cause and remedy without markup, in lines of at most COLUMNS columns."""
@@ -113,7 +126,7 @@ def rattle_module(kind: str, found: list[Entry]) -> str:
 
 
 class Example(NamedTuple):
-    """A shell command that gives an error, what the page says of it, and the file `bad.hdt` that it reads."""
+    """A shell command that gives an error, how it is described, and the file `bad.hdt` that it reads."""
 
     shown: str
     command: str
@@ -139,13 +152,20 @@ def entries(page: str) -> list[Entry]:
         if kind is None:
             continue
         matches = list(ENTRY.finditer(text))
-        if len(matches) != len(re.findall(r"^### ", text, re.M)):
-            raise ValueError(f"an error without one of its parts, in the section {title}")
+        shared = shared_texts(text)
         for it in matches:
             number, name = numbered(kind, it["title"])
-            meaning, cause, remedy = (joined(it[part]) for part in ("meaning", "cause", "remedy"))
-            found.append(Entry(kind, number, name, meaning, cause, remedy, it["example"]))
+            cause, remedy = (joined(it[part] or shared.get(part, "")) for part in ("cause", "remedy"))
+            found.append(Entry(kind, number, name, joined(it["meaning"]), cause, remedy, it["example"] or ""))
+        if len(matches) != len(re.findall(r"^### ", text, re.M)) or not all(map(Entry.is_whole, found)):
+            raise ValueError(f"an error without one of its parts, in the section {title}")
     return found
+
+
+def shared_texts(section: str) -> dict[str, str]:
+    """Return the cause and the remedy that a section has for its errors, before the first of them."""
+    found = SHARED.search(section.partition("### ")[0])
+    return found.groupdict() if found else {}
 
 
 def joined(text: str) -> str:
@@ -193,8 +213,9 @@ def man_page(found: list[Entry]) -> str:
         page += f".SH {title.upper()}\n"
         for it in (entry for entry in found if entry.kind == kind):
             heading = f"{it.name} (status {it.number})" if kind == "message" else f"{it.number} {it.name}"
-            meaning, cause, remedy = roff(it.meaning), roff(it.cause), roff(it.remedy)
-            page += f".TP\n.B {heading}\n{meaning}\n.br\nCause: {cause}\n.br\nRemedy: {remedy}\n"
+            parts = {"Cause": it.cause, "Remedy": it.remedy}
+            more = "".join(f".br\n{part}: {roff(text)}\n" for part, text in parts.items() if text)
+            page += f".TP\n.B {heading}\n{roff(it.meaning)}\n{more}"
     return page + MAN_TAIL
 
 
@@ -239,64 +260,64 @@ def section(count: int, packed: bytes, starts: list[int], block_size: int = 16) 
 FILES = {
     "Truncated": ("without its last byte", THREE[:-1]),
     "OverlongNumber": (
-        "with the number of shared strings, 2, written as `02 80` and not `82`",
+        "the number of shared strings as `02 80`, not `82`",
         having(shared=b"\x02\x02\x80" + PARTS["shared"][2:]),
     ),
     "NumberTooLarge": (
-        "with ten bytes `7F` for the number of shared strings",
+        "ten bytes `7F` for the number of shared strings",
         having(shared=b"\x02" + b"\x7f" * 10 + PARTS["shared"][2:]),
     ),
-    "NotHdt": ("after the three bytes of a UTF-8 byte order mark", b"\xef\xbb\xbf" + THREE),
+    "NotHdt": ("after a UTF-8 byte order mark", b"\xef\xbb\xbf" + THREE),
     "WrongKind": ("without its header", having(header=b"", body=b"")),
     "Check16": (
-        "with `order=2;` for `order=1;`, and the CRC-16 as it was",
+        "`order=2;` for `order=1;`, and the old CRC-16",
         having(triples=PARTS["triples"].replace(b"order=1", b"order=2")),
     ),
     "WrongFormat": (
-        "with the format `<http://purl.org/HDT/hdt#triplesList>` of its triples",
+        "the format `<http://purl.org/HDT/hdt#triplesList>` of its triples",
         having(triples=model.write_control(model.TRIPLES, b"order=1;", b"<http://purl.org/HDT/hdt#triplesList>")),
     ),
     "HeaderLength": ("without the property `length`", having(header=model.write_control(model.HEADER))),
-    "TripleOrder": ("with the property `order=4;`", having(triples=model.write_control(model.TRIPLES, b"order=4;"))),
-    "Check8": ("with 3 for the number of shared strings, and the CRC-8 as it was", changed("shared", 1, 0x83)),
-    "Check32": ("with the first shared string `u:a` changed to `v:a`", changed("shared", 14, ord("v"))),
-    "SequenceKind": ("with the type 2 of sequence Y", changed("numbers_y", 0, 2)),
-    "Width": ("with the width 65 of sequence Y", changed("numbers_y", 1, 65)),
-    "BitsKind": ("with the type 2 of bitmap Y", changed("bits_y", 0, 2)),
-    "SectionKind": ("with the type 3 of the shared section", changed("shared", 0, 3)),
-    "BlockSize": ("with the block size 0 of the shared section", section(2, b"u:a\0\x82b\0", [0, 7], 0)),
-    "BlockCount": ("with one block offset of the shared section, 0", section(2, b"u:a\0\x82b\0", [0])),
+    "TripleOrder": ("the property `order=4;`", having(triples=model.write_control(model.TRIPLES, b"order=4;"))),
+    "Check8": ("3 for the number of shared strings, and the old CRC-8", changed("shared", 1, 0x83)),
+    "Check32": ("`v:a` for the shared string `u:a`, and the old CRC-32C", changed("shared", 14, ord("v"))),
+    "SequenceKind": ("the type 2 of sequence Y", changed("numbers_y", 0, 2)),
+    "Width": ("the width 65 of sequence Y", changed("numbers_y", 1, 65)),
+    "BitsKind": ("the type 2 of bitmap Y", changed("bits_y", 0, 2)),
+    "SectionKind": ("the type 3 of the shared section", changed("shared", 0, 3)),
+    "BlockSize": ("the block size 0 of the shared section", section(2, b"u:a\0\x82b\0", [0, 7], 0)),
+    "BlockCount": ("one block offset of the shared section, 0", section(2, b"u:a\0\x82b\0", [0])),
     "BlockPlace": (
-        "with the block offsets 0 and 8 of the shared section, and not 0 and 7",
+        "the block offsets 0 and 8 of the shared section, not 0 and 7",
         section(2, b"u:a\0\x82b\0", [0, 8]),
     ),
     "PrefixTooLong": (
-        "with a second shared string that shares 4 bytes with `u:a`",
+        "a second shared string that shares 4 bytes with `u:a`",
         section(2, b"u:a\0\x84b\0", [0, 7]),
     ),
-    "PackedLength": ("with an extra zero byte after the shared strings", section(2, b"u:a\0\x82b\0\0", [0, 8])),
-    "NotUtf8": ("with the byte `E9` at the end of the second shared string", section(2, b"u:a\0\x82\xe9\0", [0, 7])),
-    "StringsNotAscending": ("with the shared strings `u:a` and `u:B`", section(2, b"u:a\0\x82B\0", [0, 7])),
+    "PackedLength": ("an extra zero byte after the shared strings", section(2, b"u:a\0\x82b\0\0", [0, 8])),
+    "NotUtf8": ("the byte `E9` at the end of the second shared string", section(2, b"u:a\0\x82\xe9\0", [0, 7])),
+    "StringsNotAscending": ("the shared strings `u:a` and `u:B`", section(2, b"u:a\0\x82B\0", [0, 7])),
     "SectionsOverlap": (
-        "with the shared string `u:a` among the objects, too",
+        "the shared string `u:a` among the objects, too",
         having(objects=model.write_section([b'"x"', b"u:a"])),
     ),
-    "NoTriples": ("with an empty bitmap Y", having(bits_y=model.write_bits([]))),
+    "NoTriples": ("an empty bitmap Y", having(bits_y=model.write_bits([]))),
     "LengthsDiffer": (
-        "with the predicates 1, 2 in sequence Y, and not 1, 2, 1",
+        "the predicates 1, 2 in sequence Y, not 1, 2, 1",
         having(numbers_y=model.write_numbers([1, 2])),
     ),
-    "LastMark": ("with the bits 0, 1, 0 in bitmap Y, and not 0, 1, 1", having(bits_y=model.write_bits([0, 1, 0]))),
-    "MarkCount": ("with the bits 0, 1, 1 in bitmap Z, and not 1, 1, 1", having(bits_z=model.write_bits([0, 1, 1]))),
-    "SubjectRange": ("with the bits 1, 1, 1 in bitmap Y: three subjects", having(bits_y=model.write_bits([1, 1, 1]))),
-    "PredicateRange": ("with the predicates 0, 1, 0 in sequence Y", having(numbers_y=model.write_numbers([0, 1, 0]))),
-    "ObjectRange": ("with the objects 2, 4, 1 in sequence Z", having(numbers_z=model.write_numbers([2, 4, 1]))),
+    "LastMark": ("the bits 0, 1, 0 in bitmap Y, not 0, 1, 1", having(bits_y=model.write_bits([0, 1, 0]))),
+    "MarkCount": ("the bits 0, 1, 1 in bitmap Z, not 1, 1, 1", having(bits_z=model.write_bits([0, 1, 1]))),
+    "SubjectRange": ("the bits 1, 1, 1 in bitmap Y: three subjects", having(bits_y=model.write_bits([1, 1, 1]))),
+    "PredicateRange": ("the predicates 0, 1, 0 in sequence Y", having(numbers_y=model.write_numbers([0, 1, 0]))),
+    "ObjectRange": ("the objects 2, 4, 1 in sequence Z", having(numbers_z=model.write_numbers([2, 4, 1]))),
     "PredicatesNotAscending": (
-        "with the predicates 2, 1, 1 in sequence Y",
+        "the predicates 2, 1, 1 in sequence Y",
         having(numbers_y=model.write_numbers([2, 1, 1])),
     ),
     "ObjectsNotAscending": (
-        "with the objects 3, 2, both of the first subject and predicate",
+        "the objects 3, 2, both of the first subject and predicate",
         having(
             bits_y=model.write_bits([1, 1]),
             bits_z=model.write_bits([0, 1, 1]),
@@ -305,7 +326,7 @@ FILES = {
         ),
     ),
     "TrailingBytes": ("followed by a line feed", THREE + b"\n"),
-    "Unused": ('with a second object `"y"`, and `--tight`', having(objects=model.write_section([b'"x"', b'"y"']))),
+    "Unused": ('a second object `"y"`, and `--tight`', having(objects=model.write_section([b'"x"', b'"y"']))),
 }
 
 # A file with an object that has no form in N-Triples.
@@ -424,16 +445,15 @@ def tried(entry: Entry) -> Tried:
     status, line = printed(it)
     wanted_status, pattern = expected(entry)
     is_right = status == wanted_status and re.fullmatch(pattern, line)
-    wrong = "" if is_right else f"the example ends with status {status} and prints: {line}"
-    offset = line.rpartition(" ")[2]
-    shown = f" {it.shown}; at {offset}\n" if entry.kind == "file" else f" {it.shown}:\n  `{line}`\n"
-    return Tried(shown, wrong)
+    wrong = "" if is_right else f"the example ({it.shown}) ends with status {status} and prints: {line}"
+    output = "" if line == f"hdt: {entry.name}" else f":\n  `{line}`"
+    return Tried("" if entry.kind == "file" else f" {it.shown}{output}\n", wrong)
 
 
 def with_examples(page: str, examples: list[str]) -> str:
-    """Return the page with these examples, one for each of its errors."""
+    """Return the page with these examples, one for each of its errors; an empty one is not on it."""
     left = iter(examples)
-    return ENTRY.sub(lambda it: it[0][: it.start("example") - it.start()] + next(left), page)
+    return ENTRY.sub(lambda it: it[0].removesuffix(it["example"] or "") + next(left), page)
 
 
 def main() -> int:

@@ -7,184 +7,191 @@ pub const FILE_ERRORS: &[Explanation] = &[
     (
         "1",
         "Truncated",
-        "The file ends before or within the item that begins at the offset.",
-        "A download or copy that was interrupted, or a full disk. Rarely, the
-length of an item is stored too large.",
-        "Compare the size of the file with that of the original, and fetch it
-again. If they are equal, build the file again.",
+        "The file ends before the item at the offset is complete.",
+        "An interrupted download or copy, or a full disk.",
+        "Download the file again. If the error stays, build it again, from its
+source or from N-Triples of another program.",
     ),
     (
         "2",
         "OverlongNumber",
         "A VByte number has more bytes than it needs: its last digit is 0.",
-        "The program that wrote it pads its numbers to a fixed length, or the
-file is damaged.",
-        "Fetch the file again, or build it again.",
+        "The file is damaged, or the program that wrote it has a defect or uses
+another encoding.",
+        "Download the file again. If the error stays, build it again, from its
+source or from N-Triples of another program.",
     ),
     (
         "3",
         "NumberTooLarge",
-        "A VByte number is 2^64 or greater, or has no last byte among its first ten.",
-        "The file is damaged, or the program that wrote it sets the top bit of
-all bytes but the last, as LEB128 does. In HDT the last byte alone has it set.",
-        "Fetch the file again, or build it again.",
+        "A VByte number is 2^64 or greater, or its first ten bytes do not end it.",
+        "The program that wrote the file sets the top bit of all bytes but the
+last, as LEB128 does, or the file is damaged.",
+        "Download the file again. If the error stays, build it again, from its
+source or from N-Triples of another program.",
     ),
     (
         "4",
         "NotHdt",
         "Control information does not begin with the four bytes $HDT.",
-        "At offset 0, the input is no HDT file: it is compressed, N-Triples, or
-an HTML page. At a greater offset, the header was edited, and its property
-length was not.",
+        "At offset 0, the input is compressed, N-Triples or a web page. At a
+greater offset, the header was edited, but not its property length.",
         "Decompress the file (zcat FILE | hdt verify -), or build one from
-N-Triples. Do not edit the header of a file by hand.",
+N-Triples. Do not edit a header by hand.",
     ),
     (
         "5",
         "WrongKind",
-        "Control information has another type than its place needs: 1 global, 2 header,
-3 dictionary, 4 triples.",
-        "The input is an index file that another program made beside the HDT
-file, or a part is missing.",
-        "Give the HDT file itself. hdt needs no index file.",
+        "Control information has another type than is expected here: 1 global, 2
+header, 3 dictionary, 4 triples.",
+        "The input is another program's index file, or a part is missing.",
+        "Use the HDT file itself. hdt needs no index file.",
     ),
     (
         "6",
         "Check16",
         "The CRC-16 of control information does not match its bytes.",
-        "The format or the properties were edited by hand, or the file is
-damaged, for example by a transfer that converts line ends.",
-        "Fetch the file again, as binary data. Do not edit properties by hand:
-a changed property needs a new CRC.",
+        "Properties were edited by hand, or a transfer has converted line ends.",
+        "Download the file again. If the error stays, build it again, from its
+source or from N-Triples of another program.",
     ),
     (
         "7",
         "WrongFormat",
-        "The format of a part is not supported: four sections of strings, and bitmap
-triples, are.",
+        "The format of a part is not supported. hdt reads dictionaries of four
+sections, and bitmap triples.",
         "The file has quads, another kind of dictionary, or triples as a list.",
-        "Export N-Triples with the program that wrote the file, and build from
-these.",
+        "Download the file again. If the error stays, build it again, from its
+source or from N-Triples of another program.",
     ),
     (
         "8",
         "HeaderLength",
-        "The header has no property length, or its value is no decimal number below
+        "The header's property length is missing, or is not a decimal number below
 2^64.",
-        "The program that wrote it left it out, or the property was edited.",
-        "Build the file again.",
+        "The file is damaged, or the program that wrote it has a defect or uses
+another encoding.",
+        "Download the file again. If the error stays, build it again, from its
+source or from N-Triples of another program.",
     ),
     (
         "9",
         "TripleOrder",
         "The property order of the triples is not 1, which is the order subject,
 predicate, object.",
-        "The triples are stored in another order, or the property is missing.",
-        "Export N-Triples with the program that wrote the file, and build from
-these.",
+        "The file is damaged, or the program that wrote it has a defect or uses
+another encoding.",
+        "Download the file again. If the error stays, build it again, from its
+source or from N-Triples of another program.",
     ),
     (
         "10",
         "Check8",
         "The CRC-8 of the type and the lengths of a section, a log sequence or a bitmap
 does not match.",
-        "The file is damaged, or the program that wrote it computes the CRC
-wrongly.",
-        "Compare the checksum of the file with that of the original, and fetch
-it again. If they are equal, build the file again.",
+        "The file is damaged, or the program that wrote it has a defect or uses
+another encoding.",
+        "Download the file again. If the error stays, build it again, from its
+source or from N-Triples of another program.",
     ),
     (
         "11",
         "Check32",
         "The CRC-32C of the strings of a section, or of the data of a log sequence or a
 bitmap, does not match.",
-        "The file is damaged, or the program that wrote it computes the CRC
-wrongly.",
-        "Compare the checksum of the file with that of the original, and fetch
-it again. If they are equal, build the file again.",
+        "The file is damaged, or the program that wrote it has a defect or uses
+another encoding.",
+        "Download the file again. If the error stays, build it again, from its
+source or from N-Triples of another program.",
     ),
     (
         "12",
         "SequenceKind",
-        "The type byte of a log sequence is not 1.",
-        "The program that wrote it stores integers in another encoding, such as
-32 bits each, or the file is damaged.",
-        "Fetch the file again. If it is as its author made it, export
-N-Triples, and build from these.",
+        "The type of a log sequence is not 1.",
+        "The file is damaged, or the program that wrote it has a defect or uses
+another encoding.",
+        "Download the file again. If the error stays, build it again, from its
+source or from N-Triples of another program.",
     ),
     (
         "13",
         "Width",
         "A log sequence has entries of more than 64 bits.",
-        "The file is damaged, or the program that wrote it has a defect.",
-        "Fetch the file again, or build it again.",
+        "The file is damaged, or the program that wrote it has a defect or uses
+another encoding.",
+        "Download the file again. If the error stays, build it again, from its
+source or from N-Triples of another program.",
     ),
     (
         "14",
         "BitsKind",
-        "The type byte of a bitmap is not 1.",
-        "The program that wrote it stores bitmaps in another encoding, such as a
-compressed one, or the file is damaged.",
-        "Fetch the file again. If it is as its author made it, export
-N-Triples, and build from these.",
+        "The type of a bitmap is not 1.",
+        "The file is damaged, or the program that wrote it has a defect or uses
+another encoding.",
+        "Download the file again. If the error stays, build it again, from its
+source or from N-Triples of another program.",
     ),
     (
         "15",
         "SectionKind",
-        "The type byte of a dictionary section is not 2, which is plain front coding.",
-        "The program that wrote it compresses the strings in another way, or the
-file is damaged.",
-        "Fetch the file again. If it is as its author made it, export
-N-Triples, and build from these.",
+        "The type of a dictionary section is not 2, which is plain front coding.",
+        "The file is damaged, or the program that wrote it has a defect or uses
+another encoding.",
+        "Download the file again. If the error stays, build it again, from its
+source or from N-Triples of another program.",
     ),
     (
         "16",
         "BlockSize",
         "A section that has strings has the block size 0.",
-        "The program that wrote it has a defect: the CRC of the number is right.",
-        "Build the file again.",
+        "The file is damaged, or the program that wrote it has a defect or uses
+another encoding.",
+        "Download the file again. If the error stays, build it again, from its
+source or from N-Triples of another program.",
     ),
     (
         "17",
         "BlockCount",
         "A section does not have one block offset for each block, and one more for the
-end of the last.",
-        "The program that wrote it leaves the last offset out, or counts its
-blocks wrongly.",
-        "Build the file again.",
+end of the last block.",
+        "The file is damaged, or the program that wrote it has a defect or uses
+another encoding.",
+        "Download the file again. If the error stays, build it again, from its
+source or from N-Triples of another program.",
     ),
     (
         "18",
         "BlockPlace",
-        "A block offset of a section is not where its block begins, or the last one is
-not where the strings end.",
-        "The program that wrote it computes the offsets wrongly, or copied those
-of other strings.",
-        "Build the file again.",
+        "A block offset is not where its block begins, or the last one is not where the
+strings end.",
+        "The file is damaged, or the program that wrote it has a defect or uses
+another encoding.",
+        "Download the file again. If the error stays, build it again, from its
+source or from N-Triples of another program.",
     ),
     (
         "19",
         "PrefixTooLong",
         "A string shares more bytes with the string before than that has.",
-        "The program that wrote it computes prefixes over another string than
-the one before.",
-        "Build the file again.",
+        "The file is damaged, or the program that wrote it has a defect or uses
+another encoding.",
+        "Download the file again. If the error stays, build it again, from its
+source or from N-Triples of another program.",
     ),
     (
         "20",
         "PackedLength",
-        "The front-coded strings of a section do not end exactly where their stored
-length says.",
-        "The program that wrote it counts strings or bytes wrongly, or does not
-end each string with a zero byte.",
-        "Build the file again.",
+        "The strings of a section do not end where its stored length says.",
+        "The file is damaged, or the program that wrote it has a defect or uses
+another encoding.",
+        "Download the file again. If the error stays, build it again, from its
+source or from N-Triples of another program.",
     ),
     (
         "21",
         "NotUtf8",
         "A string of the dictionary is not UTF-8. The offset is that of the string.",
-        "The source was in another encoding, such as Latin-1, and the program
-that built the file did not check it.",
+        "The source was in another encoding, such as Latin-1.",
         "Convert the source (iconv -f LATIN1 -t UTF-8 IN > OUT), and build the
 file again.",
     ),
@@ -193,96 +200,100 @@ file again.",
         "StringsNotAscending",
         "A string of a section is not greater than the string before, compared by
 unsigned bytes.",
-        "The program that wrote it sorts strings in another order, such as that
-of UTF-16 or of a language, or keeps duplicates.",
-        "Export N-Triples with the program that wrote the file, and build from
-these.",
+        "The program that wrote the file sorts strings in another order, such as
+that of UTF-16, or keeps duplicates.",
+        "Download the file again. If the error stays, build it again, from its
+source or from N-Triples of another program.",
     ),
     (
         "23",
         "SectionsOverlap",
         "A string is in two of the sections shared, subjects and objects. The offset is
 that of the second one.",
-        "The program that wrote it does not move strings that are subject and
-object to the shared section.",
-        "Export N-Triples with the program that wrote the file, and build from
-these.",
+        "The program that wrote the file does not move such strings to the
+shared section.",
+        "Download the file again. If the error stays, build it again, from its
+source or from N-Triples of another program.",
     ),
     (
         "24",
         "NoTriples",
         "A bitmap of the triples is empty: the file has no triples.",
-        "The file was built from an empty document, for example after a
-conversion that failed.",
-        "Build it from a document with triples: a graph without triples has no
-file here.",
+        "The file was built from an empty document.",
+        "Build from a document with triples: no valid file has none.",
     ),
     (
         "25",
         "LengthsDiffer",
         "A bitmap and its log sequence have different lengths.",
-        "The program that wrote it has a defect, or the sequences are those of
-two files.",
-        "Build the file again.",
+        "The file is damaged, or the program that wrote it has a defect or uses
+another encoding.",
+        "Download the file again. If the error stays, build it again, from its
+source or from N-Triples of another program.",
     ),
     (
         "26",
         "LastMark",
         "The last bit of a bitmap of the triples is 0, so its last list does not end.",
-        "The program that wrote it sets bits where lists begin, not where they
-end, or lost the last triples.",
-        "Build the file again.",
+        "The program that wrote the file sets bits where lists begin, not where
+they end.",
+        "Download the file again. If the error stays, build it again, from its
+source or from N-Triples of another program.",
     ),
     (
         "27",
         "MarkCount",
         "Bitmap Z does not have one 1-bit for each pair of a subject and a predicate.",
-        "The program that wrote it has a defect, or stores the two bitmaps in
-the wrong order.",
-        "Build the file again.",
+        "The file is damaged, or the program that wrote it has a defect or uses
+another encoding.",
+        "Download the file again. If the error stays, build it again, from its
+source or from N-Triples of another program.",
     ),
     (
         "28",
         "SubjectRange",
         "The triples have more subjects than the dictionary.",
-        "The dictionary and the triples belong to two files, or 1-bits of bitmap
-Y are wrong.",
-        "Build the file again.",
+        "The dictionary and the triples belong to two files, or bitmap Y is
+wrong.",
+        "Download the file again. If the error stays, build it again, from its
+source or from N-Triples of another program.",
     ),
     (
         "29",
         "PredicateRange",
         "A predicate ID is 0 or greater than the number of predicates.",
-        "The program that wrote it counts IDs from 0, or the dictionary and the
-triples belong to two files.",
-        "Build the file again.",
+        "The program that wrote the file counts IDs from 0.",
+        "Download the file again. If the error stays, build it again, from its
+source or from N-Triples of another program.",
     ),
     (
         "30",
         "ObjectRange",
-        "An object ID is 0 or greater than the number of objects, the shared strings
+        "An object ID is 0 or greater than the number of objects, shared strings
 included.",
-        "The program that wrote it counts IDs from 0, or counts objects without
-the shared strings.",
-        "Build the file again.",
+        "The program that wrote the file counts IDs from 0, or without the
+shared strings.",
+        "Download the file again. If the error stays, build it again, from its
+source or from N-Triples of another program.",
     ),
     (
         "31",
         "PredicatesNotAscending",
         "A predicate ID is not greater than the one before of the same subject.",
-        "The program that wrote it did not sort the triples.",
-        "Export N-Triples with the program that wrote the file, and build from
-these.",
+        "The file is damaged, or the program that wrote it has a defect or uses
+another encoding.",
+        "Download the file again. If the error stays, build it again, from its
+source or from N-Triples of another program.",
     ),
     (
         "32",
         "ObjectsNotAscending",
         "An object ID is not greater than the one before of the same subject and
 predicate.",
-        "The program that wrote it did not sort the triples, or stored a triple
-twice.",
-        "Export N-Triples with the program that wrote the file, and build from
-these.",
+        "The file is damaged, or the program that wrote it has a defect or uses
+another encoding.",
+        "Download the file again. If the error stays, build it again, from its
+source or from N-Triples of another program.",
     ),
     (
         "33",

@@ -9,17 +9,16 @@ pub const TEXT_ERRORS: &[Explanation] = &[
         "Syntax",
         "The line is not N-Triples: the byte at this column is not allowed there, or
 the line ends too soon (the column is then one past its end).",
-        "At the end of the line: no dot, or a string without its closing quote.
-Where a term begins: Turtle (@prefix, ex:a, 5), or a literal as subject or
-predicate. Within an IRI: a space, or no >. After the object: ;, or a graph,
-as in N-Quads.",
+        "A string without its closing quote; no dot at the end; a literal as
+subject or predicate; a space in an IRI, or no >; or Turtle (@prefix, ex:a, 5)
+or N-Quads.",
         "Correct the line at that column; a space in an IRI is %20. Convert
 Turtle: serdi -i turtle -o ntriples IN > OUT.",
     ),
     (
         "2",
         "NotUtf8",
-        "The line is not UTF-8. The column is that of the first byte that is not.",
+        "The line is not UTF-8. The column is that of the first wrong byte.",
         "The document is in another encoding, such as Latin-1 or UTF-16.",
         "Convert it: iconv -f LATIN1 -t UTF-8 IN > OUT.",
     ),
@@ -28,8 +27,8 @@ Turtle: serdi -i turtle -o ntriples IN > OUT.",
         "BadEscape",
         "A backslash begins no escape that is allowed here, or the escape is that of no
 character.",
-        "A single backslash, as in a Windows path; a character above U+FFFF as
-two surrogates, as JSON has it; in an IRI, an escape other than \\u and \\U.",
+        "A single backslash, as in a Windows path; two surrogates for a
+character above U+FFFF, as in JSON; in an IRI, an escape other than \\u and \\U.",
         "Write a backslash as \\\\, and a character above U+FFFF as itself or by
 \\U and eight digits.",
     ),
@@ -52,8 +51,8 @@ two surrogates, as JSON has it; in an IRI, an escape other than \\u and \\U.",
         "ZeroCharacter",
         "A string has the character U+0000, as itself or as an escape.",
         "Binary data, or text with an end mark of C, was exported as a literal.",
-        "Remove the character. HDT ends each string with a zero byte, so no
-file can have it.",
+        "Remove the character. No HDT file can have it, as a zero byte ends
+each string.",
     ),
     (
         "7",
@@ -80,7 +79,7 @@ smaller files.",
         "The text is longer than the limit that was given. Of hdt answer: a request is
 longer than --longest-request.",
         "A long literal in a request, or a client that sends no line ends.",
-        "Raise the limit with --longest-request N, in bytes; without the option
-it is 1048576.",
+        "Raise the limit: --longest-request N, in bytes. It is 1048576 without
+the option.",
     ),
 ];
