@@ -28,7 +28,7 @@ _hdt() {
     string) options="--verbose --no-progress --help" arguments=".hdt subject|predicate|object |" ;;
     number) options="--verbose --no-progress --raw --help" arguments=".hdt subject|predicate|object |" ;;
     find) options="--verbose --no-progress --raw --numbers --count --quiet --skip-non-terms --most --help" arguments=".hdt | | |" ;;
-    answer) options="--verbose --no-progress --raw --numbers --count --most --longest-request --help" arguments=".hdt" ;;
+    answer) options="--verbose --no-progress --raw --numbers --count --skip-non-terms --most --longest-request --help" arguments=".hdt" ;;
     dump) options="--verbose --no-progress --skip-non-terms --help" arguments=".hdt" ;;
     count) options="--verbose --no-progress --top --raw --help" arguments=".hdt subject|predicate|object" ;;
     build) options="--verbose --no-progress --base --block-size --progress --help" arguments=".nt .hdt" ;;

@@ -92,6 +92,7 @@ complete -c hdt -n '__hdt_command answer' -l no-progress -d 'Show no progress on
 complete -c hdt -n '__hdt_command answer' -l raw -d 'Take the terms of requests as dictionary strings'
 complete -c hdt -n '__hdt_command answer' -l numbers -d 'Print the IDs of each triple'
 complete -c hdt -n '__hdt_command answer' -l count -d 'Print the number of matching triples only'
+complete -c hdt -n '__hdt_command answer' -l skip-non-terms -d 'Leave out triples with a string that is not a term'
 complete -c hdt -n '__hdt_command answer' -l most -x -d 'Stop after N triples'
 complete -c hdt -n '__hdt_command answer' -l longest-request -x -d 'Reject request lines of more than N bytes'
 complete -c hdt -n '__hdt_command answer' -l help -s h -d 'Print help'

@@ -393,7 +393,7 @@ def answered(probe: Probe, step: int, fails: int | str, taken: int, calls: int |
 @pytest.mark.parametrize("step", [1, 2, 5, 7, 9, 50, 200, ALL])
 def test_any_pieces(probe: Probe, step: int) -> None:
     """Requests and answers in pieces of any size; nothing is read past the end."""
-    assert answered(probe, step, "-", step, "-") == ("ok", "true", ANSWERS.hex())
+    assert answered(probe, step, "-", step, "-") == ("ok", "true", "0", ANSWERS.hex())
     assert probe.ask("reads")[3:5] == ("0", "0")
 
 
@@ -417,8 +417,8 @@ def test_equal_requests(probe: Probe) -> None:
     data = THREE.read_bytes()
     terms = probe.on(data, "answer_requests", LINES_FORM, "-", 0, LONGEST, ALL, "-", ALL, "-", b"? ? <u:b>\n" * 1_000)
     strings = probe.on(data, "answer_requests", IDS_FORM, 1, 1, LONGEST, ALL, "-", ALL, "-", b"u:a\t?\t?\n" * 1_000)
-    assert terms == ("ok", "false", ((FIRST + b"\n") * 1_000).hex())
-    assert strings == ("ok", "false", (b"1 1 2\n\n" * 1_000).hex())
+    assert terms == ("ok", "false", "0", ((FIRST + b"\n") * 1_000).hex())
+    assert strings == ("ok", "false", "0", (b"1 1 2\n\n" * 1_000).hex())
 
 
 # ---- any requests
@@ -570,7 +570,7 @@ def test_any_reader_and_writer(probe: Probe, triples: list[Triple], given_lines:
         return graph.results(asked, most)[form]
 
     answers, is_error, fails_first = answers_to(requests, raw, find, fails, longest)
-    wanted: tuple[str, ...] = ("ok", str(is_error).lower(), answers.hex())
+    wanted: tuple[str, ...] = ("ok", str(is_error).lower(), "0", answers.hex())
     if limit is not None and limit < len(answers):
         wanted = ("written", str(limit), answers[:limit].hex())
     elif fails_first:

@@ -607,9 +607,11 @@ REQUESTS: list[tuple[str, str]] = [
     ("info --json a.hdt", f"{A} none info true"),
     ("count a.hdt subject", f"{A} none count 0 none 0"),
     ("count --raw a.hdt object --top=18446744073709551615", f"{A} none count 2 18446744073709551615 1"),
-    ("answer a.hdt", f"{A} none answer 0 none 0 1048576"),
-    ("answer --raw --numbers --most 7 a.hdt", f"{A} none answer 1 7 1 1048576"),
-    ("answer --count --numbers --longest-request 4294967295 a.hdt", f"{A} none answer 2 none 0 4294967295"),
+    ("answer a.hdt", f"{A} none answer 0 none 0 1048576 false"),
+    ("answer --raw --numbers --most 7 a.hdt", f"{A} none answer 1 7 1 1048576 false"),
+    ("answer --count --numbers --longest-request 4294967295 a.hdt", f"{A} none answer 2 none 0 4294967295 false"),
+    ("answer --skip-non-terms a.hdt", f"{A} none answer 0 none 0 1048576 true"),
+    ("answer a.hdt --skip-non-terms --count --most 0", f"{A} none answer 2 0 0 1048576 true"),
 ]
 
 

@@ -160,6 +160,8 @@ DIALOGUES: dict[str, list[Word]] = {
     "count": ["answer", "--count", THREE],
     "raw": ["answer", "--raw", THREE],
     "most": ["answer", "--most", "1", THREE],
+    "skip": ["answer", "--skip-non-terms", THREE],
+    "skip and count": ["answer", "--skip-non-terms", "--count", THREE],
 }
 
 

@@ -1,4 +1,4 @@
-"""`--skip-non-terms` of `find` and `dump`, and `verify --terms`: triples and strings that have no form in N-Triples."""
+"""`--skip-non-terms` of `find`, `dump` and `answer`, and `verify --terms`: what has no form in N-Triples."""
 
 from __future__ import annotations
 
@@ -10,7 +10,7 @@ from hypothesis import strategies as st
 
 from reference import hdt as reference
 from reference import ntriples
-from support.program import Result, Word, done, fault, hdt
+from support.program import WRITING_FAILED, Result, Word, done, fault, hdt, hdt_into
 from support.search import THREE, Pattern, Triple, chosen, is_term_of, matches, not_a_term_past_16_bits, spelled
 
 # One triple has a line, one an object that is no term, one a literal as subject, one a predicate that is no IRI.
@@ -74,6 +74,32 @@ def check_dump(path: Path, triples: list[Triple]) -> None:
     assert hdt("dump", "--skip-non-terms", path) == hdt("dump", path, "--skip-non-terms") == wanted
 
 
+def raw_request(pattern: Pattern) -> bytes:
+    """A request of strings for a pattern."""
+    return b"\t".join(b"?" if string is None else string for string in pattern)
+
+
+def check_answer(path: Path, triples: list[Triple], patterns: list[Pattern], most: int | None) -> None:
+    """Compare `answer --skip-non-terms`, with and without `--count` and `--numbers`, with a filter of all triples."""
+    data, _, ordered = reference.graph(triples)
+    path.write_bytes(data)
+    requests = [raw_request(pattern) for pattern in patterns]
+    # (three empty strings are a blank line)
+    found = [kept([triple for triple in ordered if matches(pattern, triple)], most)
+             for pattern, line in zip(patterns, requests) if ntriples.parse_raw_request(line) is not None]
+    lines = b"".join(b"".join(map(ntriples.put_strings, one)) + b"\n" for one, _ in found)
+    counts = b"".join(b"%d\n\n" % len(one) for one, _ in found)
+    skipped = sum(count for _, count in found)
+    limit: list[Word] = [] if most is None else ["--most", str(most)]
+    words: list[Word] = [path, "--raw", *limit]
+    asked = b"".join(line + b"\n" for line in requests)
+    assert hdt("answer", "--skip-non-terms", *words, stdin=asked) == reported(lines, "triples skipped", skipped)
+    assert (hdt("answer", *words, "--count", "--skip-non-terms", stdin=asked)
+            == reported(counts, "triples skipped", skipped))
+    assert (hdt("answer", *words, "--numbers", "--skip-non-terms", stdin=asked)
+            == hdt("answer", *words, "--numbers", stdin=asked))
+
+
 def verdict(data: bytes) -> Result:
     """The result of `verify --terms`."""
     file = reference.read_file(data)
@@ -99,10 +125,13 @@ def test_graphs(tmp_path: Path, triples: list[Triple]) -> None:
     check_dump(tmp_path / "g.hdt", triples)
     check_verify(tmp_path / "g.hdt", reference.graph(triples)[0])
     for most in (None, 0, 1, 2, 5):
+        patterns: list[Pattern] = []
         for triple in triples:
             for mask in range(8):
                 s, p, o = (string if mask >> role & 1 else None for role, string in enumerate(triple))
                 check_find(tmp_path / "g.hdt", triples, (s, p, o), most)
+                patterns.append((s, p, o))
+        check_answer(tmp_path / "g.hdt", triples, patterns, most)
 
 
 @any_path
@@ -111,6 +140,15 @@ def test_graphs(tmp_path: Path, triples: list[Triple]) -> None:
 def test_any_find(tmp_path: Path, triples: list[Triple], choice: tuple[int | None, ...], most: int | None) -> None:
     """Any pattern and limit."""
     check_find(tmp_path / "any.hdt", triples, chosen(triples, choice), most)
+
+
+@any_path
+@given(st.lists(triples_of_strings, min_size=1, max_size=20, unique=True), st.lists(choices, max_size=6), mosts)
+@example(FOUR, [(None, None, None), (0, None, None), (2, None, None)], None)
+def test_any_answers(tmp_path: Path, triples: list[Triple], asked: list[tuple[int | None, ...]],
+                     most: int | None) -> None:
+    """Any requests and limit: the number is that of all answers."""
+    check_answer(tmp_path / "any.hdt", triples, [chosen(triples, choice) for choice in asked], most)
 
 
 @any_path
@@ -130,6 +168,57 @@ def test_terms(tmp_path: Path) -> None:
     assert hdt("find", "--skip-non-terms", path, "<u:none>", "?", "?") == done()
 
 
+# Requests over the four triples, and the result with `--skip-non-terms` and without it.
+FIRST = b"<u:s> <u:p> <u:o> .\n\n"
+ERROR = b"# line 2 column 1: 1 Syntax\n\n"
+REQUESTS: dict[str, tuple[bytes, Result, Result]] = {
+    "none": (b"", done(), done()),
+    "none skipped": (b"<u:s> <u:p> ?\n<u:none> ? ?\n", done(FIRST + b"\n"), done(FIRST + b"\n")),
+    "one skipped": (b"<u:s> ? ?\n", reported(FIRST, "triples skipped", 1),
+                    Result(1, b"# object 2 is not a term\n\n", b"")),
+    "an invalid request, none skipped": (b"<u:s> <u:p> ?\nx\n", Result(1, FIRST + ERROR, b""),
+                                         Result(1, FIRST + ERROR, b"")),
+    "an invalid request between others": (b"<u:s> ? ?\nx\n\n? <u:q> ?\n? ? <u:o>\n",
+                                          reported(FIRST + ERROR + b"\n" + FIRST, "triples skipped", 3),
+                                          Result(1, b"# object 2 is not a term\n\n" + ERROR
+                                                 + b"# object 2 is not a term\n\n# subject 1 is not a term\n\n", b"")),
+}
+
+
+@pytest.mark.parametrize("requests, wanted, unskipped", REQUESTS.values(), ids=REQUESTS)
+def test_answers(tmp_path: Path, requests: bytes, wanted: Result, unskipped: Result) -> None:
+    """The total of all answers is on standard error at the end, and no answer reports a string that is not a term."""
+    path = tmp_path / "four.hdt"
+    path.write_bytes(reference.graph(FOUR)[0])
+    assert hdt("answer", path, "--skip-non-terms", stdin=requests) == wanted
+    assert hdt("answer", path, stdin=requests) == unskipped
+
+
+def test_answers_of_terms_alone(tmp_path: Path) -> None:
+    """Over a graph that has only terms the flag changes nothing."""
+    path = tmp_path / "three.hdt"
+    path.write_bytes(reference.graph(THREE)[0])
+    requests = b"? ? ?\n<u:a> ? ?\n? <u:q> ?\n"
+    wanted = hdt("answer", path, stdin=requests)
+    assert wanted.status == 0 and hdt("answer", path, "--skip-non-terms", stdin=requests) == wanted
+
+
+def test_answers_before_an_error(tmp_path: Path) -> None:
+    """If the answers cannot be written, that is the error, and no number is printed."""
+    path = tmp_path / "four.hdt"
+    path.write_bytes(reference.graph(FOUR)[0])
+    assert hdt_into("/dev/full", "answer", path, "--skip-non-terms", stdin=b"? ? ?\n" * 1_000) == WRITING_FAILED
+
+
+def test_answers_of_many(tmp_path: Path) -> None:
+    """A thousand requests, of which each skips 100 triples: their sum is above 16 bits."""
+    path = tmp_path / "hundreds.hdt"
+    path.write_bytes(reference.graph([(b"u:s", b"u:p", b'"%03d"' % n if n % 2 else b"rel%03d" % n)
+                                      for n in range(200)])[0])
+    assert hdt("answer", path, "--skip-non-terms", "--count", stdin=b"<u:s> ? ?\n" * 1_000) == reported(
+        b"100\n\n" * 1_000, "triples skipped", 100_000)
+
+
 def test_errors_of_the_file(tmp_path: Path) -> None:
     """The first error of the file is reported, with the flags as without them."""
     path = tmp_path / "cut.hdt"
@@ -138,6 +227,7 @@ def test_errors_of_the_file(tmp_path: Path) -> None:
     wanted = hdt("verify", path)
     assert wanted.status == 1 and hdt("verify", "--terms", path) == wanted
     assert hdt("verify", "--terms", "--tight", path) == hdt("dump", "--skip-non-terms", path) == wanted
+    assert hdt("answer", "--skip-non-terms", path, stdin=b"? ? ?\n") == wanted
 
 
 def test_tight(tmp_path: Path) -> None:

@@ -595,7 +595,7 @@ LONGEST = 1 << 20
 def dialogues() -> Iterator[Request]:
     """Requests that are answered, and the lines of errors."""
     yield "file", OF_THREE
-    for form in range(3):
+    for form in range(6):
         yield "answer_requests", form, "-", 0, LONGEST, *READER, *WRITER, DIALOGUE
         yield "answer_requests", form, 1, 1, LONGEST, *READER, *WRITER, b"u:a\t?\t?\n?\t?\tu:z\n"
     for fails in ("0", "2", "9", "3:interrupted", "@40:zero"):

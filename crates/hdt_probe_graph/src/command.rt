@@ -77,7 +77,8 @@ fn reply_asking(asking: AnswerOptions, reply: &mut Reply) {
     reply.number(form_number(asking.format));
     reply.optional_number(asking.most);
     reply.number(u64::from(asking.raw));
-    reply.number(u64::from(asking.longest))
+    reply.number(u64::from(asking.longest));
+    reply.boolean(asking.skip)
 }
 
 fn reply_options(options: &Options, reply: &mut Reply) {

@@ -6,8 +6,8 @@ use crate::open::graph_of;
 use hdt_probe::{Args, Reply};
 use hdt_terms::{LineFault, TermFault};
 use hdt_tool::{
-    AnswerOptions, OutputFormat, Request, TermArgument, ToolFault, UsageFault, answer_file,
-    answer_requests, fault_line, parse_words, run, run_with_capacity, usage_line,
+    AnswerOptions, AnswerReport, OutputFormat, Request, TermArgument, ToolFault, UsageFault,
+    answer_file, answer_requests, fault_line, parse_words, run, run_with_capacity, usage_line,
 };
 use hdt_wire::Fault;
 use std::alloc::AllocError;
@@ -106,15 +106,18 @@ fn reply_run_in(args: &mut Args<'_>, reply: &mut Reply) {
     reply.bytes(&made)
 }
 
-/// Reads the options of `answer`.
+/// Reads the options of `answer`. The format is 0 to 2, or 3 to 5 if triples are left out.
 fn asking_of(args: &mut Args<'_>) -> AnswerOptions {
-    let format = match args.number() {
-        0 => OutputFormat::NTriples,
-        1 => OutputFormat::Numbers,
-        2 => OutputFormat::Count,
+    let (format, skip) = match args.number() {
+        0 => (OutputFormat::NTriples, false),
+        1 => (OutputFormat::Numbers, false),
+        2 => (OutputFormat::Count, false),
+        3 => (OutputFormat::NTriples, true),
+        4 => (OutputFormat::Numbers, true),
+        5 => (OutputFormat::Count, true),
         _ => {
             args.note_usage_error();
-            OutputFormat::NTriples
+            (OutputFormat::NTriples, false)
         }
     };
     AnswerOptions {
@@ -122,13 +125,17 @@ fn asking_of(args: &mut Args<'_>) -> AnswerOptions {
         most: args.optional_number(),
         raw: args.boolean(),
         longest: args.number32(),
+        skip,
     }
 }
 
-/// Whether an answer is an error, or the error that ended the call.
-fn reply_answered(answered: Result<bool, ToolFault>, reply: &mut Reply) {
+/// Whether an answer is an error, and how many triples were left out; or the error that ended the call.
+fn reply_answered(answered: Result<AnswerReport, ToolFault>, reply: &mut Reply) {
     match answered {
-        Ok(is_faulty) => reply.boolean(is_faulty),
+        Ok(report) => {
+            reply.boolean(report.has_errors);
+            reply.number(report.skipped)
+        }
         Err(fault) => reply_tool_fault(fault, reply),
     }
 }

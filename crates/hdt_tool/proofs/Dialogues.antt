@@ -20,23 +20,63 @@ use Rattle.hdt_dict.specs.Strings.{BorrowedString}
 use Rattle.std.proofs.KnownBytes.{Appends-nil, Appends-trans}
 use Rattle.hdt_file.specs.File.{GraphParts}
 use Rattle.hdt_tool.specs.declared.request.AnswerOptions.{AnswerOptions}
-use Rattle.hdt_tool.specs.Dialogue.{AnswersLine, AnswersLines, AnswersRequest, AnswersUntilFault, AreFirstLines, HasTakenLines, FollowsLines, IsFaultOfLine, StopsAfterAnswers, RequestStrings, bounded_request_in, given_strings, max_input_bytes}
+use Rattle.hdt_tool.specs.declared.request.AnswerReport.{AnswerReport}
+use Rattle.hdt_tool.specs.declared.request.OutputFormat.{OutputFormat}
+use Rattle.hdt_tool.specs.declared.request.OutputFormat.TheVariants.{NTriples, Numbers, Count}
+use Rattle.hdt_tool.specs.TermReports.{kept_format}
+use Rattle.hdt_tool.specs.TriplesText.{AppendsTriples, PrintsTriples}
+use Rattle.hdt_triples.specs.TripleSequences.{Triple}
+use Rattle.hdt_file.specs.SkippedLines.{SkipsNonTerms}
+use Rattle.hdt_tool.specs.Dialogue.{AnswersKept, AnswersLine, AnswersLines, AnswersRequest, AnswersUntilFault, AreFirstLines, HasTakenLines, FollowsLines, IsFaultOfLine, StopsAfterAnswers, RequestStrings, bounded_request_in, ended, given_strings, is_count, joined_reports, max_input_bytes, plain_report, skips_in}
+
+-- Reports are joined in any order.
+abbrev made : Bool → ℕ → AnswerReport
+made b n = record { has_errors = b; skipped = n }
+
+made_of : (b c : Bool) (m n : ℕ) → b ≡ c → m ≡ n → made b m ≡ made c n
+made_of b c m n same equal = rw (same, equal) refl
+
+joined_nothing : (one : AnswerReport) → joined_reports (plain_report false) one ≡ joined_reports one (plain_report false)
+joined_nothing one = made_of (false || one.has_errors) (one.has_errors || false) (0 + one.skipped) (one.skipped + 0) (sym (or-false one.has_errors)) (omega arith)
+
+joined_assoc : (a b c : AnswerReport) → joined_reports (joined_reports a b) c ≡ joined_reports a (joined_reports b c)
+joined_assoc a b c =
+    made_of ((a.has_errors || b.has_errors) || c.has_errors) (a.has_errors || (b.has_errors || c.has_errors)) (a.skipped + b.skipped + c.skipped) (a.skipped + (b.skipped + c.skipped))
+    (or_assoc a.has_errors b.has_errors c.has_errors) (omega arith)
 
 -- One more line and its answer.
-pub lines_on : (g : GraphParts) (options : AnswerOptions) (lines : List (ℕ × List ℕ)) (line : ℕ × List ℕ) (faulty one : Bool) (text answer : List ℕ) → AnswersLines g options lines faulty text → AnswersLine g options line one answer
-    → AnswersLines g options (lines ++ line ∷ []) (faulty || one) (text ++ answer)
-lines_on g options [] line faulty one text answer h a =
-    (one, answer, false, [], a, (refl, refl), ap (λ b. b || one) h.0 ∙ sym (or-false one), ap (λ t. t ++ answer) h.1 ∙ sym (append-nil answer))
-lines_on g options (first ∷ lines) line faulty one text answer h a = (
+pub lines_on : (g : GraphParts) (options : AnswerOptions) (lines : List (ℕ × List ℕ)) (line : ℕ × List ℕ) (report one : AnswerReport) (text answer : List ℕ) → AnswersLines g options lines report text → AnswersLine g options line one answer
+    → AnswersLines g options (lines ++ line ∷ []) (joined_reports report one) (text ++ answer)
+lines_on g options [] line report one text answer h a =
+    (one, answer, plain_report false, [], a, (refl, refl), ap (λ (r : AnswerReport). joined_reports r one) h.0 ∙ joined_nothing one, ap (λ t. t ++ answer) h.1 ∙ sym (append-nil answer))
+lines_on g options (first ∷ lines) line report one text answer h a = (
   h.0,
   h.1,
-  h.2 || one,
+  joined_reports h.2 one,
   h.3 ++ answer,
   h.4,
   lines_on g options lines line h.2 one h.3 answer h.5 a,
-  ap (λ b. b || one) h.6 ∙ or_assoc h.0 h.2 one,
+  ap (λ (r : AnswerReport). joined_reports r one) h.6 ∙ joined_assoc h.0 h.2 one,
   ap (λ t. t ++ answer) h.7 ∙ append_assoc h.1 h.3 answer,
 )
+
+-- The answer for triples that have a line: their text and an empty line.
+kept_format_is : (skip : Bool) (format : OutputFormat) → skips_in skip format ≡ true → kept_format (is_count format) ≡ format
+kept_format_is skip NTriples h = refl
+kept_format_is skip Numbers h = absurd cc
+kept_format_is skip Count h = refl
+
+pub kept_answered : (g : GraphParts) (format : OutputFormat) (skip count : Bool) (most : Option ℕ) (found kept printed : List Triple) (n : ℕ) (old mid new : List ℕ) → count ≡ is_count format → skips_in skip format ≡ true
+    → SkipsNonTerms g most found kept n → printed ≡ kept → AppendsTriples (kept_format count) g printed old mid → new ≡ mid ++ 10 ∷ []
+    → (answer : List ℕ) × AnswersKept format g most found n answer × (new ≡ old ++ answer)
+kept_answered g format skip count most found kept printed n old mid new counts skips skipped same appends ended_is =
+    let prints =
+    subst (λ (f : OutputFormat). PrintsTriples f g kept appends.text) (kept_format_is skip format skips)
+    (subst (λ (b : Bool). PrintsTriples (kept_format b) g kept appends.text) counts (subst (λ (ts : List Triple). PrintsTriples (kept_format count) g ts appends.text) same appends.prints)) in (
+      ended appends.text,
+      (kept, skipped, (appends.text, prints, refl)),
+      ended_is ∙ ap (λ (x : List ℕ). x ++ 10 ∷ []) appends.appended ∙ append_assoc old appends.text (10 ∷ []),
+    )
 
 -- One byte more than the maximum length is enough to see that a line is too long: such a prefix has the answer of the
 -- line.
@@ -49,10 +89,10 @@ front_asked options front line is =
       | inr short ↦ ap (bounded_request_in options) (is ∙ take_all (options.longest + 1) line (omega (arith, short)))
     ]
 
-pub front_answered : (g : GraphParts) (options : AnswerOptions) (n : ℕ) (front line : List ℕ) (faulty : Bool) (answer : List ℕ) → front ≡ take (options.longest + 1) line
-    → AnswersLine g options (n, front) faulty answer → AnswersLine g options (n, line) faulty answer
-front_answered g options n front line faulty answer is h =
-    subst (λ (r : Result (Option RequestStrings) TermFault). AnswersRequest g options n r faulty answer) (front_asked options front line is) h
+pub front_answered : (g : GraphParts) (options : AnswerOptions) (n : ℕ) (front line : List ℕ) (report : AnswerReport) (answer : List ℕ) → front ≡ take (options.longest + 1) line
+    → AnswersLine g options (n, front) report answer → AnswersLine g options (n, line) report answer
+front_answered g options n front line report answer is h =
+    subst (λ (r : Result (Option RequestStrings) TermFault). AnswersRequest g options n r report answer) (front_asked options front line is) h
 
 -- Lines that have been read are the first lines of the input.
 pub gone_some : (s : LinesState) (input mid : Option (List ℕ)) (lines : List (ℕ × List ℕ)) → HasTakenLines s input mid lines → AreFirstLines input lines
@@ -143,16 +183,16 @@ pub gained_all : (a b c : Option (List ℕ)) (text kept : List ℕ) → GainedBu
 gained_all a b c text kept h one = subst (Appends a c) (sym h.1) (Appends-trans a b c h.0 kept h.2 one)
 
 -- The writer failed within the pending answers.
-pub cut_kept : (g : GraphParts) (options : AnswerOptions) (input given a b c : Option (List ℕ)) (lines : List (ℕ × List ℕ)) (faulty : Bool) (text kept : List ℕ) (count f d h : ℕ) (e : ToolFault)
-    → AreFirstLines input lines → AnswersLines g options lines faulty text → GainedButFor a b text kept → count ≡ length text → d ≡ f
+pub cut_kept : (g : GraphParts) (options : AnswerOptions) (input given a b c : Option (List ℕ)) (lines : List (ℕ × List ℕ)) (report : AnswerReport) (text kept : List ℕ) (count f d h : ℕ) (e : ToolFault)
+    → AreFirstLines input lines → AnswersLines g options lines report text → GainedButFor a b text kept → count ≡ length text → d ≡ f
     → ((m : ℕ) × (e ≡ Write (count - length kept + m)) × FailsAfter m kept b c d h) → AnswersUntilFault g options input given a c f h e
-cut_kept g options input given a b c lines faulty text kept count f d h e some all gained counted same cut =
+cut_kept g options input given a b c lines report text kept count f d h e some all gained counted same cut =
     let before : count - length kept ≡ length gained.0 = omega (arith, counted, ap length gained.1, length-append gained.0 kept) in
     record {
       lines = lines;
       are = some;
       behind = subst (λ (t : ToolFault). FollowsLines t input given lines) (sym cut.1) tt;
-      faulty = faulty;
+      report = report;
       text = text;
       answers = all;
       stopped =
@@ -161,29 +201,29 @@ cut_kept g options input given a b c lines faulty text kept count f d h e some a
     }
 
 -- Memory ran out after complete answers.
-pub refused_behind : (g : GraphParts) (options : AnswerOptions) (input given a c : Option (List ℕ)) (lines : List (ℕ × List ℕ)) (faulty : Bool) (text : List ℕ) (f h : ℕ) (e : ToolFault)
-    → AreFirstLines input lines → AnswersLines g options lines faulty text → Appends a c text → h ≡ f → e ≡ OutOfMemory → AnswersUntilFault g options input given a c f h e
-refused_behind g options input given a c lines faulty text f h e some all gained same is = record {
+pub refused_behind : (g : GraphParts) (options : AnswerOptions) (input given a c : Option (List ℕ)) (lines : List (ℕ × List ℕ)) (report : AnswerReport) (text : List ℕ) (f h : ℕ) (e : ToolFault)
+    → AreFirstLines input lines → AnswersLines g options lines report text → Appends a c text → h ≡ f → e ≡ OutOfMemory → AnswersUntilFault g options input given a c f h e
+refused_behind g options input given a c lines report text f h e some all gained same is = record {
   lines = lines;
   are = some;
   behind = subst (λ (t : ToolFault). FollowsLines t input given lines) (sym is) tt;
-  faulty = faulty;
+  report = report;
   text = text;
   answers = all;
   stopped = subst (λ (t : ToolFault). StopsAfterAnswers t text a c f h) (sym is) (same, gained);
 }
 
 -- After one more answer, the count overflowed or the writer failed.
-pub cut_answer : (g : GraphParts) (options : AnswerOptions) (input given a b c : Option (List ℕ)) (lines : List (ℕ × List ℕ)) (line : ℕ × List ℕ) (faulty one : Bool) (text kept answer new : List ℕ) (place count f d h : ℕ) (e : ToolFault)
-    → AreFirstLines input lines → AreFirstLines input (lines ++ line ∷ []) → AnswersLines g options lines faulty text → AnswersLine g options line one answer → GainedButFor a b text kept → new ≡ kept ++ answer → place ≡ length kept → count ≡ length text → d ≡ f
+pub cut_answer : (g : GraphParts) (options : AnswerOptions) (input given a b c : Option (List ℕ)) (lines : List (ℕ × List ℕ)) (line : ℕ × List ℕ) (report one : AnswerReport) (text kept answer new : List ℕ) (place count f d h : ℕ) (e : ToolFault)
+    → AreFirstLines input lines → AreFirstLines input (lines ++ line ∷ []) → AnswersLines g options lines report text → AnswersLine g options line one answer → GainedButFor a b text kept → new ≡ kept ++ answer → place ≡ length kept → count ≡ length text → d ≡ f
     → ((e ≡ OutOfMemory) × (h ≡ d) × Appends b c (take place new)) ⊎ ((m : ℕ) × (e ≡ Write (count - place + m)) × FailsAfter m new b c d h)
     → AnswersUntilFault g options input given a c f h e
-cut_answer g options input given a b c lines line faulty one text kept answer new place count f d h e before after all this gained grown behind counted same (inl refused) =
+cut_answer g options input given a b c lines line report one text kept answer new place count f d h e before after all this gained grown behind counted same (inl refused) =
     let front : take place new ≡ kept = ap (λ n. take n new) behind ∙ ap (take (length kept)) grown ∙ take-append_seam kept answer in
-    refused_behind g options input given a c lines faulty text f h e before all (gained_all a b c text kept gained (subst (Appends b c) front refused.2)) (refused.1 ∙ same) refused.0
-cut_answer g options input given a b c lines line faulty one text kept answer new place count f d h e before after all this gained grown behind counted same (inr cut) =
+    refused_behind g options input given a c lines report text f h e before all (gained_all a b c text kept gained (subst (Appends b c) front refused.2)) (refused.1 ∙ same) refused.0
+cut_answer g options input given a b c lines line report one text kept answer new place count f d h e before after all this gained grown behind counted same (inr cut) =
     let ended : count - place ≡ count + length answer - length new = omega (arith, behind, ap length grown, length-append kept answer) in
-    cut_kept g options input given a b c (lines ++ line ∷ []) (faulty || one) (text ++ answer) new (count + length answer) f d h e after (lines_on g options lines line faulty one text answer all this)
+    cut_kept g options input given a b c (lines ++ line ∷ []) (joined_reports report one) (text ++ answer) new (count + length answer) f d h e after (lines_on g options lines line report one text answer all this)
     (gained_answer a b text kept answer new gained grown) (omega (arith, counted, length-append text answer)) same (cut.0, cut.1 ∙ ap (λ n. Write (n + cut.0)) ended, cut.2)
 
 -- Answers are pending only if a complete line is buffered.
@@ -192,14 +232,14 @@ kept_or_held kept held (inl none) is = inl none
 kept_or_held kept held (inr e) is = inr (is e)
 
 -- A line that could not be read, after the answers to earlier ones.
-pub unread_line : (g : GraphParts) (options : AnswerOptions) (s : LinesState) (input mid given written_before written_after : Option (List ℕ)) (lines : List (ℕ × List ℕ)) (faulty : Bool) (text : List ℕ) (failed_before failed_after : ℕ)
-    (fault : LineFault) (e : ToolFault) → HasTakenLines s input mid lines → AnswersLines g options lines faulty text → Appends written_before written_after text → failed_after ≡ failed_before → IsFaultOfLine fault e
+pub unread_line : (g : GraphParts) (options : AnswerOptions) (s : LinesState) (input mid given written_before written_after : Option (List ℕ)) (lines : List (ℕ × List ℕ)) (report : AnswerReport) (text : List ℕ) (failed_before failed_after : ℕ)
+    (fault : LineFault) (e : ToolFault) → HasTakenLines s input mid lines → AnswersLines g options lines report text → Appends written_before written_after text → failed_after ≡ failed_before → IsFaultOfLine fault e
     → FaultAfterLines fault max_input_bytes input given lines → AnswersUntilFault g options input given written_before written_after failed_before failed_after e
-unread_line g options s input mid given written_before written_after lines faulty text failed_before failed_after fault e gone all gained same is h = record {
+unread_line g options s input mid given written_before written_after lines report text failed_before failed_after fault e gone all gained same is h = record {
   lines = lines;
   are = gone_some s input mid lines gone;
   behind = stopped_behind fault e input given lines is h;
-  faulty = faulty;
+  report = report;
   text = text;
   answers = all;
   stopped = stopped_by fault e text written_before written_after failed_before failed_after is same gained;
@@ -215,7 +255,7 @@ nothing_answered begins g options input given a f = record {
   lines = [];
   are = inl (start max_input_bytes, left (start max_input_bytes) input, begins max_input_bytes input);
   behind = tt;
-  faulty = false;
+  report = plain_report false;
   text = [];
   answers = (refl, refl);
   stopped = (refl, Appends-nil a);

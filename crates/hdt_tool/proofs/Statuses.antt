@@ -1,14 +1,16 @@
 -- What an exit status implies about the result that it was computed from.
-use Rattle.std.proofs.Common.{◌≡◌, ◌≢◌, ◌⊎◌, ◌∙◌, ap, ℕ, Bool, true, false, cond, refl, inl, inr, subst, sym}
+use Rattle.std.proofs.Common.{◌≡◌, ◌≢◌, ◌⊎◌, ◌∙◌, ap, ℕ, zero, suc, Bool, true, false, cond, refl, inl, inr, subst, sym}
 use Rattle.std.specs.Prelude.{List, Result, Ok, Err, MatchResult, IfOk, IfErr, OnOk}
 use Rattle.clap.specs.Words.{Text}
 use Rattle.hdt_tool.specs.declared.fault.ToolFault.{ToolFault}
 use Rattle.hdt_tool.specs.declared.fault.ToolFault.TheVariants.{File, NoTriples, Read, Write, OutOfMemory}
 use Rattle.hdt_tool.specs.declared.fault.UsageFault.{UsageFault}
+use Rattle.hdt_tool.specs.declared.request.AnswerReport.{AnswerReport}
 use Rattle.hdt_tool.specs.declared.request.Invocation.{Invocation}
 use Rattle.hdt_tool.specs.CommandLine.{IsRefused, ParsesToInvocation}
+use Rattle.hdt_tool.specs.Dialogue.{plain_report}
 use Rattle.hdt_tool.specs.ErrorLines.{fault_status}
-use Rattle.hdt_tool.specs.Status.{Ends, IsCommandStatus, IsRefusalStatus, IsActionStatus}
+use Rattle.hdt_tool.specs.Status.{Ends, IsCommandStatus, IsRefusalStatus, IsActionStatus, IsReportStatus}
 use Rattle.hdt_tool.proofs.Refusals.{parses_to_request}
 
 -- An error is a write error or another one.
@@ -23,12 +25,12 @@ command_status (Ok done) status h = inl h
 command_status (Err fault) status (inl h) = inr (fault, h)
 command_status (Err fault) status (inr h) = inr (OutOfMemory, h)
 
--- The status of `answer`.
-pub answers_status : (outcome : Result Bool ToolFault) (status : ℕ) → MatchResult outcome (λ faulty. status ≡ cond faulty 1 0) (λ fault. (status ≡ fault_status fault) ⊎ (status ≡ 4)) → IsCommandStatus status
-answers_status (Ok true) status h = inr (NoTriples, h)
-answers_status (Ok false) status h = inl h
-answers_status (Err fault) status (inl h) = inr (fault, h)
-answers_status (Err fault) status (inr h) = inr (OutOfMemory, h)
+-- The status of `lint`.
+pub lint_status : (outcome : Result Bool ToolFault) (status : ℕ) → MatchResult outcome (λ faulty. status ≡ cond faulty 1 0) (λ fault. (status ≡ fault_status fault) ⊎ (status ≡ 4)) → IsCommandStatus status
+lint_status (Ok true) status h = inr (NoTriples, h)
+lint_status (Ok false) status h = inl h
+lint_status (Err fault) status (inl h) = inr (fault, h)
+lint_status (Err fault) status (inr h) = inr (OutOfMemory, h)
 
 -- No error has status 0.
 not_done : (fault : ToolFault) (status : ℕ) → (status ≡ fault_status fault) ⊎ (status ≡ 4) → status ≡ 0 → ⊥
@@ -36,22 +38,66 @@ not_done (File fault) status (inl h) is = absurd cc
 not_done fault status (inl h) is = absurd cc
 not_done fault status (inr h) is = absurd cc
 
--- Status 0 of `answer`: all requests were answered, without an error.
-abbrev IsAnswersStatus : Result Bool ToolFault → ℕ → Type 0
-IsAnswersStatus outcome status = MatchResult outcome (λ faulty. status ≡ cond faulty 1 0) (λ fault. (status ≡ fault_status fault) ⊎ (status ≡ 4))
+-- Status 0 of `lint`: no line is faulty.
+abbrev IsLintStatus : Result Bool ToolFault → ℕ → Type 0
+IsLintStatus outcome status = MatchResult outcome (λ faulty. status ≡ cond faulty 1 0) (λ fault. (status ≡ fault_status fault) ⊎ (status ≡ 4))
 
-pub answers_done : (P : Bool → Type 0) (outcome : Result Bool ToolFault) (status : ℕ) → IsAnswersStatus outcome status → IfOk outcome P → status ≡ 0 → P false
-answers_done P (Ok true) status of ok is = absurd cc
-answers_done P (Ok false) status of ok is = ok
+pub lint_done : (P : Bool → Type 0) (outcome : Result Bool ToolFault) (status : ℕ) → IsLintStatus outcome status → IfOk outcome P → status ≡ 0 → P false
+lint_done P (Ok true) status of ok is = absurd cc
+lint_done P (Ok false) status of ok is = ok
+lint_done P (Err fault) status of ok is = absurd (not_done fault status of is)
+
+-- Any other status: one of the lines is faulty, or an error ended the run.
+pub lint_stopped : {A : Type 0} (P : Bool → Type 0) (Q : ToolFault → Type 0) (outcome : Result Bool ToolFault) (status : ℕ) → IsLintStatus outcome status → IfOk outcome P → IfErr outcome (λ e. A ⊎ Q e) → status ≢ 0
+    → A ⊎ (((status ≡ 1) × P true) ⊎ ((e : ToolFault) × ((status ≡ fault_status e) ⊎ (status ≡ 4)) × Q e))
+lint_stopped P Q (Ok true) status of ok err not = inr (inl (of, ok))
+lint_stopped P Q (Ok false) status of ok err not = absurd (not of)
+lint_stopped P Q (Err fault) status of ok (inl a) not = inl a
+lint_stopped P Q (Err fault) status of ok (inr q) not = inr (inr (fault, of, q))
+
+-- ---- the status of `answer`
+
+one_or_four : (status : ℕ) → (status ≡ 1) ⊎ (status ≡ 4) → IsCommandStatus status
+one_or_four status (inl h) = inr (NoTriples, h)
+one_or_four status (inr h) = inr (OutOfMemory, h)
+
+zero_or_one : (faulty : Bool) (status : ℕ) → status ≡ cond faulty 1 0 → IsCommandStatus status
+zero_or_one true status h = inr (NoTriples, h)
+zero_or_one false status h = inl h
+
+of_report : (faulty : Bool) (skipped status : ℕ) → IsReportStatus (record { has_errors = faulty; skipped = skipped }) status → IsCommandStatus status
+of_report faulty zero status h = zero_or_one faulty status (h.0 refl)
+of_report faulty (suc n) status h = one_or_four status (h.1 (λ is. absurd cc))
+
+abbrev IsAnswersStatus : Result AnswerReport ToolFault → ℕ → Type 0
+IsAnswersStatus outcome status = MatchResult outcome (λ report. IsReportStatus report status) (λ fault. (status ≡ fault_status fault) ⊎ (status ≡ 4))
+
+pub answers_status : (outcome : Result AnswerReport ToolFault) (status : ℕ) → IsAnswersStatus outcome status → IsCommandStatus status
+answers_status (Ok report) status h = of_report report.has_errors report.skipped status h
+answers_status (Err fault) status (inl h) = inr (fault, h)
+answers_status (Err fault) status (inr h) = inr (OutOfMemory, h)
+
+-- Status 0: all requests were answered without an error, and no triple was left out.
+not_one_or_four : (status : ℕ) → (status ≡ 1) ⊎ (status ≡ 4) → status ≡ 0 → ⊥
+not_one_or_four status (inl h) is = absurd cc
+not_one_or_four status (inr h) is = absurd cc
+
+done_report : (P : AnswerReport → Type 0) (faulty : Bool) (skipped status : ℕ) → IsReportStatus (record { has_errors = faulty; skipped = skipped }) status
+    → P (record { has_errors = faulty; skipped = skipped }) → status ≡ 0 → P (plain_report false)
+done_report P false zero status of ok is = ok
+done_report P true zero status of ok is = let one = of.0 refl in absurd cc
+done_report P faulty (suc n) status of ok is = absurd (not_one_or_four status (of.1 (λ none. absurd cc)) is)
+
+pub answers_done : (P : AnswerReport → Type 0) (outcome : Result AnswerReport ToolFault) (status : ℕ) → IsAnswersStatus outcome status → IfOk outcome P → status ≡ 0 → P (plain_report false)
+answers_done P (Ok report) status of ok is = done_report P report.has_errors report.skipped status of ok is
 answers_done P (Err fault) status of ok is = absurd (not_done fault status of is)
 
--- Any other status: one of the answers is an error, or an error ended them.
-pub answers_stopped : {A : Type 0} (P : Bool → Type 0) (Q : ToolFault → Type 0) (outcome : Result Bool ToolFault) (status : ℕ) → IsAnswersStatus outcome status → IfOk outcome P → IfErr outcome (λ e. A ⊎ Q e) → status ≢ 0
-    → A ⊎ (((status ≡ 1) × P true) ⊎ ((e : ToolFault) × ((status ≡ fault_status e) ⊎ (status ≡ 4)) × Q e))
-answers_stopped P Q (Ok true) status of ok err not = inr (inl (of, ok))
-answers_stopped P Q (Ok false) status of ok err not = absurd (not of)
-answers_stopped P Q (Err fault) status of ok (inl a) not = inl a
-answers_stopped P Q (Err fault) status of ok (inr q) not = inr (inr (fault, of, q))
+-- Any other status: an answer is an error or leaves out triples, or an error ended the answers.
+pub answers_stopped : {A : Type 0} (P : AnswerReport → Type 0) (Q : ToolFault → Type 0) (outcome : Result AnswerReport ToolFault) (status : ℕ) → IsAnswersStatus outcome status → IfOk outcome P → IfErr outcome (λ e. A ⊎ Q e)
+    → A ⊎ (((report : AnswerReport) × IsReportStatus report status × P report) ⊎ ((e : ToolFault) × ((status ≡ fault_status e) ⊎ (status ≡ 4)) × Q e))
+answers_stopped P Q (Ok report) status of ok err = inr (inl (report, of, ok))
+answers_stopped P Q (Err fault) status of ok (inl a) = inl a
+answers_stopped P Q (Err fault) status of ok (inr q) = inr (inr (fault, of, q))
 
 -- Status 0 implies what holds on success.
 pub if_done : {A T : Type 0} (P : T → Type 0) (outcome : Result T ToolFault) (status : ℕ) → MatchResult outcome P (λ fault. (status ≡ fault_status fault) ⊎ (status ≡ 4))

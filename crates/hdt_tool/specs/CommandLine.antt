@@ -169,6 +169,7 @@ pub record IsAnswerCommand (name : Text) (rows : List Row) (options : AnswerOpti
   pub most_is : ParsesAsNumberOrNone (one_of (codes "most") rows) options.most
   pub raw_is : ParsesAsFlag (one_of (codes "raw") rows) options.raw
   pub longest_is : ParsesAsNumber 32 (one_of (codes "longest-request") rows) options.longest
+  pub skip_is : SkipsIn rows options.skip
 
 -- The command is `count`, with this role, number of terms and format.
 pub record IsCountCommand (name : Text) (rows : List Row) (role : Role) (top : Option ℕ) (raw : Bool) : Type 0 where

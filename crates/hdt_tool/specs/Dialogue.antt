@@ -1,5 +1,5 @@
 -- The answers of `answer`: to one line of requests, and to all lines.
-use Rattle.std.specs.Prelude.{◌≡◌, ◌≢◌, ◌+◌, ◌^◌, ◌-◌, ℕ, Bool, true, false, nat_lt, length, ◌||◌, ◌⊎◌, List, [], ◌∷◌, ◌++◌, if◌then◌else◌, Option, None, Some, Result, Ok, Err, codes, option_map}
+use Rattle.std.specs.Prelude.{◌≡◌, ◌≢◌, ◌+◌, ◌^◌, ◌-◌, ℕ, Bool, true, false, nat_lt, length, ◌||◌, ◌⊎◌, List, [], ◌∷◌, ◌++◌, if◌then◌else◌, Option, None, Some, MatchOption, Result, Ok, Err, codes, option_map}
 use Rattle.std.specs.Fmt.{decimal}
 use Rattle.std.specs.Io.KnownBytes.{Appends}
 use Rattle.hdt_wire.specs.declared.role.Role.{Role}
@@ -16,16 +16,20 @@ use Rattle.hdt_terms.specs.LinesReader.{LinesState}
 use Rattle.hdt_terms.specs.Terms.{dictionary_string}
 use Rattle.hdt_triples.specs.TripleSequences.{Triple}
 use Rattle.hdt_file.specs.File.{GraphParts}
+use Rattle.hdt_file.specs.SkippedLines.{SkipsNonTerms}
+use Rattle.hdt_file.specs.TermFlags.{AreTermFlags}
 use Rattle.hdt_file.specs.Text.{IsFirstNonTerm}
 use Rattle.hdt_file.specs.TextWriting.{limited}
+use Rattle.hdt_file.specs.declared.term_flags.TermFlags.{TermFlags}
 use Rattle.hdt_tool.specs.Outcomes.{FailsAfter, IsLayoutWith, ReadsWith}
 use Rattle.hdt_usage.specs.CommandTable.{role_name}
 use Rattle.hdt_tool.specs.TriplesText.{FindsStrings, PrintsTriples}
 use Rattle.hdt_tool.specs.declared.fault.ToolFault.{ToolFault}
 use Rattle.hdt_tool.specs.declared.fault.ToolFault.TheVariants.{Input, Read, Write, OutOfMemory}
 use Rattle.hdt_tool.specs.declared.request.AnswerOptions.{AnswerOptions}
+use Rattle.hdt_tool.specs.declared.request.AnswerReport.{AnswerReport}
 use Rattle.hdt_tool.specs.declared.request.OutputFormat.{OutputFormat}
-use Rattle.hdt_tool.specs.declared.request.OutputFormat.TheVariants.{NTriples}
+use Rattle.hdt_tool.specs.declared.request.OutputFormat.TheVariants.{NTriples, Numbers, Count}
 
 -- ---- the request in a line
 
@@ -98,27 +102,61 @@ AnswersTriples format g found answer = (text : List ℕ) × PrintsTriples format
 abbrev pub AnswersNonTerm : OutputFormat → GraphParts → List Triple → List ℕ → Type 0
 AnswersNonTerm format g found answer = (role : Role) × (n : ℕ) × (format ≡ NTriples) × IsFirstNonTerm g found role n × (answer ≡ ended (non_term_comment role n))
 
--- The answer for the triples that were found, and whether it is an error.
+-- The answer for these triples, and whether it is an error.
 abbrev pub AnswersFound : OutputFormat → GraphParts → List Triple → Bool → List ℕ → Type 0
 AnswersFound format g found false answer = AnswersTriples format g found answer
 AnswersFound format g found true answer = AnswersNonTerm format g found answer
 
+-- Whether triples that have no line of N-Triples are left out: with `--skip-non-terms`, except that `--numbers` prints
+-- the IDs of all.
+abbrev pub skips_in : Bool → OutputFormat → Bool
+skips_in skip NTriples = skip
+skips_in skip Numbers = false
+skips_in skip Count = skip
+
+-- Whether the answer is a number of triples.
+abbrev pub is_count : OutputFormat → Bool
+is_count Count = true
+is_count format = false
+
+-- The flags of the strings, if triples are left out.
+abbrev pub AreFlagsIfSkipping : Bool → GraphParts → Option TermFlags → Type 0
+AreFlagsIfSkipping skips g flags = MatchOption flags (skips ≡ false) (λ flags. (skips ≡ true) × AreTermFlags g flags)
+
+-- The answer for those of the triples that have a line, up to the limit; n without one were left out.
+abbrev pub AnswersKept : OutputFormat → GraphParts → Option ℕ → List Triple → ℕ → List ℕ → Type 0
+AnswersKept format g most found n answer = (kept : List Triple) × SkipsNonTerms g most found kept n × AnswersTriples format g kept answer
+
+-- The answer for the triples that were found, up to the limit, and its report.
+abbrev pub AnswersMatches : Bool → OutputFormat → GraphParts → Option ℕ → List Triple → AnswerReport → List ℕ → Type 0
+AnswersMatches false format g most found report answer = (report.skipped ≡ 0) × AnswersFound format g (limited most found) report.has_errors answer
+AnswersMatches true format g most found report answer = (report.has_errors ≡ false) × AnswersKept format g most found report.skipped answer
+
+-- The report of an answer that leaves out no triple.
+abbrev pub plain_report : Bool → AnswerReport
+plain_report faulty = record { has_errors = faulty; skipped = 0 }
+
+-- The report of two answers, or of all answers to some lines and to others.
+abbrev pub joined_reports : AnswerReport → AnswerReport → AnswerReport
+joined_reports one other = record { has_errors = one.has_errors || other.has_errors; skipped = one.skipped + other.skipped }
+
 -- The answer to the request in line n: empty for a blank line or a comment, a comment for an error, or the matches up
 -- to the limit.
-abbrev pub AnswersRequest : GraphParts → AnswerOptions → ℕ → Result (Option RequestStrings) TermFault → Bool → List ℕ → Type 0
-AnswersRequest g options n (Ok None) faulty answer = (faulty ≡ false) × (answer ≡ [])
-AnswersRequest g options n (Ok (Some wanted)) faulty answer = (found : List Triple) × FindsStrings g wanted found × AnswersFound options.format g (limited options.most found) faulty answer
-AnswersRequest g options n (Err fault) faulty answer = (faulty ≡ true) × (answer ≡ ended (fault_comment n fault))
+abbrev pub AnswersRequest : GraphParts → AnswerOptions → ℕ → Result (Option RequestStrings) TermFault → AnswerReport → List ℕ → Type 0
+AnswersRequest g options n (Ok None) report answer = (report ≡ plain_report false) × (answer ≡ [])
+AnswersRequest g options n (Ok (Some wanted)) report answer = (found : List Triple) × FindsStrings g wanted found
+    × AnswersMatches (skips_in options.skip options.format) options.format g options.most found report answer
+AnswersRequest g options n (Err fault) report answer = (report ≡ plain_report true) × (answer ≡ ended (fault_comment n fault))
 
 -- The answer to a numbered line.
-abbrev pub AnswersLine : GraphParts → AnswerOptions → ℕ × List ℕ → Bool → List ℕ → Type 0
-AnswersLine g options line faulty answer = AnswersRequest g options line.0 (bounded_request_in options line.1) faulty answer
+abbrev pub AnswersLine : GraphParts → AnswerOptions → ℕ × List ℕ → AnswerReport → List ℕ → Type 0
+AnswersLine g options line report answer = AnswersRequest g options line.0 (bounded_request_in options line.1) report answer
 
--- The concatenated answers to lines, and whether any of them is an error.
-abbrev pub AnswersLines : GraphParts → AnswerOptions → List (ℕ × List ℕ) → Bool → List ℕ → Type 0
-AnswersLines g options [] faulty answers = (faulty ≡ false) × (answers ≡ [])
-AnswersLines g options (line ∷ lines) faulty answers = (first : Bool) × (answer : List ℕ) × (others : Bool) × (more : List ℕ)
-    × AnswersLine g options line first answer × AnswersLines g options lines others more × (faulty ≡ first || others) × (answers ≡ answer ++ more)
+-- The concatenated answers to lines, whether any of them is an error, and how many triples they leave out.
+abbrev pub AnswersLines : GraphParts → AnswerOptions → List (ℕ × List ℕ) → AnswerReport → List ℕ → Type 0
+AnswersLines g options [] report answers = (report ≡ plain_report false) × (answers ≡ [])
+AnswersLines g options (line ∷ lines) report answers = (first : AnswerReport) × (answer : List ℕ) × (others : AnswerReport) × (more : List ℕ)
+    × AnswersLine g options line first answer × AnswersLines g options lines others more × (report ≡ joined_reports first others) × (answers ≡ answer ++ more)
 
 -- ---- the answers to an input
 
@@ -142,11 +180,11 @@ IsFaultOfLine fault (Input told) = (told ≡ fault) × (fault.reason ≢ reasons
 IsFaultOfLine fault other = ⊥
 
 -- The writer has gained the answers to all lines of the input.
-pub record AnswersInput (g : GraphParts) (options : AnswerOptions) (input written_before written_after : Option (List ℕ)) (faulty : Bool) : Type 0 where
+pub record AnswersInput (g : GraphParts) (options : AnswerOptions) (input written_before written_after : Option (List ℕ)) (report : AnswerReport) : Type 0 where
   pub lines : List (ℕ × List ℕ)
   pub are : AreLines max_input_bytes input lines
   pub text : List ℕ
-  pub answers : AnswersLines g options lines faulty text
+  pub answers : AnswersLines g options lines report text
   pub written : Appends written_before written_after text
 
 -- These are the first lines of the input, or all of them.
@@ -173,17 +211,17 @@ pub record AnswersUntilFault (g : GraphParts) (options : AnswerOptions) (input g
   pub lines : List (ℕ × List ℕ)
   pub are : AreFirstLines input lines
   pub behind : FollowsLines fault input given lines
-  pub faulty : Bool
+  pub report : AnswerReport
   pub text : List ℕ
-  pub answers : AnswersLines g options lines faulty text
+  pub answers : AnswersLines g options lines report text
   pub stopped : StopsAfterAnswers fault text written_before written_after failed_before failed_after
 
 -- ---- the same over a file whose reader is owned by the run
 
 -- The file is valid, and the writer has gained the answers to all lines of the requests over its graph.
-pub record AnswersOverFile (options : AnswerOptions) (file input written_before written_after : Option (List ℕ)) (faulty : Bool) : Type 0 where
+pub record AnswersOverFile (options : AnswerOptions) (file input written_before written_after : Option (List ℕ)) (report : AnswerReport) : Type 0 where
   pub after : Option (List ℕ)
-  pub answers : ReadsWith file after (λ bytes. IsLayoutWith bytes (λ graph. AnswersInput graph options input written_before written_after faulty))
+  pub answers : ReadsWith file after (λ bytes. IsLayoutWith bytes (λ graph. AnswersInput graph options input written_before written_after report))
 
 -- The file is valid, and an error ended the answers to the requests over its graph.
 pub record AnswersOverFileUntilFault (options : AnswerOptions) (file input given written_before written_after : Option (List ℕ)) (failed_before failed_after : ℕ) (fault : ToolFault) : Type 0 where

@@ -261,10 +261,14 @@ pub record ReportsOwned (action : Action) (before written_before written_after :
   pub after : Option (List ℕ)
   pub writes : WritesReport action before after written_before written_after n
 
+-- The message on standard error with the number of triples that were skipped.
+abbrev pub skipped_line : ℕ → List ℕ
+skipped_line n = codes "hdt: triples skipped: " ++ decimal n
+
 -- The message on standard error with the number of strings or triples.
 abbrev pub counted_line : Action → ℕ → List ℕ
 counted_line (VerifyTerms tight) n = codes "hdt: strings that are not terms: " ++ decimal n
-counted_line action n = codes "hdt: triples skipped: " ++ decimal n
+counted_line action n = skipped_line n
 
 -- ---- errors of replacing a file
 

@@ -1,9 +1,10 @@
 -- The exit statuses of the program.
-use Rattle.std.specs.Prelude.{◌≡◌, ◌⊎◌, ℕ, List}
+use Rattle.std.specs.Prelude.{◌≡◌, ◌≢◌, ◌⊎◌, ℕ, List, if◌then◌else◌}
 use Rattle.clap.specs.Words.{Text}
 use Rattle.hdt_tool.specs.CommandLine.{IsRefused, ParsesToRequest}
 use Rattle.hdt_tool.specs.ErrorLines.{fault_status}
 use Rattle.hdt_tool.specs.declared.request.Action.{Action}
+use Rattle.hdt_tool.specs.declared.request.AnswerReport.{AnswerReport}
 use Rattle.hdt_tool.specs.declared.request.Action.TheVariants.{Build}
 use Rattle.hdt_tool.specs.declared.request.Request.{Request}
 use Rattle.hdt_tool.specs.declared.fault.ToolFault.{ToolFault}
@@ -21,6 +22,11 @@ IsBuild action = ⊥
 -- The status of a command, or 2 if `build` would overwrite its input.
 abbrev pub IsActionStatus : Action → ℕ → Type 0
 IsActionStatus action status = IsCommandStatus status ⊎ (IsBuild action × (status ≡ 2))
+
+-- The status of complete answers: 0, or 1 if one of them is an error; or if they leave out triples 1, or 4 if there is no
+-- memory for the message.
+abbrev pub IsReportStatus : AnswerReport → ℕ → Type 0
+IsReportStatus report status = (report.skipped ≡ 0 → status ≡ (if report.has_errors then 1 else 0)) × (report.skipped ≢ 0 → (status ≡ 1) ⊎ (status ≡ 4))
 
 -- Help has status 0, or 3 if it cannot be printed. A usage error has status 2, or 4 if there is no memory for its
 -- message.

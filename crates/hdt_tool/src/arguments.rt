@@ -381,6 +381,7 @@ pub(crate) fn answer_action<'m>(
         most: optional_number(matches, "most"),
         raw: has_flag(matches, "raw"),
         longest: required_u32(alloc, matches, "longest-request")?,
+        skip: has_flag(matches, "skip-non-terms"),
     }))
 }
 

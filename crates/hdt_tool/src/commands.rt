@@ -13,7 +13,7 @@ use crate::dialogue::answer_requests;
 use crate::fault::ToolFault;
 use crate::printed_reports::counts_line;
 use crate::queries::{file_text, print_file_strings};
-use crate::request::{Action, AnswerOptions, Request};
+use crate::request::{Action, AnswerOptions, AnswerReport, Request};
 use hdt_build::{Options, Report, build_bytes, rewrite_bytes};
 use hdt_dict::Role;
 use hdt_file::open;
@@ -243,7 +243,7 @@ pub fn run_with_capacity<R: Read, W: Write>(
     }
 }
 
-/// Reads and opens a file, and answers the requests of another reader over it. Returns whether any answer is an error.
+/// Reads and opens a file, and answers the requests of another reader over it, as [`answer_requests`] does.
 /// Memory: the file and its rank/select and inverted indexes. Time: that of opening it and of [`answer_requests`].
 ///
 /// # Errors
@@ -256,10 +256,10 @@ pub fn answer_file<F: Read, R: Read, W: Write>(
     capacity: usize,
     input: &mut Counted<R>,
     out: &mut Counted<W>,
-) -> Result<bool, ToolFault>
+) -> Result<AnswerReport, ToolFault>
     // The file is valid, and `out` has gained the answers to all requests over its graph.
-    ensures ok { IfOk result (λ faulty. ReadsWith (F.remaining (inner file.old)) (F.remaining (inner file.new)) (λ bytes. IsLayoutWith bytes (λ graph.
-        AnswersInput graph options (R.remaining (inner input.old)) (W.contents (inner out.old)) (W.contents (inner out.new)) faulty))) }
+    ensures ok { IfOk result (λ report. ReadsWith (F.remaining (inner file.old)) (F.remaining (inner file.new)) (λ bytes. IsLayoutWith bytes (λ graph.
+        AnswersInput graph options (R.remaining (inner input.old)) (W.contents (inner out.old)) (W.contents (inner out.new)) report))) }
     ensures writer_well { OnOk result (failures out.new ≡ failures out.old) }
     // `Read`: one of the two readers failed once in this call.
     ensures read { IsErrOf result ToolFault.Read → failures file.new + failures input.new ≡ failures file.old + failures input.old + 1 }

@@ -64,7 +64,9 @@ pub use error_lines::{fault_line, usage_line};
 pub use fault::{TermArgument, ToolFault, UsageFault};
 pub use lint::lint_input;
 pub use reporting::run_report;
-pub use request::{Action, AnswerOptions, Invocation, OutputFormat, Progress, Request};
+pub use request::{
+    Action, AnswerOptions, AnswerReport, Invocation, OutputFormat, Progress, Request,
+};
 pub use split_options::{BlankNodes, SplitOptions, SplitOutput};
 pub use splitting::{SplitStop, split_inputs};
 pub use status::{process_status, status_of};

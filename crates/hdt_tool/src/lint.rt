@@ -1,5 +1,5 @@
 //! The command `lint`: reports every faulty line of a document.
-ghost use Rattle.std.specs.Prelude.{◌≡◌, ◌≢◌, ◌⊎◌, ◌+◌, false, true, IfOk, IfErr, IsErrOf, MatchResult, OnOk};
+ghost use Rattle.std.specs.Prelude.{◌≡◌, ◌≢◌, ◌⊎◌, ◌+◌, false, true, if◌then◌else◌, IfOk, IfErr, IsErrOf, MatchResult, OnOk};
 ghost use Rattle.std.specs.IoError.{error_kind};
 ghost use Rattle.hdt_wire.specs.Counted.{inner, failures};
 ghost use Rattle.hdt_tool.specs.ErrorLines.{fault_status};
@@ -9,7 +9,7 @@ ghost use Rattle.hdt_tool.specs.Status.{IsCommandStatus};
 use crate::error_context::Subject;
 use crate::fault::{ToolFault, file_fault, line_fault};
 use crate::files::{STDOUT_PATH, open_input, would_overwrite};
-use crate::status::{answers_status, done, print_error_line};
+use crate::status::{done, print_error_line};
 use hdt_terms::{LintFault, lint_document};
 use hdt_wire::Counted;
 use std::alloc::Global;
@@ -79,6 +79,20 @@ pub fn lint_input<R: Read, K: Write, T: Write>(
     Ok(is_any(count))
 }
 
+/// The status of `lint`: 1 if any line is faulty. Removes the line of progress, and prints the message of an error that
+/// ended it.
+fn lint_status(rt: &HostRuntime, subject: Subject<'_>, outcome: Result<bool, ToolFault>) -> u8
+    ensures { MatchResult outcome (λ faulty. result ≡ (if faulty then 1 else 0)) (λ fault. (result ≡ fault_status fault) ⊎ (result ≡ 4)) }
+{
+    match outcome {
+        Ok(faulty) => {
+            subject.session.clear();
+            u8::from(faulty)
+        }
+        Err(fault) => done(rt, subject, Err(fault)),
+    }
+}
+
 /// Lints the result of opening a document, and returns the status.
 fn run_lint<R: Read + Drop, K: Write, T: Write>(
     rt: &HostRuntime,
@@ -111,7 +125,7 @@ fn run_lint<R: Read + Drop, K: Write, T: Write>(
         Ok(input) => Counted::new(input),
         Err(why) => return done(rt, subject, Err(file_fault(&why, ToolFault::Read))),
     };
-    answers_status(
+    lint_status(
         rt,
         subject,
         lint_input(rt.alloc(), keep, most, &mut input, kept, reported),

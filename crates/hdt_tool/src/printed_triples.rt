@@ -3,15 +3,19 @@ ghost use Rattle.std.specs.Prelude.{◌≡◌, ◌<◌, ◌^◌, ◌++◌, ◌�
 ghost use Rattle.hdt_wire.specs.Control.{IsPrefixOf};
 ghost use Rattle.hdt_file.specs.TextWriting.{matches_if_given, limited};
 ghost use Rattle.hdt_file.specs.CachedTerms.{CachesTerms};
+ghost use Rattle.hdt_file.specs.SkippedLines.{HaveLines};
 ghost use Rattle.hdt_file.specs.LayoutView.{layout_view};
 ghost use Rattle.hdt_file.specs.GraphView.{graph_view};
 ghost use Rattle.hdt_triples.specs.Remaining.{remaining_matches};
+ghost use Rattle.hdt_tool.specs.TermReports.{kept_format};
 ghost use Rattle.hdt_tool.specs.TriplesText.{AppendsTriples, Finds, HasMatch, LacksMatch, PrintsFound, IsFindFault, PrintsTriples, IsTextFault, numbers_line, numbers_lines};
 
 use crate::fault::ToolFault;
 use crate::printed_strings::number_line;
 use crate::request::OutputFormat;
-use hdt_file::{DumpFault, Graph, Layout, TermWriter, append_graph_text, layout_text};
+use hdt_file::{
+    DumpFault, Graph, Layout, TermWriter, append_graph_text, append_kept_text, layout_text,
+};
 use hdt_seq::Steps;
 use hdt_triples::{Matches, Pattern};
 use hdt_wire::{put_decimal, truncate_on_error};
@@ -199,4 +203,26 @@ pub(crate) fn append_graph_triples(
             Ok(out.extend_from_slice(&line)?)
         }
     }
+}
+
+/// Appends the text of triples that have lines, or with `count` the line with their number. On error `out` is unchanged.
+pub(crate) fn append_kept_triples(
+    alloc: Global,
+    graph: &Graph<'_>,
+    triples: &[(u64, u64, u64)],
+    count: bool,
+    term_writer: &mut TermWriter,
+    out: &mut Vec<u8>,
+) -> Result<(), AllocError>
+    requires cached { CachesTerms (graph_view graph.now) term_writer.old }
+    requires lines { HaveLines (graph_view graph.now) triples.now }
+    ensures kept { CachesTerms (graph_view graph.now) term_writer.new }
+    ensures ok { OnOk result (AppendsTriples (kept_format count) (graph_view graph.now) triples.now out.old.items out.new.items) }
+    ensures left { OnErr result (out.new.items ≡ out.old.items) }
+{
+    if count {
+        let line = number_line(alloc, triples.len() as u64)?;
+        return out.extend_from_slice(&line);
+    }
+    append_kept_text(alloc, &graph.layout(), triples, term_writer, out)
 }

@@ -4,7 +4,7 @@ ghost use Rattle.std.specs.Prelude.{◌≡◌, ◌≢◌, ◌⊎◌, ◌+◌, �
 ghost use Rattle.std.specs.IoError.{error_kind};
 ghost use Rattle.hdt_wire.specs.Counted.{inner, failures};
 ghost use Rattle.hdt_tool.specs.ErrorLines.{fault_status};
-ghost use Rattle.hdt_tool.specs.Outcomes.{CountsNonTerms, HasInputFault, IsFaultOfInput, ReportsOwned, WritesOutputPrefix, WritesPrefixOwned, WritesReport, counted_line};
+ghost use Rattle.hdt_tool.specs.Outcomes.{CountsNonTerms, HasInputFault, IsFaultOfInput, ReportsOwned, WritesOutputPrefix, WritesPrefixOwned, WritesReport, counted_line, skipped_line};
 ghost use Rattle.hdt_tool.specs.Status.{IsCommandStatus};
 
 use crate::commands::{read_all, write_text};
@@ -49,18 +49,27 @@ pub fn run_report<R: Read, W: Write>(
     Ok(count)
 }
 
+/// Status 1, and the message with the number of triples that were skipped.
+pub(crate) fn skipped_line(alloc: Global, count: u64) -> Result<(u8, String), AllocError>
+    ensures status { IfOk result (λ said. said.0 ≡ 1) }
+    ensures line { IfOk result (λ said. string_bytes said.1 ≡ skipped_line count) }
+{
+    let line = format!(in alloc; "hdt: triples skipped: {count}")?;
+    Ok((1, line))
+}
+
 /// Status 1, and the message with the number of triples that were skipped, or of strings that are not terms.
 fn counted_line(alloc: Global, action: &Action, count: u64) -> Result<(u8, String), AllocError>
     ensures status { IfOk result (λ said. said.0 ≡ 1) }
     ensures line { IfOk result (λ said. string_bytes said.1 ≡ counted_line action.now count) }
 {
-    let line = match action {
-        Action::VerifyTerms { .. } => format!(in alloc;
-            "hdt: strings that are not terms: {count}"
-        )?,
-        _ => format!(in alloc; "hdt: triples skipped: {count}")?,
-    };
-    Ok((1, line))
+    match action {
+        Action::VerifyTerms { .. } => {
+            let text = format!(in alloc; "hdt: strings that are not terms: {count}")?;
+            Ok((1, text))
+        }
+        _ => skipped_line(alloc, count),
+    }
 }
 
 /// The status, and the message with this number, unless it is 0. (An error has its status and its message.)

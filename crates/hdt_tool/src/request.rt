@@ -26,6 +26,17 @@ pub struct AnswerOptions {
     pub raw: bool,
     /// The maximum length of a request line in bytes, without its line feed.
     pub longest: u32,
+    /// Whether triples with a string that is not a term are left out. It has no effect with [`OutputFormat::Numbers`].
+    pub skip: bool,
+}
+
+/// The outcome of the answers to requests.
+#[derive(Clone, Copy, Debug, Drop)]
+pub struct AnswerReport {
+    /// Whether any answer is an error.
+    pub has_errors: bool,
+    /// The number of triples that were left out.
+    pub skipped: u64,
 }
 
 /// A command.

@@ -4,7 +4,7 @@
 //! | status | case |
 //! |---|---|
 //! | 0 | success, or help or an explanation was printed |
-//! | 1 | the input is not valid, a look-up found nothing, or an answer is an error |
+//! | 1 | the input is not valid, a look-up found nothing, an answer is an error, or triples were left out |
 //! | 2 | the command line is not valid, `build` or `lint` would write to its input, or `split` to a FOLDER that exists |
 //! | 3 | reading or writing failed |
 //! | 4 | out of memory |
@@ -14,9 +14,10 @@ ghost use Rattle.std.specs.Vec.Iter.{into_iter_items};
 ghost use Rattle.hdt_wire.specs.Counted.{inner, failures};
 ghost use Rattle.hdt_tool.specs.Outcomes.{InterruptsStringsOwned, HasInputFault, HasOut, CompletesOwned, IsReadOnly, WritesPrefixOwned};
 ghost use Rattle.hdt_tool.specs.CommandLine.{IsRefused, IsUsageText, ParsesToInvocation};
-ghost use Rattle.hdt_tool.specs.Dialogue.{AnswersOverFile, AnswersOverFileUntilFault};
+ghost use Rattle.hdt_tool.specs.Dialogue.{AnswersOverFile, AnswersOverFileUntilFault, plain_report};
+ghost use Rattle.hdt_tool.specs.declared.request.AnswerReport.{AnswerReport};
 ghost use Rattle.hdt_tool.specs.ErrorLines.{fault_status};
-ghost use Rattle.hdt_tool.specs.Status.{Ends, IsBuild, IsCommandStatus, IsRefusalStatus};
+ghost use Rattle.hdt_tool.specs.Status.{Ends, IsBuild, IsCommandStatus, IsRefusalStatus, IsReportStatus};
 
 use crate::command_line::parse_invocation;
 use crate::commands::{answer_file, run_with_capacity};
@@ -26,8 +27,8 @@ use crate::fault::{ToolFault, UsageFault, file_fault};
 use crate::files::{known_size, open_input, output_path, would_overwrite};
 use crate::lint::lint_path;
 use crate::output_file::make_file_at;
-use crate::reporting::run_report_on_streams;
-use crate::request::{Action, AnswerOptions, Invocation, Request};
+use crate::reporting::{run_report_on_streams, skipped_line};
+use crate::request::{Action, AnswerOptions, AnswerReport, Invocation, Request};
 use crate::session::Session;
 use crate::split_files::run_split;
 use hdt_wire::Counted;
@@ -218,19 +219,22 @@ fn writes_over_its_input(rt: &HostRuntime, request: &Request, path: &str) -> boo
     }
 }
 
-/// The status of `answer`: 1 if any answer is an error. Removes the line of progress, and prints the message of an error
-/// that ended it. The same for `lint` and faulty lines.
-pub(crate) fn answers_status(
+/// The status of `answer`: 1 if any answer is an error or triples were left out. Removes the line of progress, and prints
+/// the number of triples left out, or the message of an error that ended the answers.
+fn answers_status(
     rt: &HostRuntime,
     subject: Subject<'_>,
-    outcome: Result<bool, ToolFault>,
+    outcome: Result<AnswerReport, ToolFault>,
 ) -> u8
-    ensures { MatchResult outcome (λ faulty. result ≡ (if faulty then 1 else 0)) (λ fault. (result ≡ fault_status fault) ⊎ (result ≡ 4)) }
+    ensures { MatchResult outcome (λ report. IsReportStatus report result) (λ fault. (result ≡ fault_status fault) ⊎ (result ≡ 4)) }
 {
     match outcome {
-        Ok(faulty) => {
+        Ok(report) => {
             subject.session.clear();
-            u8::from(faulty)
+            if report.skipped > 0 {
+                return report_line(rt, skipped_line(rt.alloc(), report.skipped));
+            }
+            u8::from(report.has_errors)
         }
         Err(fault) => done(rt, subject, Err(fault)),
     }
@@ -247,19 +251,20 @@ fn run_answer<F: Read + Drop, R: Read, W: Write>(
     out: &mut Counted<W>,
 ) -> u8
     ensures statuses { IsCommandStatus result }
-    // 0: `out` has gained the answers to all requests, none of which is an error.
+    // 0: `out` has gained the answers to all requests, none of which is an error, and no triple was left out.
     ensures done { result ≡ 0 → MatchResult file (λ file. AnswersOverFile options (F.remaining file) (R.remaining (inner input.old))
-        (W.contents (inner out.old)) (W.contents (inner out.new)) false) (λ _. ⊥) }
+        (W.contents (inner out.old)) (W.contents (inner out.new)) (plain_report false)) (λ _. ⊥) }
     ensures well { result ≡ 0 → failures out.new ≡ failures out.old }
     // If the file could not be opened: 4 if its error is `OutOfMemory`, else 3; or 4 if there is no memory for the
     // message.
     ensures memory { IfErr file (λ e. error_kind e ≡ ErrorKind.OutOfMemory → result ≡ 4) }
     ensures unopened { IfErr file (λ e. error_kind e ≢ ErrorKind.OutOfMemory → (result ≡ 3) ⊎ (result ≡ 4)) }
-    // Otherwise nothing was written; or the status is 1, and one of the answers is an error; or an error with this
-    // status, or lack of memory for its message, ended the answers.
+    // Otherwise nothing was written; or all answers, and one of them is an error (status 1), or they leave out triples (1,
+    // or 4 if there is no memory for the message); or an error with this status, or lack of memory for its message, ended
+    // the answers.
     ensures stopped { result ≢ 0 → (out.new ≡ out.old)
-        ⊎ ((result ≡ 1) × MatchResult file (λ file. AnswersOverFile options (F.remaining file) (R.remaining (inner input.old))
-        (W.contents (inner out.old)) (W.contents (inner out.new)) true) (λ _. ⊥))
+        ⊎ ((report : AnswerReport) × IsReportStatus report result × MatchResult file (λ file. AnswersOverFile options (F.remaining file)
+        (R.remaining (inner input.old)) (W.contents (inner out.old)) (W.contents (inner out.new)) report) (λ _. ⊥))
         ⊎ ((e : ToolFault) × ((result ≡ fault_status e) ⊎ (result ≡ 4)) × MatchResult file (λ file. AnswersOverFileUntilFault options (F.remaining file)
         (R.remaining (inner input.old)) (R.remaining (inner input.new)) (W.contents (inner out.old)) (W.contents (inner out.new))
         (failures out.old) (failures out.new) e) (λ _. ⊥)) }

@@ -132,11 +132,11 @@ block_size_option = record (option_arg (codes "block-size") (codes "16")) { pars
 abbrev pub longest_request_option : Rule
 longest_request_option = record (option_arg (codes "longest-request") (codes "1048576")) { parser = Some (parser.Signed (pos 0) (pos 4294967295)) }
 
--- `answer FILE`, with `--raw`, `--numbers`, `--count`, `--most` and `--longest-request`
+-- `answer FILE`, with `--raw`, `--numbers`, `--count`, `--skip-non-terms`, `--most` and `--longest-request`
 abbrev pub answer_command : App
 answer_command =
-    with_rule (with_rule (with_rule (with_rule (with_rule (file_command (codes "answer")) (flag_arg (codes "raw"))) (flag_arg (codes "numbers")))
-    (flag_arg (codes "count"))) most_option) longest_request_option
+    with_rule (with_rule (with_rule (with_rule (with_rule (with_rule (file_command (codes "answer")) (flag_arg (codes "raw"))) (flag_arg (codes "numbers")))
+    (flag_arg (codes "count"))) skip_flag) most_option) longest_request_option
 
 -- A command that writes a file, with the arguments IN and OUT, `--verbose` and `--no-progress`.
 abbrev pub in_out_command : Text → App

@@ -208,7 +208,7 @@ fn new_rewrite_command<'a>(alloc: Global) -> Result<Command<'a>, AllocError>
     with_progress(alloc, command)
 }
 
-/// `answer FILE`, with `--raw`, `--numbers`, `--count`, `--most` and `--longest-request`.
+/// `answer FILE`, with `--raw`, `--numbers`, `--count`, `--skip-non-terms`, `--most` and `--longest-request`.
 fn new_answer_command<'a>(alloc: Global) -> Result<Command<'a>, AllocError>
     ensures shape { IfOk result (λ c. app_of c ≡ answer_command) }
     ensures local { IfOk result (λ c. (fields_of c).has_globals ≡ false) }
@@ -223,6 +223,8 @@ fn new_answer_command<'a>(alloc: Global) -> Result<Command<'a>, AllocError>
     let command = with_flag(alloc, command, "raw", RAW_REQUESTS_HELP)?;
     let command = with_flag(alloc, command, "numbers", NUMBERS_HELP)?;
     let command = with_flag(alloc, command, "count", COUNT_HELP)?;
+    let skip = "skip-non-terms";
+    let command = with_flag(alloc, command, skip, SKIP_HELP)?;
     let command = with_most(alloc, command)?;
     with_longest_request(alloc, command)
 }

@@ -151,7 +151,11 @@ standard input, which has the requests.
 
 The answer to an invalid request is a comment, `# line L column C: N NAME`, and an empty line.
 If a string has no form in N-Triples, the answer is `# ROLE ID is not a term`. Later requests
-are answered, and the exit status at the end is 1.";
+are answered, and the exit status at the end is 1.
+
+With --skip-non-terms triples with a string that has no form in N-Triples are left out. The number
+of the triples left out of all answers is on standard error at the end, and the exit status 1 if
+there are any. It has no effect with --numbers.";
 
 pub(crate) const RAW_REQUESTS_HELP: &str = "Take the terms of requests as dictionary strings";
 

@@ -9,7 +9,7 @@ returns-clause-ok g c =
     let graph = graph_view c.in_ok-graph.graph in
     let encoded = subst (λ (b : List ℕ). IsLayout b graph) c.deref.ensures.value c.in_ok-graph.ensures.found in
     IfOk-weaker c.answer_requests.result _ _
-    (λ faulty h. record { bytes = c.in_ok-bytes.bytes.items; read = c.in_ok-bytes.ensures.ok; holds = record { graph = graph; encoded = encoded; holds = h } })
+    (λ report h. record { bytes = c.in_ok-bytes.bytes.items; read = c.in_ok-bytes.ensures.ok; holds = record { graph = graph; encoded = encoded; holds = h } })
     c.answer_requests.ensures.ok
 
 pub returns-clause-stopped : goal.returns-clause-stopped

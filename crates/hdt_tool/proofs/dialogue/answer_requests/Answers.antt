@@ -17,16 +17,24 @@ returns-in_err-term_writer-clause-stopped g c =
     let p = err_from_is_err_and c.from_residual-in_err-term_writer.result c.from_residual-in_err-term_writer.ensures.1 in
     rw (p.1, p.2) (nothing_answered c.lines_so_far.ensures.begins _ _ _ _ _ _)
 
+pub returns-in_err-flags-clause-stopped : goal.returns-in_err-flags-clause-stopped
+returns-in_err-flags-clause-stopped g c =
+    let p = err_from_is_err_and c.from_residual-in_err-flags.result c.from_residual-in_err-flags.ensures.1 in
+    rw (p.1, p.2) (nothing_answered c.lines_so_far.ensures.begins _ _ _ _ _ _)
+
+pub add_answer-requires-clause-flags : goal.add_answer-requires-clause-flags
+add_answer-requires-clause-flags g c = c.lines.invariant.11
+
 pub lines-init : goal.lines-init
 lines-init g c =
     let b = begun c.lines_so_far.ensures.begins c.in_ok-lines.lines (g.R.Read.remaining (inner c.args.input.now)) c.in_ok-lines.ensures in
-    ([], [], b.0, (refl, refl), ([], sym c.new-kept.ensures.items, Appends-nil _), refl, refl, refl, b.1, c.in_ok-term_writer.ensures _, inl c.new-kept.ensures.items)
+    ([], [], b.0, (c.plain_report-report.ensures, refl), ([], sym c.new-kept.ensures.items, Appends-nil _), refl, refl, refl, b.1, c.in_ok-term_writer.ensures _, inl c.new-kept.ensures.items, c.in_ok-flags.ensures)
 
 pub returns-in_err-write_pending-in-Ok-false-clause-stopped : goal.returns-in_err-write_pending-in-Ok-false-clause-stopped
 returns-in_err-write_pending-in-Ok-false-clause-stopped g c =
     let inv = c.lines.invariant in
     let p = err_from_is_err_and c.from_residual-in_err-write_pending-in-Ok-false.result c.from_residual-in_err-write_pending-in-Ok-false.ensures.1 in
-    rw (p.1, p.2) (cut_kept _ _ _ _ _ _ _ inv.0 c.lines.faulty inv.1 c.lines.kept.items c.lines.count _ _ _ c.in_err-write_pending-in-Ok-false.field-0.0
+    rw (p.1, p.2) (cut_kept _ _ _ _ _ _ _ inv.0 c.lines.report inv.1 c.lines.kept.items c.lines.count _ _ _ c.in_err-write_pending-in-Ok-false.field-0.0
     (gone_some _ _ _ _ inv.2) inv.3 inv.4 inv.5 inv.6 c.in_err-write_pending-in-Ok-false.ensures.err)
 
 pub returns-in-Ok-false-clause-ok : goal.returns-in-Ok-false-clause-ok
@@ -44,13 +52,13 @@ pub returns-in_err-write_pending-in-Err-clause-stopped : goal.returns-in_err-wri
 returns-in_err-write_pending-in-Err-clause-stopped g c =
     let inv = c.lines.invariant in
     let p = err_from_is_err_and c.from_residual-in_err-write_pending-in-Err.result c.from_residual-in_err-write_pending-in-Err.ensures.1 in
-    rw (p.1, p.2) (cut_kept _ _ _ _ _ _ _ inv.0 c.lines.faulty inv.1 c.lines.kept.items c.lines.count _ _ _ c.in_err-write_pending-in-Err.field-0.0
+    rw (p.1, p.2) (cut_kept _ _ _ _ _ _ _ inv.0 c.lines.report inv.1 c.lines.kept.items c.lines.count _ _ _ c.in_err-write_pending-in-Err.field-0.0
     (gone_some _ _ _ _ inv.2) inv.3 inv.4 inv.5 inv.6 c.in_err-write_pending-in-Err.ensures.err)
 
 pub returns-in-Err-clause-stopped : goal.returns-in-Err-clause-stopped
 returns-in-Err-clause-stopped g c =
     let inv = c.lines.invariant in
-    unread_line _ _ c.lines.lines _ _ _ _ _ inv.0 c.lines.faulty inv.1 _ _ c.in-Err.fault c.line_fault.result inv.2 inv.3
+    unread_line _ _ c.lines.lines _ _ _ _ _ inv.0 c.lines.report inv.1 _ _ c.in-Err.fault c.line_fault.result inv.2 inv.3
     (gained_all _ _ _ inv.1 c.lines.kept.items inv.4 c.in_ok-write_pending-in-Err.ensures.ok) (c.in_ok-write_pending-in-Err.ensures.well ∙ inv.6)
     c.line_fault.ensures.stop (c.in-Err.ensures.fault _ inv.0 inv.2)
 
@@ -60,40 +68,41 @@ returns-in_err-count-in-Ok-clause-stopped g c =
     let inv = c.lines.invariant in
     let more = c.next_line.ensures.more _ inv.0 inv.2 (c.in-Ok-true.is ∙ ap Ok c.in-Ok-true.field-0-test) in
     let this = rw (c.line_number-line.ensures, c.deref.ensures.value) at c.in-Ok.ensures.ok in
-    let whole = front_answered _ c.args.options (line_number c.next_line.new.lines) _ more.0 c.in-Ok.is_fault this.0 more.1 this.1 in
-    rw (p.1, p.2) (cut_answer _ _ _ _ _ _ _ inv.0 (line_number c.next_line.new.lines, more.0) c.lines.faulty c.in-Ok.is_fault inv.1 c.lines.kept.items this.0 c.line_answer.new.out.items c.len-start.result c.lines.count _ _ _
-    c.in_err-count-in-Ok.field-0.0 (gone_some _ _ _ _ inv.2) (gone_some _ _ _ _ more.2) inv.3 whole inv.4 this.2 (c.len-start.ensures ∙ c.lines.kept.ok.0) inv.5 inv.6 c.in_err-count-in-Ok.ensures.err)
+    let whole = front_answered _ c.args.options (line_number c.next_line.new.lines) _ more.0 this.0 this.1 more.1 this.2 in
+    rw (p.1, p.2) (cut_answer _ _ _ _ _ _ _ inv.0 (line_number c.next_line.new.lines, more.0) c.lines.report this.0 inv.1 c.lines.kept.items this.1 c.add_answer.new.out.items c.len-start.result c.lines.count _ _ _
+    c.in_err-count-in-Ok.field-0.0 (gone_some _ _ _ _ inv.2) (gone_some _ _ _ _ more.2) inv.3 whole inv.4 this.3 (c.len-start.ensures ∙ c.lines.kept.ok.0) inv.5 inv.6 c.in_err-count-in-Ok.ensures.err)
 
 pub lines-preserved : goal.lines-preserved
 lines-preserved g c =
     let inv = c.lines.invariant in
     let more = c.next_line.ensures.more _ inv.0 inv.2 (c.in-Ok-true.is ∙ ap Ok c.in-Ok-true.field-0-test) in
     let this = rw (c.line_number-line.ensures, c.deref.ensures.value) at c.in-Ok.ensures.ok in
-    let answer = this.0 in
-    let whole = front_answered _ c.args.options (line_number c.next_line.new.lines) _ more.0 c.in-Ok.is_fault answer more.1 this.1 in
+    let answer = this.1 in
+    let whole = front_answered _ c.args.options (line_number c.next_line.new.lines) _ more.0 this.0 answer more.1 this.2 in
     let line : ℕ × List ℕ = (line_number c.next_line.new.lines, more.0) in (
       inv.0 ++ line ∷ [],
       inv.1 ++ answer,
       more.2,
-      rw c.either-faulty.ensures (lines_on _ _ inv.0 line c.lines.faulty c.in-Ok.is_fault inv.1 answer inv.3 whole),
-      gained_on _ _ _ (inv.1 ++ answer) _ _ (gained_answer _ _ inv.1 c.lines.kept.items answer _ inv.4 this.2) c.in_ok-count-in-Ok.ensures.ok,
-      omega (arith, c.in_ok-count-in-Ok.ensures.count, inv.5, length-append inv.1 answer, ap length this.2, length-append c.lines.kept.items answer),
+      rw this.4 (lines_on _ c.args.options inv.0 line c.lines.report this.0 inv.1 answer inv.3 whole),
+      gained_on _ _ _ (inv.1 ++ answer) _ _ (gained_answer _ _ inv.1 c.lines.kept.items answer _ inv.4 this.3) c.in_ok-count-in-Ok.ensures.ok,
+      omega (arith, c.in_ok-count-in-Ok.ensures.count, inv.5, length-append inv.1 answer, ap length this.3, length-append c.lines.kept.items answer),
       c.in_ok-count-in-Ok.ensures.well ∙ inv.6,
       c.in-Ok-true.ensures.count ∙ inv.7,
       c.in-Ok-true.ensures.well,
       c.in-Ok.ensures.kept,
       kept_or_held _ c.has_buffered_line.result c.in_ok-count-in-Ok.ensures.none c.has_buffered_line.ensures.yes,
+      inv.11,
     )
 
-pub returns-in_err-write_pending-in-Err-line_answer-clause-stopped : goal.returns-in_err-write_pending-in-Err-line_answer-clause-stopped
-returns-in_err-write_pending-in-Err-line_answer-clause-stopped g c =
+pub returns-in_err-write_pending-in-Err-add_answer-clause-stopped : goal.returns-in_err-write_pending-in-Err-add_answer-clause-stopped
+returns-in_err-write_pending-in-Err-add_answer-clause-stopped g c =
     let inv = c.lines.invariant in
-    let p = err_from_is_err_and c.from_residual-in_err-write_pending-in-Err-line_answer.result c.from_residual-in_err-write_pending-in-Err-line_answer.ensures.1 in
-    rw (p.1, p.2) (cut_kept _ _ _ _ _ _ _ inv.0 c.lines.faulty inv.1 c.lines.kept.items c.lines.count _ _ _ c.in_err-write_pending-in-Err-line_answer.field-0.0
-    (gone_some _ _ _ _ inv.2) inv.3 inv.4 inv.5 inv.6 (rw c.in-Err-line_answer.ensures.left at c.in_err-write_pending-in-Err-line_answer.ensures.err))
+    let p = err_from_is_err_and c.from_residual-in_err-write_pending-in-Err-add_answer.result c.from_residual-in_err-write_pending-in-Err-add_answer.ensures.1 in
+    rw (p.1, p.2) (cut_kept _ _ _ _ _ _ _ inv.0 c.lines.report inv.1 c.lines.kept.items c.lines.count _ _ _ c.in_err-write_pending-in-Err-add_answer.field-0.0
+    (gone_some _ _ _ _ inv.2) inv.3 inv.4 inv.5 inv.6 (rw c.in-Err-add_answer.ensures.left at c.in_err-write_pending-in-Err-add_answer.ensures.err))
 
-pub returns-in-Err-line_answer-clause-stopped : goal.returns-in-Err-line_answer-clause-stopped
-returns-in-Err-line_answer-clause-stopped g c =
+pub returns-in-Err-add_answer-clause-stopped : goal.returns-in-Err-add_answer-clause-stopped
+returns-in-Err-add_answer-clause-stopped g c =
     let inv = c.lines.invariant in
-    refused_behind _ _ _ _ _ _ inv.0 c.lines.faulty inv.1 _ _ _ (gone_some _ _ _ _ inv.2) inv.3
-    (gained_all _ _ _ inv.1 c.lines.kept.items inv.4 (rw c.in-Err-line_answer.ensures.left at c.in_ok-write_pending-in-Err-line_answer.ensures.ok)) (c.in_ok-write_pending-in-Err-line_answer.ensures.well ∙ inv.6) refl
+    refused_behind _ _ _ _ _ _ inv.0 c.lines.report inv.1 _ _ _ (gone_some _ _ _ _ inv.2) inv.3
+    (gained_all _ _ _ inv.1 c.lines.kept.items inv.4 (rw c.in-Err-add_answer.ensures.left at c.in_ok-write_pending-in-Err-add_answer.ensures.ok)) (c.in_ok-write_pending-in-Err-add_answer.ensures.well ∙ inv.6) refl

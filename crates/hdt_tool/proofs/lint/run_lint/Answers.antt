@@ -3,7 +3,7 @@ use Rattle.std.proofs.lemmas.Result.{IfErr-weaker, IfOk-weaker}
 use Rattle.hdt_wire.specs.Counted.{inner}
 use Rattle.hdt_tool.specs.Linting.{Lints, LintsOwnedUntilError}
 use Rattle.hdt_tool.specs.declared.fault.ToolFault.{ToolFault}
-use Rattle.hdt_tool.proofs.Statuses.{answers_done, answers_status, answers_stopped, command_status, if_done, opened, refused_memory, refused_unopened}
+use Rattle.hdt_tool.proofs.Statuses.{command_status, if_done, lint_done, lint_status, lint_stopped, opened, refused_memory, refused_unopened}
 use Rattle.hdt_tool.proofs.lint.run_lint.Goals as goal
 
 pub returns-in-Err-clause-statuses : goal.returns-in-Err-clause-statuses
@@ -21,7 +21,7 @@ returns-in-Err-clause-unopened g c =
     refused_unopened _ c.args.file c.in-Err.why c.file_fault.result c.done.result c.in-Err.is c.file_fault.ensures.either c.done.ensures
 
 pub returns-clause-statuses : goal.returns-clause-statuses
-returns-clause-statuses g c = answers_status c.lint_input.result c.answers_status.result c.answers_status.ensures
+returns-clause-statuses g c = lint_status c.lint_input.result c.lint_status.result c.lint_status.ensures
 
 pub returns-clause-done : goal.returns-clause-done
 returns-clause-done g c is =
@@ -31,10 +31,10 @@ returns-clause-done g c is =
     let reported = g.T.Write.contents (inner c.args.reported.now) in
     let more_reported = g.T.Write.contents (inner c.lint_input.new.reported) in
     opened (λ input. Lints c.args.keep c.args.most (left input) kept more_kept reported more_reported false) c.args.file c.in-Ok.input (inner c.new-input.result) c.in-Ok.is c.new-input.ensures.inner
-    (answers_done _ c.lint_input.result c.answers_status.result c.answers_status.ensures c.lint_input.ensures.ok is)
+    (lint_done _ c.lint_input.result c.lint_status.result c.lint_status.ensures c.lint_input.ensures.ok is)
 
 pub returns-clause-well : goal.returns-clause-well
-returns-clause-well g c is = if_done _ c.lint_input.result c.answers_status.result c.answers_status.ensures c.lint_input.ensures.writers_well is
+returns-clause-well g c is = if_done _ c.lint_input.result c.lint_status.result c.lint_status.ensures c.lint_input.ensures.writers_well is
 
 pub returns-clause-stopped : goal.returns-clause-stopped
 returns-clause-stopped g c not =
@@ -55,4 +55,4 @@ returns-clause-stopped g c not =
     IfErr-weaker c.lint_input.result _ (λ e. Nothing ⊎ Cut e)
     (λ e h. inr (opened (λ input. LintsOwnedUntilError c.args.keep (left input) kept more_kept reported more_reported e) c.args.file c.in-Ok.input (inner c.new-input.result)
     c.in-Ok.is c.new-input.ensures.inner (record { given = after; lints = h }))) c.lint_input.ensures.stopped in
-    answers_stopped {A = Nothing} Whole Cut c.lint_input.result c.answers_status.result c.answers_status.ensures whole cut not
+    lint_stopped {A = Nothing} Whole Cut c.lint_input.result c.lint_status.result c.lint_status.ensures whole cut not

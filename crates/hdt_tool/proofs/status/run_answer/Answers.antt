@@ -1,7 +1,7 @@
 use Rattle.std.proofs.Common.{◌≡◌, Err, MatchResult, false, inl, inr}
 use Rattle.std.proofs.lemmas.Result.{IfErr-weaker, IfOk-weaker}
 use Rattle.hdt_wire.specs.Counted.{inner, failures}
-use Rattle.hdt_tool.specs.Dialogue.{AnswersOverFile, AnswersOverFileUntilFault}
+use Rattle.hdt_tool.specs.Dialogue.{AnswersOverFile, AnswersOverFileUntilFault, plain_report}
 use Rattle.hdt_tool.proofs.Statuses.{answers_done, answers_status, answers_stopped, command_status, if_done, opened, refused_memory, refused_unopened}
 use Rattle.hdt_tool.proofs.status.run_answer.Goals as goal
 
@@ -28,7 +28,7 @@ returns-clause-done g c is =
     let input = g.R.Read.remaining (inner c.args.input.now) in
     let old = g.W.Write.contents (inner c.args.out.now) in
     let new = g.W.Write.contents (inner c.answer_file.new.out) in
-    opened (λ file. AnswersOverFile c.args.options (left file) input old new false) c.args.file c.in-Ok.file (inner c.new-file.result) c.in-Ok.is c.new-file.ensures.inner
+    opened (λ file. AnswersOverFile c.args.options (left file) input old new (plain_report false)) c.args.file c.in-Ok.file (inner c.new-file.result) c.in-Ok.is c.new-file.ensures.inner
     (record {
       after = left (inner c.answer_file.new.file);
       answers = answers_done _ c.answer_file.result c.answers_status.result c.answers_status.ensures c.answer_file.ensures.ok is;
@@ -48,8 +48,8 @@ returns-clause-stopped g c not =
     let f = failures c.args.out.now in
     let g' = failures c.answer_file.new.out in
     let whole =
-    IfOk-weaker c.answer_file.result _ (λ faulty. MatchResult c.args.file (λ file. AnswersOverFile c.args.options (left file) input old new faulty) (λ _. ⊥))
-    (λ faulty h. opened (λ file. AnswersOverFile c.args.options (left file) input old new faulty) c.args.file c.in-Ok.file (inner c.new-file.result) c.in-Ok.is
+    IfOk-weaker c.answer_file.result _ (λ report. MatchResult c.args.file (λ file. AnswersOverFile c.args.options (left file) input old new report) (λ _. ⊥))
+    (λ report h. opened (λ file. AnswersOverFile c.args.options (left file) input old new report) c.args.file c.in-Ok.file (inner c.new-file.result) c.in-Ok.is
     c.new-file.ensures.inner (record { after = after; answers = h })) c.answer_file.ensures.ok in
     let cut =
     IfErr-weaker c.answer_file.result _ _ (λ e h. elim h [
@@ -57,4 +57,4 @@ returns-clause-stopped g c not =
       | inr some ↦ inr (opened (λ file. AnswersOverFileUntilFault c.args.options (left file) input given old new f g' e) c.args.file c.in-Ok.file (inner c.new-file.result)
           c.in-Ok.is c.new-file.ensures.inner (record { after = after; answers = some }))
     ]) c.answer_file.ensures.stopped in
-    answers_stopped _ _ c.answer_file.result c.answers_status.result c.answers_status.ensures whole cut not
+    answers_stopped _ _ c.answer_file.result c.answers_status.result c.answers_status.ensures whole cut
