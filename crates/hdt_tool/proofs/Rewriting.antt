@@ -37,4 +37,3 @@ same_error {T} {U} a b e = let is : a ≡ b = cc in ap Err is
 -- A success, or a write error.
 pub not_error : {T P : Type 0} (x : T) (e : ToolFault) → IsErrOf {T = T} (Ok x) e → P
 not_error {T} {P} x e is = absurd cc
-
