@@ -138,7 +138,7 @@ def test_errors_are_not_remembered(tmp_path: Path, client: Any) -> None:
         assert fault.value.file == manifest.parts[1].file
 
 
-@pytest.mark.parametrize("where", ["hdt.parts._build.split", "hdt.build", "hdt.parts._build.Part"])
+@pytest.mark.parametrize("where", ["hdt.parts._build.split", "hdt.parts._build.built", "hdt.parts._build.Part"])
 def test_worker_that_dies_in_a_build(tmp_path: Path, client: Any, expected: parts.Manifest, where: str) -> None:
     """In a split, before a part is built, and after that: its task is done by another one."""
     both(client)
@@ -180,7 +180,7 @@ def test_worker_that_is_believed_dead(tmp_path: Path, expected: parts.Manifest) 
     flag = tmp_path / "in.flag"
     # (a worker that is only slow may take some seconds to say that it lives)
     with cluster(tmp_path / "in.dask", **{"distributed.scheduler.worker-ttl": "20s"}) as client:
-        client.register_worker_plugin(Interrupt("hdt.build", str(flag), signal.SIGSTOP), name="stops")
+        client.register_worker_plugin(Interrupt("hdt.parts._build.built", str(flag), signal.SIGSTOP), name="stops")
         flag.touch()
         found = parts.build([tmp_path / "in0.nt"], tmp_path / "out", 3, client.get_executor())
         assert Path(f"{flag}.pid").exists()
@@ -192,7 +192,7 @@ def test_worker_that_is_believed_dead(tmp_path: Path, expected: parts.Manifest) 
 def test_work_that_kills_each_worker(tmp_path: Path, own: Any, expected: parts.Manifest) -> None:
     """It is an error that says so, and there is no folder."""
     client, flag = own, tmp_path / "in.always"
-    client.register_worker_plugin(Interrupt("hdt.build", str(flag), signal.SIGKILL), name="always")
+    client.register_worker_plugin(Interrupt("hdt.parts._build.built", str(flag), signal.SIGKILL), name="always")
     flag.touch()
     with pytest.raises(parts.WorkerDied, match=r"part-0000.\.hdt: the processes that ran it died \(KilledWorker\)"):
         parts.build([tmp_path / "in0.nt"], tmp_path / "out", 3, client.get_executor())
