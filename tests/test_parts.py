@@ -11,6 +11,7 @@ import sys
 import threading
 import time
 import zlib
+from concurrent.futures import ThreadPoolExecutor
 from pathlib import Path
 from typing import Any, Optional
 from unittest import mock
@@ -308,13 +309,15 @@ def test_options(tmp_path: Path) -> None:
         ({"parts": 0}, ValueError), ({"parts": 65_537}, ValueError), ({"parts": "2"}, TypeError),
         ({"block_size": 0}, ValueError), ({"block_size": 65_536}, ValueError), ({"blank_nodes": "both"}, ValueError),
         ({"base": "relative"}, ValueError), ({"inputs": paths[0]}, TypeError), ({"inputs": str(paths[0])}, TypeError),
-        ({"inputs": []}, hdt.NoTriples),
+        ({"inputs": []}, hdt.NoTriples), ({"executor": ThreadPoolExecutor}, TypeError),
+        ({"folder": tmp_path / "none/out"}, FileNotFoundError),
     ]
     for options, error in cases:
-        with pytest.raises(error):
+        with pytest.raises(error) as found:
             given_options: dict[str, Any] = {"inputs": paths, "folder": tmp_path / "out", "parts": 2, **options}
             parts.build(**given_options)
         assert nothing_but(tmp_path)
+    assert getattr(found.value, "filename") == str(tmp_path / "none")
 
 
 # ---- blank nodes

@@ -106,6 +106,8 @@ def check_equal(folder: Path, found: parts.Manifest, expected: parts.Manifest) -
 
 def test_same_answers(tmp_path: Path, client: Any, expected: parts.Manifest) -> None:
     """It builds the same files, and finds what one file has; an error is that of one build."""
+    with pytest.raises(TypeError, match=r"not a Client; a Dask client has it as client.get_executor\(\)"):
+        parts.open(tmp_path / "expected", client)
     executor = client.get_executor()
     with small(5_000, 5_000):
         check_equal(tmp_path, parts.build([tmp_path / "in0.nt"], tmp_path / "out", 3, executor), expected)

@@ -26,7 +26,7 @@ from hdt._files import built
 from hdt._library import Made
 from hdt.parts import _inputs
 from hdt.parts._errors import InputFault
-from hdt.parts._executor import Task, results
+from hdt.parts._executor import Task, check, results
 from hdt.parts._inputs import Range
 from hdt.parts._manifest import MOST_PARTS, Manifest, Part, base_of, file_of
 from hdt.parts._split import lines_of, split
@@ -58,11 +58,11 @@ def build(
     subject has one (`part_of`). Equal graphs give equal files, whatever the inputs, their order and the executor. The
     folder is made under another name beside it, and is either complete or not there.
 
-    `executor` runs the tasks: any of `concurrent.futures`, or one with its interface, as Dask's `Client.get_executor`
-    gives. Its processes have to see the inputs and the folder by the same paths. Without one, this process runs them,
-    one after another. `blank_nodes="one"` says that the inputs are pieces of one document, so a label is one node in
-    all of them; `"apart"` that each is a document of its own: labels of the first input get the prefix `f0_`, those of
-    the second one `f1_`. Without it, two inputs with blank nodes are an error. `base` and `block_size` are those of
+    `executor` runs the tasks: one of `concurrent.futures`, or derived from it, as Dask's `Client.get_executor` gives.
+    Its processes have to see the inputs and the folder by the same paths. Without one, this process runs them, one
+    after another. `blank_nodes="one"` says that the inputs are pieces of one document, so a label is one node in all of
+    them; `"apart"` that each is a document of its own: labels of the first input get the prefix `f0_`, those of the
+    second one `f1_`. Without it, two inputs with blank nodes are an error. `base` and `block_size` are those of
     `hdt.build`; the base of a part has `#part-0-of-8` after it.
 
     Errors: `InputFault` with the first error of the inputs, in their order; `hdt.NoTriples`; FileExistsError;
@@ -77,6 +77,7 @@ def build(
         raise TypeError("inputs are paths, not one path")
     names = [os.fsdecode(path) for path in inputs]
     count, size = operator.index(parts), operator.index(block_size)
+    check(executor)
     if blank_nodes not in (None, "one", "apart"):
         raise ValueError('blank_nodes is "one", "apart" or None')
     if not 1 <= count <= MOST_PARTS:
@@ -86,6 +87,7 @@ def build(
     target = os.path.abspath(os.fsdecode(folder))
     if os.path.lexists(target):
         raise FileExistsError(f"{target} is there already")
+    os.stat(os.path.dirname(target))  # (an error names the folder that is missing)
     beside = f"{target}.unfinished-{secrets.token_hex(8)}"
     os.mkdir(beside)
     try:
