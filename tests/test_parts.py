@@ -297,8 +297,9 @@ def test_inputs_that_cannot_be_read(tmp_path: Path) -> None:
         with pytest.raises(error, match=told):
             parts.build([tmp_path / name], tmp_path / "out", 2)
     os.mkfifo(tmp_path / "in.pipe")
-    with pytest.raises(ValueError, match="in.pipe is no regular file"):
-        parts.build([tmp_path / "in.pipe"], tmp_path / "out", 2)
+    for name in ("/dev/null", str(tmp_path / "in.pipe")):
+        with pytest.raises(ValueError, match=f"{name} is no regular file"):
+            parts.build([name], tmp_path / "out", 2)
     assert nothing_but(tmp_path)
 
 
@@ -318,6 +319,10 @@ def test_options(tmp_path: Path) -> None:
             parts.build(**given_options)
         assert nothing_but(tmp_path)
     assert getattr(found.value, "filename") == str(tmp_path / "none")
+    (tmp_path / "in1.nt").write_text("x")
+    with pytest.raises(ValueError) as found:  # (the base is looked at before the inputs)
+        parts.build([tmp_path / "in1.nt"], tmp_path / "out", 2, base="relative")
+    assert type(found.value) is ValueError
 
 
 # ---- blank nodes
@@ -342,7 +347,8 @@ def test_blank_nodes(tmp_path: Path) -> None:
         ("one", {("_:a", "u:p", "_:b"), ("_:a", "u:p", "_:a"), ("_:\u00e9", "u:p", "u:o")}),
         ("apart", {("_:f0_a", "u:p", "_:f0_b"), ("_:f1_a", "u:p", "_:f1_a"), ("_:f1_\u00e9", "u:p", "u:o")}),
     ):
-        assert parts.build(paths, tmp_path / how, 3, blank_nodes=how).blank_nodes == how
+        with small(30, 10):  # (an input is more than one range)
+            assert parts.build(paths, tmp_path / how, 3, blank_nodes=how).blank_nodes == how
         with parts.open(tmp_path / how) as graph:
             assert set(graph) == expected | others
             graph.verify()
