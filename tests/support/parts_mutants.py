@@ -82,7 +82,10 @@ WRONG = [
           "return [found.get(number, Part()) for number in range(self._parts)]", "return list(found.values())"),
     Wrong("no triples are a graph", "_build", "if not any(row.triples for row in rows):", "if False:"),
     Wrong("a base is looked at late", "_build", "        self._check_base()\n", ""),
+    Wrong("a folder that is missing isn't named", "_build", "    os.stat(os.path.dirname(target))", "    pass"),
     # tasks
+    Wrong("what is no executor is taken", "_executor", "if not (executor is None or isinstance(executor, Executor)):",
+          "if False:"),
     Wrong("a process that dies is another error", "_executor", "if isinstance(error, BrokenExecutor) or", "if"),
     Wrong("tasks that aren't wanted are waited for", "_executor", "wait_for(_cancel(given), timeout=_SECONDS)",
           "wait_for(_cancel(given), timeout=50)"),
