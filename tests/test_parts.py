@@ -8,9 +8,13 @@ import os
 import random
 import subprocess
 import sys
+import threading
+import time
 import zlib
+from concurrent.futures import ThreadPoolExecutor
 from pathlib import Path
 from typing import Any, Optional
+from unittest import mock
 
 import pytest
 from hypothesis import example, given
@@ -18,7 +22,7 @@ from hypothesis import strategies as st
 
 from reference.ntriples import lines as reference_lines
 from reference.ntriples import parse_line, read_document, triple_strings
-from support.parts import graph_of, hdt, inputs, named, parts, ranges, small, split, text_of
+from support.parts import builds, graph_of, hdt, inputs, named, parts, ranges, small, split, splits, text_of
 from support.properties import examples
 from support.python_package import ENVIRONMENT
 from support.terms import document_texts, documents
@@ -94,6 +98,42 @@ def test_split_into_no_number_of_parts(count: int) -> None:
     with pytest.raises(ValueError, match="number of parts"):
         split(b"", count)
     assert split(b"", 65_536) == ([b""] * 65_536, 0, False)
+
+
+def test_lines_of_blocks(tmp_path: Path) -> None:
+    """The lines of a part are those of each block, in pieces, and a file that was cut is an error."""
+    path, texts = tmp_path / "blocks", [text_of(graph_of(60)[at::3]).encode() for at in range(3)]
+    with path.open("wb") as out, mock.patch("hdt.parts._split._PIECE", 7):
+        for text in texts:
+            splits.split(text, 4, out)
+        out.flush()
+        found = [list(splits.lines_of(str(path), number, 4)) for number in range(4)]
+        assert max(map(len, found[1])) == 7
+        for number, pieces in enumerate(found):
+            assert b"".join(pieces) == b"".join(split(text, 4).texts[number] for text in texts)
+    os.truncate(path, path.stat().st_size - 1)
+    with pytest.raises(OSError, match="blocks was cut"):
+        list(splits.lines_of(str(path), 3, 4))
+
+
+def resident(path: Path) -> int:
+    """The bytes of a file, perhaps without its name, that are mapped and in memory as this process's."""
+    maps = Path("/proc/self/smaps").read_text().split(str(path))[1:]
+    return sum(1024 * int(each.partition("\nRss:")[2].split()[0]) for each in maps)
+
+
+def test_memory_of_a_text(tmp_path: Path) -> None:
+    """While a text is read, its pages are given back, and it has no name."""
+    path = tmp_path / "text"
+    path.write_bytes(bytes(2**24))
+    with builds._Mapped(str(path)) as data:
+        assert not path.exists() and os.listdir(tmp_path) == []
+        for _ in range(2):
+            assert sum(data[::4096]) == 0
+            deadline = time.monotonic() + 20
+            while resident(path) > 2**20:
+                assert time.monotonic() < deadline
+    assert threading.active_count() == 1 and resident(path) == 0
 
 
 def test_published_parts() -> None:
@@ -194,11 +234,11 @@ def test_folder_that_is_there(tmp_path: Path) -> None:
 def test_builder_that_is_killed(tmp_path: Path) -> None:
     """There is no folder after that, and what is there instead is in no one's way."""
     paths = inputs(tmp_path, LINES, 1)
-    for where in ("split", "hdt.build", "os.rename"):
+    for where in ("split", "built", "os.rename"):
         program = f"""
             import os, hdt.parts, hdt.parts._build as module
             def die(*_): os.kill(os.getpid(), 9)
-            {"module.split" if where == "split" else where} = die
+            {where if "." in where else "module." + where} = die
             hdt.parts.build(['{paths[0]}'], '{tmp_path}/out', 3)
         """.replace("\n            ", "\n")
         done = subprocess.run([sys.executable, "-c", program], env={**os.environ, **ENVIRONMENT})
@@ -257,8 +297,9 @@ def test_inputs_that_cannot_be_read(tmp_path: Path) -> None:
         with pytest.raises(error, match=told):
             parts.build([tmp_path / name], tmp_path / "out", 2)
     os.mkfifo(tmp_path / "in.pipe")
-    with pytest.raises(ValueError, match="in.pipe is no regular file"):
-        parts.build([tmp_path / "in.pipe"], tmp_path / "out", 2)
+    for name in ("/dev/null", str(tmp_path / "in.pipe")):
+        with pytest.raises(ValueError, match=f"{name} is no regular file"):
+            parts.build([name], tmp_path / "out", 2)
     assert nothing_but(tmp_path)
 
 
@@ -269,13 +310,19 @@ def test_options(tmp_path: Path) -> None:
         ({"parts": 0}, ValueError), ({"parts": 65_537}, ValueError), ({"parts": "2"}, TypeError),
         ({"block_size": 0}, ValueError), ({"block_size": 65_536}, ValueError), ({"blank_nodes": "both"}, ValueError),
         ({"base": "relative"}, ValueError), ({"inputs": paths[0]}, TypeError), ({"inputs": str(paths[0])}, TypeError),
-        ({"inputs": []}, hdt.NoTriples),
+        ({"inputs": []}, hdt.NoTriples), ({"executor": ThreadPoolExecutor}, TypeError),
+        ({"folder": tmp_path / "none/out"}, FileNotFoundError),
     ]
     for options, error in cases:
-        with pytest.raises(error):
+        with pytest.raises(error) as found:
             given_options: dict[str, Any] = {"inputs": paths, "folder": tmp_path / "out", "parts": 2, **options}
             parts.build(**given_options)
         assert nothing_but(tmp_path)
+    assert getattr(found.value, "filename") == str(tmp_path / "none")
+    (tmp_path / "in1.nt").write_text("x")
+    with pytest.raises(ValueError) as found:  # (the base is looked at before the inputs)
+        parts.build([tmp_path / "in1.nt"], tmp_path / "out", 2, base="relative")
+    assert type(found.value) is ValueError
 
 
 # ---- blank nodes
@@ -300,7 +347,8 @@ def test_blank_nodes(tmp_path: Path) -> None:
         ("one", {("_:a", "u:p", "_:b"), ("_:a", "u:p", "_:a"), ("_:\u00e9", "u:p", "u:o")}),
         ("apart", {("_:f0_a", "u:p", "_:f0_b"), ("_:f1_a", "u:p", "_:f1_a"), ("_:f1_\u00e9", "u:p", "u:o")}),
     ):
-        assert parts.build(paths, tmp_path / how, 3, blank_nodes=how).blank_nodes == how
+        with small(30, 10):  # (an input is more than one range)
+            assert parts.build(paths, tmp_path / how, 3, blank_nodes=how).blank_nodes == how
         with parts.open(tmp_path / how) as graph:
             assert set(graph) == expected | others
             graph.verify()

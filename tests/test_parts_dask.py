@@ -106,6 +106,8 @@ def check_equal(folder: Path, found: parts.Manifest, expected: parts.Manifest) -
 
 def test_same_answers(tmp_path: Path, client: Any, expected: parts.Manifest) -> None:
     """It builds the same files, and finds what one file has; an error is that of one build."""
+    with pytest.raises(TypeError, match=r"not a Client; a Dask client has it as client.get_executor\(\)"):
+        parts.open(tmp_path / "expected", client)
     executor = client.get_executor()
     with small(5_000, 5_000):
         check_equal(tmp_path, parts.build([tmp_path / "in0.nt"], tmp_path / "out", 3, executor), expected)
@@ -138,7 +140,7 @@ def test_errors_are_not_remembered(tmp_path: Path, client: Any) -> None:
         assert fault.value.file == manifest.parts[1].file
 
 
-@pytest.mark.parametrize("where", ["hdt.parts._build.split", "hdt.build", "hdt.parts._build.Part"])
+@pytest.mark.parametrize("where", ["hdt.parts._build.split", "hdt.parts._build.built", "hdt.parts._build.Part"])
 def test_worker_that_dies_in_a_build(tmp_path: Path, client: Any, expected: parts.Manifest, where: str) -> None:
     """In a split, before a part is built, and after that: its task is done by another one."""
     both(client)
@@ -180,7 +182,7 @@ def test_worker_that_is_believed_dead(tmp_path: Path, expected: parts.Manifest) 
     flag = tmp_path / "in.flag"
     # (a worker that is only slow may take some seconds to say that it lives)
     with cluster(tmp_path / "in.dask", **{"distributed.scheduler.worker-ttl": "20s"}) as client:
-        client.register_worker_plugin(Interrupt("hdt.build", str(flag), signal.SIGSTOP), name="stops")
+        client.register_worker_plugin(Interrupt("hdt.parts._build.built", str(flag), signal.SIGSTOP), name="stops")
         flag.touch()
         found = parts.build([tmp_path / "in0.nt"], tmp_path / "out", 3, client.get_executor())
         assert Path(f"{flag}.pid").exists()
@@ -192,7 +194,7 @@ def test_worker_that_is_believed_dead(tmp_path: Path, expected: parts.Manifest) 
 def test_work_that_kills_each_worker(tmp_path: Path, own: Any, expected: parts.Manifest) -> None:
     """It is an error that says so, and there is no folder."""
     client, flag = own, tmp_path / "in.always"
-    client.register_worker_plugin(Interrupt("hdt.build", str(flag), signal.SIGKILL), name="always")
+    client.register_worker_plugin(Interrupt("hdt.parts._build.built", str(flag), signal.SIGKILL), name="always")
     flag.touch()
     with pytest.raises(parts.WorkerDied, match=r"part-0000.\.hdt: the processes that ran it died \(KilledWorker\)"):
         parts.build([tmp_path / "in0.nt"], tmp_path / "out", 3, client.get_executor())

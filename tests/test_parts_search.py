@@ -7,6 +7,7 @@ import json
 import os
 import pickle
 import shutil
+import signal
 import threading
 from collections.abc import Callable
 from functools import partial
@@ -177,7 +178,11 @@ def test_forked_process(folder: Path) -> None:
     with files._kept._lock:
         child = os.fork()
         if not child:
-            os._exit(0 if files.run(str(folder), row, len) == row.triples else 1)
+            try:
+                signal.alarm(20)  # (which ends it if it is stuck)
+                os._exit(files.run(str(folder), row, len) != row.triples)
+            finally:
+                os._exit(2)
     assert os.waitpid(child, 0)[1] == 0
 
 

@@ -19,14 +19,14 @@ from unittest import mock
 import pytest
 
 from support.parts import (check_same, go_on, graph_of, inputs, interrupt, named, of_one, parts, patterns, ranges,
-                           small, split, text_of)
+                           small, splits, text_of)
 from support.python_package import ENVIRONMENT, PACKAGE
 
 GRAPH = graph_of(300)
 TEXT = text_of(GRAPH)
 SPAWN = multiprocessing.get_context("spawn")
 # A function that is called in the middle of a task, by the kind of task.
-MIDDLES = {"split": "hdt.parts._build.split", "build": "hdt.build"}
+MIDDLES = {"split": "hdt.parts._build.split", "build": "hdt.parts._build.built"}
 
 
 def pool(where: str = "", flag: str = "", how: int = 0) -> ProcessPoolExecutor:
@@ -185,7 +185,7 @@ def test_task_that_goes_on_after_an_error(tmp_path: Path) -> None:
             ended.set()
         else:
             assert begun.wait(20)
-        return split(text, *more)
+        return splits.split(text, *more)
 
     with ThreadPoolExecutor(2) as executor:
         with mock.patch("hdt.parts._executor._SECONDS", 0.1), mock.patch("hdt.parts._build.split", slow):
@@ -220,4 +220,4 @@ def test_program(tmp_path: Path) -> None:
 
 def test_ranges_are_for_tasks() -> None:
     """The sizes that documents name."""
-    assert (ranges.RANGE, ranges.BLOCK) == (64 * 2**20, 2 * 2**20)
+    assert (ranges.RANGE, ranges.BLOCK) == (64 * 2**20, 2**20)

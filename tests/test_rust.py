@@ -31,10 +31,8 @@ CALLS = TOP / "tests/support/rust_calls.rs"
 SECONDS = 600
 # The older calls with nine parameters, in place of which the crate has those with a pattern.
 REPLACED = {"hdt_find", "hdt_matching", "hdt_text"}
-# The crate doesn't split texts.
-LACKED = {"hdt_split", "hdt_split_report"}
 # At least so many tests does the crate have, with the examples of its comments.
-CASES = 56
+CASES = 59
 
 
 def needs(*programs: str) -> pytest.MarkDecorator:
@@ -113,9 +111,9 @@ def of_crate() -> dict[str, str]:
 
 
 def test_declarations_are_those_of_the_header() -> None:
-    """The crate declares what the header declares, as it is there, but for what it lacks or has in another call."""
+    """The crate declares what the header declares, as it is there, but for what it has in another call."""
     header = of_header()
-    assert of_crate() == {name: it for name, it in header.items() if name not in REPLACED | LACKED}
+    assert of_crate() == {name: it for name, it in header.items() if name not in REPLACED}
     assert header["HDT_CLOSED"] == "u64::MAX - 2" and header["HDT_FILE_TRAILING_BYTES"] == "33"
     assert header["hdt_verdict"] == "reason: u32, place: u64, counts: [u64; 5]"
     assert header["hdt_find"].endswith("o: *const u8, o_len: usize, skip: u64, out: *mut [u64; 3], room: usize) -> u64")

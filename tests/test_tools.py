@@ -24,7 +24,8 @@ SCRIPTS = ["hdt", "test", "tools/current", "tools/install", "tools/package", ".c
 
 def test_modules() -> None:
     """All commands are found, and are tested below."""
-    checked = {"contracts", "definitions", "differential", "mutants", "promises", "speed", "speed_python"}
+    checked = {"contracts", "definitions", "differential", "mutants", "promises"}
+    checked |= {"speed", "speed_parts", "speed_python"}
     assert checked | {"build", "dist", "gate"} <= set(MODULES)
 
 
@@ -43,7 +44,7 @@ def test_help(name: str) -> None:
 @pytest.mark.parametrize("name", MODULES)
 def test_unknown_option(name: str) -> None:
     """An unknown option is refused with the usage."""
-    files = {"speed_python": ["file.hdt"], "differential": ["old", "new"], "contracts": ["HEAD"]}
+    files = {"speed_python": ["file.hdt"], "speed_parts": ["1"], "differential": ["old", "new"], "contracts": ["HEAD"]}
     status, out, err = tool(name, *files.get(name, []), "--no-such-option")
     assert (status, out) == (2, b"")
     assert err.startswith(f"usage: python3 -m tools.{name} ".encode()) and b"unrecognized arguments" in err
@@ -385,6 +386,16 @@ def test_speed_fails(words: list[str], said: bytes) -> None:
     """What cannot be measured is told, with status 2."""
     status, _, err = tool("speed", *words)
     assert status == 2 and err.startswith(said), err
+
+
+def test_speed_parts() -> None:
+    """A row for each way to build, and for each graph that is searched."""
+    command = [sys.executable, "-B", "-m", "tools.speed_parts", "300", "--parts", "2"]
+    status, out, err = run(command, cwd=TOP, env={"HDT_LIBRARY": str(SHARED_LIBRARY)})
+    assert (status, err) == (0, b"")
+    rows = re.findall(r"^\| (.*?) \| [\d.,]+ \| [\d.]+ \| ", out.decode(), re.M)
+    assert rows == ["one file", "2 parts, one process", "2 parts, two processes", "one file", "2 parts"]
+    assert tool("speed_parts", "0")[0] == 2
 
 
 def test_speed_documents() -> None:

@@ -132,6 +132,14 @@ def _are_one(path: Path, other: Path) -> bool:
     return stat.S_ISREG(there.st_mode) and os.path.samestat(there, here)
 
 
+def built(text: Any, made: Made, base: str, block_size: int) -> Counts:
+    """Build the file of the bytes of a text, and return its counts. Raises what `build` raises, but OSError."""
+    report, name = Report(), encoded(base)
+    with Lent(text) as lent:
+        library.hdt_build(lent.address, lent.size, name, len(name), _checked(block_size), made, report)
+    return counts_of(report)
+
+
 def build(nt_path: Path, out_path: Path, base: str = "http://example.org/dataset", block_size: int = 16) -> Counts:
     """Build the HDT file of an N-Triples file, and return its counts.
 
@@ -145,13 +153,10 @@ def build(nt_path: Path, out_path: Path, base: str = "http://example.org/dataset
     >>> hdt.build("graph.nt", "graph.hdt", base="http://example.org/graph")
     Counts(triples=3, shared=2, subjects=0, predicates=2, objects=1)
     """
-    report, name = Report(), encoded(base)
     if _are_one(nt_path, out_path):
         raise ValueError("the input and the output are one file")
     with Made() as made:
-        with Lent(data_of(nt_path)[0]) as lent:
-            library.hdt_build(lent.address, lent.size, name, len(name), _checked(block_size), made, report)
-        counts = counts_of(report)
+        counts = built(data_of(nt_path)[0], made, base, block_size)
         _replace(out_path, made.view())
     return counts
 

@@ -176,7 +176,7 @@ pub enum Error {
     Text(TextError),
     /// The text has no triples, so there is no file of it.
     NoTriples,
-    /// The block size is 0, or the base is not an absolute IRI.
+    /// The block size is 0, the base is not an absolute IRI, or the number of parts is not 1 to 65,536.
     BadOptions,
     /// A string of the graph can't be written as N-Triples in its role.
     NotATerm {
@@ -207,7 +207,9 @@ impl fmt::Display for Error {
             Error::File(error) => error.fmt(f),
             Error::Text(error) => error.fmt(f),
             Error::NoTriples => f.write_str("the text has no triples"),
-            Error::BadOptions => f.write_str("the block size is 0, or the base is not an absolute IRI"),
+            Error::BadOptions => {
+                f.write_str("the block size is 0, the base no absolute IRI, or the number of parts not 1 to 65536")
+            }
             Error::NotATerm { role, id } => write!(f, "{role} {id} is not a term of N-Triples"),
             Error::OutOfMemory => f.write_str("out of memory"),
         }
@@ -303,7 +305,7 @@ mod tests {
             (Error::of_file(33, 457), "not a valid HDT file: TrailingBytes at byte 457"),
             (Error::of_text(1, 3, 7), "not N-Triples: Syntax in line 3, column 7"),
             (Error::NoTriples, "the text has no triples"),
-            (Error::BadOptions, "the block size is 0, or the base is not an absolute IRI"),
+            (Error::BadOptions, "the block size is 0, the base no absolute IRI, or the number of parts not 1 to 65536"),
             (Error::OutOfMemory, "out of memory"),
         ];
         for (error, message) in messages {

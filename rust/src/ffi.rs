@@ -41,6 +41,8 @@ extern "C" {
                      next: *mut u64, telling: *mut hdt_telling);
     fn hdt_build(text: *const u8, len: usize, base: *const u8, base_len: usize, block_size: u32, out: *mut hdt_bytes,
                  report: *mut hdt_report);
+    fn hdt_split(text: *const u8, len: usize, parts: u32, prefix: *const u8, prefix_len: usize, out: *mut hdt_bytes,
+                 ends: *mut u64, room: usize, report: *mut hdt_split_report);
     fn hdt_rewrite(bytes: *const u8, len: usize, block_size: u32, out: *mut hdt_bytes, verdict: *mut hdt_verdict);
     fn hdt_term(string: *const u8, len: usize, parts: *mut hdt_term_parts) -> u32;
     fn hdt_term_string(kind: u32, text: *const u8, len: usize, suffix: *const u8, suffix_len: usize, out: *mut u8,
@@ -271,6 +273,16 @@ pub(crate) fn build(text: &[u8], base: &str, block_size: u16) -> (Bytes, hdt_rep
     // SAFETY: text and base have as many bytes as they say, and it has `out` and `report` alone.
     unsafe { hdt_build(at, len, name, name_len, block_size.into(), &mut out.made, &mut report) };
     (out, report)
+}
+
+/// The texts of the parts, one after another, and where each of them ends, if there is room for all; and the report.
+pub(crate) fn split(text: &[u8], parts: u32, prefix: &str, room: usize) -> (Bytes, Vec<u64>, hdt_split_report) {
+    let (mut out, mut ends, mut report) = (Bytes::new(), vec![0; room], hdt_split_report::default());
+    let (at, len, prefix_at, prefix_len) = (text.as_ptr(), text.len(), prefix.as_ptr(), prefix.len());
+    let ends_at = ends.as_mut_ptr();
+    // SAFETY: text and prefix have as many bytes as they say, `ends` has its room, and it has all three results alone.
+    unsafe { hdt_split(at, len, parts, prefix_at, prefix_len, &mut out.made, ends_at, room, &mut report) };
+    (out, ends, report)
 }
 
 pub(crate) fn rewrite(bytes: &[u8], block_size: u16) -> (Bytes, hdt_verdict) {

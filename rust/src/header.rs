@@ -99,6 +99,17 @@ pub(crate) struct hdt_report {
 
 #[repr(C)]
 #[derive(Default)]
+pub(crate) struct hdt_split_report {
+    pub(crate) reason: u32,
+    pub(crate) has_blank_nodes: u32,
+    pub(crate) line: u64,
+    pub(crate) column: u64,
+    pub(crate) lines: u64,
+    pub(crate) triples: u64,
+}
+
+#[repr(C)]
+#[derive(Default)]
 pub(crate) struct hdt_telling {
     pub(crate) reason: u32,
     pub(crate) role: u32,

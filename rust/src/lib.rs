@@ -42,6 +42,7 @@ mod graph;
 mod header;
 mod matches;
 mod pattern;
+mod split;
 mod strings;
 mod term;
 
@@ -51,6 +52,7 @@ pub use file::{build, rewrite, verify, verify_tight, Counts, BLOCK_SIZE};
 pub use graph::Graph;
 pub use matches::{Matches, Page};
 pub use pattern::{Pattern, Role};
+pub use split::{split, Split};
 pub use strings::Strings;
 pub use term::{InvalidTerm, LiteralKind, Term};
 

@@ -20,10 +20,14 @@ impl Strings {
     }
 
     fn string(&self, at: usize) -> &str {
-        let start = if at == 0 { 0 } else { self.ends[at - 1] };
-        let bytes = &self.text[ffi::size(start)..ffi::size(self.ends[at])];
-        str::from_utf8(bytes).expect("the strings of a valid file are UTF-8")
+        str::from_utf8(piece(&self.text, &self.ends, at)).expect("the strings of a valid file are UTF-8")
     }
+}
+
+/// The piece with this index, of those that end at these places.
+pub(crate) fn piece<'text>(text: &'text [u8], ends: &[u64], at: usize) -> &'text [u8] {
+    let start = if at == 0 { 0 } else { ends[at - 1] };
+    &text[ffi::size(start)..ffi::size(ends[at])]
 }
 
 /// The answer of a call, or `None` if there is none.

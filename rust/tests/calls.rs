@@ -4,8 +4,8 @@ use std::error::Error as _;
 use std::io::Write;
 
 use tickmarl_hdt::{
-    build, rewrite, verify, verify_tight, Error, FileError, FileReason, Graph, Matches, Pattern, Role, Strings,
-    TextError, TextReason, BLOCK_SIZE,
+    build, rewrite, split, verify, verify_tight, Error, FileError, FileReason, Graph, Matches, Pattern, Role, Split,
+    Strings, TextError, TextReason, BLOCK_SIZE,
 };
 
 const BASE: &str = "http://a/";
@@ -77,6 +77,32 @@ fn build_has_errors_of_texts_and_options() {
     for block_size in [1, u16::MAX] {
         assert!(build(line, BASE, block_size).is_ok());
     }
+}
+
+#[test]
+fn split_returns_the_lines_of_each_part() {
+    let texts = |found: &Split| found.parts().map(|text| String::from_utf8_lossy(text).into()).collect::<Vec<String>>();
+    let text = b"_:a <u:p> <u:o> .\r\n# none\n\n<u:b> <u:p> _:a .\r<u:\\u0062> <u:q> <u:o> . # <u:a>";
+    let found = split(text, 7, "").unwrap();
+    // (the CRC-32 of `_:a` is 0 modulo 7, that of `u:b` 6)
+    let of_b = "<u:b> <u:p> _:a .\r<u:\\u0062> <u:q> <u:o> . # <u:a>\n";
+    assert_eq!(texts(&found), ["_:a <u:p> <u:o> .\r\n", "", "", "", "", "", of_b]);
+    assert_eq!((found.lines, found.triples, found.has_blank_nodes), (5, 3, true));
+    assert_eq!((found.parts().len(), found.parts().next_back().map(<[u8]>::len)), (7, Some(of_b.len())));
+    let prefixed = split(text, 1, "f0_").unwrap();
+    assert_eq!(texts(&prefixed), ["_:f0_a <u:p> <u:o> .\r\n<u:b> <u:p> _:f0_a .\r<u:\\u0062> <u:q> <u:o> . # <u:a>\n"]);
+    let empty = split(b"", 65_536, "").unwrap();
+    assert!(empty.parts().len() == 65_536 && empty.parts().all(<[u8]>::is_empty));
+    assert_eq!((empty.lines, empty.triples, empty.has_blank_nodes), (0, 0, false));
+}
+
+#[test]
+fn split_has_errors_of_texts_and_options() {
+    for parts in [0, 65_537, u32::MAX] {
+        assert_eq!(split(b"x", parts, "").unwrap_err(), Error::BadOptions);
+    }
+    let wrong = b"<u:a> <u:p> <u:b> .\n<u:a> <p> <u:b> .\nx\n";
+    assert_eq!(split(wrong, 2, "f0_").unwrap_err(), text_error(TextReason::RelativeIri, 2, 7));
 }
 
 #[test]

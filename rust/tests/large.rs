@@ -2,7 +2,7 @@
 
 use std::collections::BTreeSet;
 
-use tickmarl_hdt::{build, rewrite, Graph, Pattern, Role, BLOCK_SIZE};
+use tickmarl_hdt::{build, rewrite, split, Graph, Pattern, Role, BLOCK_SIZE};
 
 const COUNT: u64 = 150_000;
 
@@ -34,6 +34,12 @@ fn a_large_graph_goes_through_every_call() {
     for (n, string) in strings.iter().enumerate() {
         assert_eq!(string, format!("\"value {n:06}\"@en"));
     }
+
+    let parts = split(shuffled.as_bytes(), 7, "").unwrap();
+    assert_eq!((parts.lines, parts.triples, parts.has_blank_nodes), (COUNT, COUNT, false));
+    let counts = parts.parts().map(|part| build(part, "http://example.org/graph", BLOCK_SIZE).unwrap().1);
+    let sums = counts.fold((0, 0), |(triples, subjects), it| (triples + it.triples, subjects + it.subjects));
+    assert_eq!(sums, (COUNT, graph.count(Role::Subject)));
 
     let (other, _) = rewrite(&file, 3).unwrap();
     assert!(rewrite(&other, BLOCK_SIZE).unwrap().0[..] == file[..]);

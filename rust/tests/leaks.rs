@@ -2,7 +2,7 @@
 
 use std::fs;
 
-use tickmarl_hdt::{build, rewrite, Graph, Pattern, Role, BLOCK_SIZE};
+use tickmarl_hdt::{build, rewrite, split, Graph, Pattern, Role, BLOCK_SIZE};
 
 /// The resident memory of this process in pages of 4 KiB.
 fn resident() -> i64 {
@@ -21,7 +21,10 @@ fn memory_is_freed() {
         assert!(graph.text(Pattern::any()).unwrap().len() >= 400_000);
         assert!(rewrite(file, BLOCK_SIZE).unwrap().0.starts_with(b"$HDT"));
     };
-    let round = || all(&build(text.as_bytes(), "u:b", 1).unwrap().0);
+    let round = || {
+        assert_eq!(split(text.as_bytes(), 3, "").unwrap().triples, 4_000);
+        all(&build(text.as_bytes(), "u:b", 1).unwrap().0)
+    };
     round();
     let before = resident();
     (0..100).for_each(|_| round());

@@ -8,25 +8,26 @@ import os
 import random
 import signal
 import sys
+import tempfile
 from collections.abc import Iterator, Sequence
 from contextlib import contextmanager
 from itertools import product
 from pathlib import Path
-from typing import Any, Optional
+from typing import Any, NamedTuple, Optional
 from unittest import mock
 
 from support.python_package import PACKAGE, hdt
 
 with mock.patch.object(sys, "dont_write_bytecode", True), mock.patch.object(sys, "path", [str(PACKAGE), *sys.path]):
     import hdt.parts as parts
-    from hdt.parts import _files, _folder, _inputs, _manifest, _split
+    from hdt.parts import _build, _files, _folder, _inputs, _manifest, _split
 
-__all__ = ["Triple", "check_same", "files", "graph_of", "hdt", "inputs", "interrupt", "manifests", "named", "of_one",
-           "parts", "patterns", "ranges", "small", "split", "text_of"]
+__all__ = ["Triple", "builds", "check_same", "files", "graph_of", "hdt", "inputs", "interrupt", "manifests", "named",
+           "of_one", "parts", "patterns", "ranges", "small", "split", "splits", "text_of"]
 
 Triple = tuple[str, str, str]
 
-split, ranges, files, manifests = _split.split, _inputs, _files, _manifest
+ranges, splits, builds, files, manifests = _inputs, _split, _build, _files, _manifest
 KINDS = list(product((False, True), repeat=3))
 # Terms that are no part of any graph here.
 ABSENT = [("u:none", None, None), (None, "u:none", None), (None, None, '"none"'), ("\ud800", None, None)]
@@ -38,6 +39,24 @@ def small(range_size: int, block: int, first: int = 4, most: int = 16) -> Iterat
     with mock.patch.multiple(_inputs, RANGE=range_size, BLOCK=block), mock.patch("os.fsync"), \
             mock.patch.multiple(_folder, _FIRST=first, MOST=most):
         yield
+
+
+class Texts(NamedTuple):
+    """A text that was split, with the lines of each part."""
+
+    texts: list[bytes]
+    lines: int
+    has_blank_nodes: bool
+
+
+def split(text: bytes, count: int, prefix: bytes = b"") -> Texts:
+    """Split a text into a file, of which its parts are taken."""
+    with tempfile.NamedTemporaryFile() as out:
+        found = splits.split(text, count, out.file, prefix)
+        out.flush()
+        texts = [b"".join(splits.lines_of(out.name, number, count)) for number in range(count)]
+    assert list(map(len, texts)) == found.sizes
+    return Texts(texts, found.lines, found.has_blank_nodes)
 
 
 def text_of(triples: Sequence[Triple]) -> str:

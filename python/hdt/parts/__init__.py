@@ -13,9 +13,9 @@
 A build needs memory for a part at a time. A search for a subject asks one part, any other one asks all of them. Most
 graphs need no parts: one file is smaller, and built and searched faster by one process.
 
-An executor is any of `concurrent.futures`, or one with its interface, as those of Dask (`Client.get_executor()`) and
-mpi4py: tasks are given paths, numbers and text, and give the same. All processes have to see the folder by one path. A
-program that starts processes needs `if __name__ == "__main__":`, unless they are forked.
+An executor is one of `concurrent.futures`, or derived from it, as those of Dask (`Client.get_executor()`) and mpi4py:
+tasks are given paths, numbers and text, and give the same. All processes have to see the folder by one path. A
+program that starts processes has to be a file, and needs `if __name__ == "__main__":`, unless they are forked.
 
 Exceptions, besides those of `hdt`: `InputFault`, a LineFault with the path of an input; `PartFault`, a ValueError, for
 a file of the folder that is missing, damaged or another one; `WorkerDied`, a RuntimeError.

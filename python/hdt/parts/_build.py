@@ -8,10 +8,12 @@ from __future__ import annotations
 
 import hashlib
 import io
+import mmap
 import operator
 import os
 import secrets
 import shutil
+import threading
 import time
 from collections.abc import Iterable, Sequence
 from concurrent.futures import Executor
@@ -20,21 +22,23 @@ from typing import NamedTuple, Optional
 
 import hdt
 from hdt._calls import Path
+from hdt._files import built
+from hdt._library import Made
 from hdt.parts import _inputs
 from hdt.parts._errors import InputFault
-from hdt.parts._executor import Task, results
+from hdt.parts._executor import Task, check, results
 from hdt.parts._inputs import Range
 from hdt.parts._manifest import MOST_PARTS, Manifest, Part, base_of, file_of
-from hdt.parts._split import split
+from hdt.parts._split import lines_of, split
 
-Place = tuple[int, int]  # of bytes of a file: where they begin, and how many they are
+_SECONDS = 0.05  # between one time and the next that pages are given back
 
 
 class Pieces(NamedTuple):
-    """A range that was split: the file that has the lines of all parts, and the places of those of each."""
+    """A range that was split: the file with its blocks, and the bytes of each part."""
 
     file: str
-    places: list[list[Place]]
+    sizes: list[int]
     lines: int
     has_blank_nodes: bool
 
@@ -54,17 +58,17 @@ def build(
     subject has one (`part_of`). Equal graphs give equal files, whatever the inputs, their order and the executor. The
     folder is made under another name beside it, and is either complete or not there.
 
-    `executor` runs the tasks: any of `concurrent.futures`, or one with its interface, as Dask's `Client.get_executor`
-    gives. Its processes have to see the inputs and the folder by the same paths. Without one, this process runs them,
-    one after another. `blank_nodes="one"` says that the inputs are pieces of one document, so a label is one node in
-    all of them; `"apart"` that each is a document of its own: labels of the first input get the prefix `f0_`, those of
-    the second one `f1_`. Without it, two inputs with blank nodes are an error. `base` and `block_size` are those of
+    `executor` runs the tasks: one of `concurrent.futures`, or derived from it, as Dask's `Client.get_executor` gives.
+    Its processes have to see the inputs and the folder by the same paths. Without one, this process runs them, one
+    after another. `blank_nodes="one"` says that the inputs are pieces of one document, so a label is one node in all of
+    them; `"apart"` that each is a document of its own: labels of the first input get the prefix `f0_`, those of the
+    second one `f1_`. Without it, two inputs with blank nodes are an error. `base` and `block_size` are those of
     `hdt.build`; the base of a part has `#part-0-of-8` after it.
 
     Errors: `InputFault` with the first error of the inputs, in their order; `hdt.NoTriples`; FileExistsError;
     ValueError for the options, and for an input that is no regular file; `WorkerDied`; MemoryError; OSError; TypeError.
-    A task has 2 MiB of an input in memory, several times over, or the text and the build of a part. The folder needs
-    room for the text of the inputs meanwhile.
+    A task has 1 MiB of an input in memory, several times over, or the build of a part. The folder needs room for the
+    text of the inputs meanwhile, and for that of each part that is being built.
 
     >>> hdt.parts.build(["graph.nt"], "other.parts", 2).triples
     3
@@ -73,6 +77,7 @@ def build(
         raise TypeError("inputs are paths, not one path")
     names = [os.fsdecode(path) for path in inputs]
     count, size = operator.index(parts), operator.index(block_size)
+    check(executor)
     if blank_nodes not in (None, "one", "apart"):
         raise ValueError('blank_nodes is "one", "apart" or None')
     if not 1 <= count <= MOST_PARTS:
@@ -82,6 +87,7 @@ def build(
     target = os.path.abspath(os.fsdecode(folder))
     if os.path.lexists(target):
         raise FileExistsError(f"{target} is there already")
+    os.stat(os.path.dirname(target))  # (an error names the folder that is missing)
     beside = f"{target}.unfinished-{secrets.token_hex(8)}"
     os.mkdir(beside)
     try:
@@ -172,12 +178,10 @@ class _Job:
         """Build the files of all parts."""
         tasks = {}
         for number in range(self._parts):
-            places = [(each.file, each.places[number]) for each in pieces if each.places[number]]
-            if places:
-                base = base_of(self._base, number, self._parts)
-                tasks[number] = Task(
-                    self._executor, file_of(number), build_part, number, places, self._scratch, base, self._block_size
-                )
+            files = [each.file for each in pieces if each.sizes[number]]
+            if files:
+                call = build_part, number, self._parts, files, self._scratch, self._base, self._block_size
+                tasks[number] = Task(self._executor, file_of(number), *call)
         found = dict(zip(tasks, results(tasks.values())))
         return [found.get(number, Part()) for number in range(self._parts)]
 
@@ -192,46 +196,65 @@ def split_range(number: int, it: Range, parts: int, prefix: str, folder: str) ->
 
     Raises LineFault, whose line is counted from the range on, OSError and MemoryError.
     """
-    file, places, at = _attempt(folder, f"split-{number:05}"), list[list[Place]](), 0
-    places += ([] for _ in range(parts))
+    file, sizes = _attempt(folder, f"split-{number:05}"), [0] * parts
     lines, has_blank_nodes = 0, False
     with io.open(file, "xb") as out:
         for block in _inputs.blocks(it):
             try:
-                found = split(block, parts, prefix.encode())
+                found = split(block, parts, out, prefix.encode())
             except hdt.LineFault as fault:
                 raise hdt.LineFault(fault.reason, lines + fault.line, fault.column) from None
             lines += found.lines
             has_blank_nodes = has_blank_nodes or found.has_blank_nodes
-            for part, text in enumerate(found.texts):
-                if text:
-                    out.write(text)
-                    places[part].append((at, len(text)))
-                    at += len(text)
-    return Pieces(file, places, lines, has_blank_nodes)
+            sizes = list(map(operator.add, sizes, found.sizes))
+    return Pieces(file, sizes, lines, has_blank_nodes)
 
 
-def build_part(number: int, pieces: list[tuple[str, list[Place]]], folder: str, base: str, block_size: int) -> Part:
-    """A task: build the file of a part from its lines. Its row has the path of the file.
+def build_part(number: int, parts: int, files: list[str], folder: str, base: str, block_size: int) -> Part:
+    """A task: build the file of a part from its lines in the files of ranges. Its row has the path of the file.
 
     Raises OSError and MemoryError.
     """
     text, file = _attempt(folder, f"text-{number:05}"), _attempt(folder, f"part-{number:05}")
     with io.open(text, "xb") as out:
-        for name, places in pieces:
-            with io.open(name, "rb") as piece:
-                for at, size in places:
-                    piece.seek(at)
-                    out.write(piece.read(size))
-    try:
-        counts = hdt.build(text, file, base, block_size)
-    finally:
-        os.unlink(text)
-    digest = hashlib.sha256()
-    with io.open(file, "rb") as made:
-        while block := made.read(_inputs.BLOCK):
-            digest.update(block)
-    return Part(file, os.stat(file).st_size, digest.hexdigest(), *counts)
+        for name in files:
+            out.writelines(lines_of(name, number, parts))
+    with Made() as made:
+        with _Mapped(text) as lines:
+            counts = built(lines, made, base_of(base, number, parts), block_size)
+        data = made.view()
+        with io.open(file, "xb") as out:
+            out.write(data)
+            out.flush()
+            os.fsync(out.fileno())
+        return Part(file, len(data), hashlib.sha256(data).hexdigest(), *counts)
+
+
+class _Mapped:
+    """A file that is mapped for a call which reads it once from its start to its end; its name goes.
+
+    A thread gives its pages back meanwhile, as they would count as memory of the process.
+    """
+
+    def __init__(self, path: str) -> None:
+        with io.open(path, "rb") as file:
+            self._data = mmap.mmap(file.fileno(), 0, access=mmap.ACCESS_READ)
+        os.unlink(path)
+        self._is_read = threading.Event()
+        self._thread = threading.Thread(target=self._give_back)
+
+    def _give_back(self) -> None:
+        while not self._is_read.wait(_SECONDS):
+            self._data.madvise(mmap.MADV_DONTNEED)  # (those that are read again come from the file)
+
+    def __enter__(self) -> mmap.mmap:
+        self._thread.start()
+        return self._data
+
+    def __exit__(self, *_: object) -> None:
+        self._is_read.set()
+        self._thread.join()
+        self._data.close()
 
 
 def _sync(folder: str) -> None:

@@ -15,6 +15,15 @@ T = TypeVar("T")
 _SECONDS = 5.0  # that tasks which run have to end once they are no longer wanted
 
 
+def check(executor: Any) -> None:
+    """Raises TypeError for what is neither an executor nor None."""
+    if not (executor is None or isinstance(executor, Executor)):
+        raise TypeError(
+            f"an executor is one of concurrent.futures, or derived from it, not a {type(executor).__name__}; "
+            "a Dask client has it as client.get_executor()"
+        )
+
+
 class Task(Generic[T]):
     """A call that was given to an executor, or that is made when its result is asked for."""
 

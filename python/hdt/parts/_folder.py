@@ -15,7 +15,7 @@ import hdt
 from hdt._calls import Path, StringTriple, bracketed, closed, is_bracketed
 from hdt.parts import _files
 from hdt.parts._errors import PartFault
-from hdt.parts._executor import Task, results
+from hdt.parts._executor import Task, check, results
 from hdt.parts._files import OpenFiles, Page, Pattern
 from hdt.parts._manifest import Manifest, part_of
 
@@ -30,6 +30,7 @@ class OpenFolder:
     """A folder with its manifest, and the files that this process has open."""
 
     def __init__(self, folder: Path, executor: Optional[Executor]) -> None:
+        check(executor)
         self._folder, self._executor = os.path.abspath(os.fsdecode(folder)), executor
         self.manifest = Manifest.read(self._folder)
         self._parts = self.manifest.parts

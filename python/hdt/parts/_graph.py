@@ -32,8 +32,8 @@ def open(folder: Path, executor: Optional[Executor] = None) -> Graph:
     Without one this process has the files open. A process validates a file, and compares it with its SHA-256, when it
     is first asked; here only its size is checked.
 
-    Errors: `PartFault` for a manifest or a part that is missing or has another size, OSError. Later calls raise
-    `PartFault`, too, for a part that is damaged or another one.
+    Errors: `PartFault` for a manifest or a part that is missing or has another size, TypeError, OSError. Later calls
+    raise `PartFault`, too, for a part that is damaged or another one.
 
     >>> with hdt.parts.open("graph.parts") as graph:
     ...     print(graph)
@@ -188,7 +188,7 @@ class Graph(OpenFolder):
         ([('u:a', 'u:p', 'u:b'), ('u:a', 'u:q', '"x"')], [('u:b', 'u:p', 'u:a')])
         """
         if order not in ("parts", "strings"):
-            raise ValueError(f"no such order: {order!r}")
+            raise ValueError('order is "parts" or "strings"')
         (first, most), pattern = window(start, limit), (s, p, o)
         numbers = self._asked(pattern)
         if order == "strings":

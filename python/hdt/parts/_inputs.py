@@ -11,7 +11,7 @@ from collections.abc import Iterable, Iterator
 from typing import Any, NamedTuple, Optional
 
 RANGE = 64 * 1024 * 1024  # bytes of a plain input that a task splits
-BLOCK = 2 * 1024 * 1024  # bytes of it that are in memory at once
+BLOCK = 1024 * 1024  # bytes of it that are in memory at once
 
 
 class Range(NamedTuple):
