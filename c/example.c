@@ -1,26 +1,38 @@
 /* example FILE [SUBJECT [PREDICATE [OBJECT]]]: counts what is in an HDT file, and prints the triples that match, as N-Triples.
  * The words are dictionary strings, as http://a/b or "x"@en with its quotes; ? is any.
  *
- *     cc -o example example.c $(pkg-config --cflags --libs hdt)
+ *     cc -o example example.c $(pkg-config --cflags --libs hdt) -Wl,-rpath,"$(pkg-config --variable=libdir hdt)"
  */
 #include "hdt.h"
 #include <stdio.h>
 #include <stdlib.h>
 #include <string.h>
 
-/* The bytes of a file, or NULL. There is one byte of room more, so that an empty file has an address. */
+/* All bytes of a file or a pipe, or NULL if it cannot be read. There is always room for one byte more, so that an empty file has an
+ * address. */
 static uint8_t *read_file(const char *path, size_t *len) {
     FILE *file = fopen(path, "rb");
-    uint8_t *bytes = NULL;
-    long size;
-    if (!file) {
-        return NULL;
+    size_t room = 1 << 16, got;
+    uint8_t *bytes = malloc(room), *more;
+    *len = 0;
+    while (file && bytes && (got = fread(bytes + *len, 1, room - *len, file)) > 0) {
+        *len += got;
+        if (*len == room) {
+            more = room > SIZE_MAX / 2 ? NULL : realloc(bytes, room * 2);
+            if (!more) {
+                free(bytes);
+            }
+            bytes = more;
+            room *= 2;
+        }
     }
-    if (fseek(file, 0, SEEK_END) == 0 && (size = ftell(file)) >= 0 && (bytes = malloc((size_t)size + 1)) != NULL) {
-        rewind(file);
-        *len = fread(bytes, 1, (size_t)size, file);
+    if (!file || ferror(file)) {
+        free(bytes);
+        bytes = NULL;
     }
-    fclose(file);
+    if (file) {
+        fclose(file);
+    }
     return bytes;
 }
 
@@ -42,17 +54,23 @@ static int print_matches(hdt_graph *graph, const char *subject, const char *pred
 
 int main(int argc, char **argv) {
     size_t len = 0;
-    uint8_t *bytes = argc > 1 ? read_file(argv[1], &len) : NULL;
+    uint8_t *bytes, name[HDT_NAME_ROOM] = {0};
     hdt_graph graph = HDT_GRAPH_INIT;
     hdt_verdict verdict;
     int status;
-    if (!bytes) {
+    if (argc < 2) {
         fprintf(stderr, "usage: example FILE [SUBJECT [PREDICATE [OBJECT]]]\n");
         return 2;
     }
+    bytes = read_file(argv[1], &len);
+    if (!bytes) {
+        fprintf(stderr, "%s cannot be read\n", argv[1]);
+        return 3;
+    }
     hdt_open(bytes, len, &graph, &verdict);
     if (verdict.reason != HDT_DONE) {
-        fprintf(stderr, "reason %u at byte %llu\n", verdict.reason, (unsigned long long)verdict.place);
+        hdt_reason_name(verdict.reason, name, sizeof name - 1);
+        fprintf(stderr, "reason %u %s at byte %llu\n", verdict.reason, (char *)name, (unsigned long long)verdict.place);
         free(bytes);
         return 1;
     }

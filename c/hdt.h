@@ -1,8 +1,8 @@
 /* hdt.h: a proved engine for RDF HDT files that are in memory.
  *
- * Link with libhdt, with the flags that `pkg-config --cflags --libs hdt` prints after `make install`. The library allocates with
- * malloc, realloc and free of your program. No call prints, aborts, exits, waits or starts a thread, and the library has no global
- * state.
+ * Link with libhdt, with the flags that `pkg-config --cflags --libs hdt` prints after `make install`, and with an rpath if the
+ * system doesn't search that folder (docs/C.md). The library allocates with malloc, realloc and free of your program. No call
+ * prints, aborts, exits, waits or starts a thread, and the library has no global state.
  *
  * Ownership.
  * - The bytes that you pass are yours. A call reads them while it runs; only hdt_open keeps their address: keep them in place and
@@ -10,7 +10,9 @@
  *   (SIGBUS). So replace a file in use by rename, or read it into memory.
  * - An hdt_graph and an hdt_bytes are your storage. Initialize each with HDT_GRAPH_INIT or HDT_BYTES_INIT, or with zero bytes.
  *   Don't copy them or write their fields, and use each in one call at a time (other threads may use it under a lock). What they
- *   point to belongs to the library until hdt_close or hdt_free.
+ *   point to belongs to the library until hdt_close or hdt_free. A built file may be opened where it is; then close the graph before
+ *   you free or reuse the hdt_bytes.
+ * - Bytes and patterns are only read: calls may share them at the same time.
  * - The arrays that results are written to (out, room) are yours. A call changes nothing in them but what its result says.
  *
  * What you must ensure, since nothing checks it: no pointer is null, even for zero bytes or in a part of a pattern that is not a
@@ -50,7 +52,8 @@ enum {
     HDT_OUT_OF_MEMORY = 255 /* out of memory: the input may be valid or not; the call may be made again */
 };
 
-/* Results of calls that return a uint64_t, if it is not a count, an ID or a length. Those are always smaller. */
+/* Results of calls that return a uint64_t, if it is not a count, an ID or a length. Those are always smaller, so `>= HDT_CLOSED`
+ * finds all three. */
 #define HDT_ABSENT UINT64_MAX          /* no such role, ID or string */
 #define HDT_NO_MEMORY (UINT64_MAX - 1) /* out of memory */
 #define HDT_CLOSED (UINT64_MAX - 2)    /* the graph isn't open */
@@ -164,7 +167,8 @@ typedef struct {
 } hdt_ranges;
 
 /* Bytes that the library made: `len` bytes from `at`, without a zero byte after them; if len is 0, `at` may be any address. State is 1
- * if there are bytes to free, else 0; then len is 0, too. A call that makes bytes first frees those that `out` had, even if it fails. */
+ * if hdt_free has something to free, which may be an empty text; if it is 0, len is 0, too. A call that makes bytes first frees
+ * those that `out` had, even if it fails. */
 typedef struct {
     const uint8_t *at;
     uint64_t len;
@@ -213,7 +217,7 @@ uint64_t hdt_string(hdt_graph *graph, uint32_t role, uint64_t number, uint8_t *o
 uint64_t hdt_strings(hdt_graph *graph, uint32_t role, const uint64_t *numbers, size_t count, hdt_bytes *out, uint64_t *ends,
                      size_t room);
 
-/* The IDs of the strings of a role that begin with a prefix, which may be any bytes: all IDs if it has none. Writes them as
+/* The IDs of the strings of a role that begin with a prefix, which may be any bytes. An empty prefix gives all IDs. Writes them as
  * two ranges, and returns how many IDs they have. HDT_ABSENT (no such role), HDT_CLOSED; then ranges is unchanged. Takes at
  * most twice the time of hdt_number. */
 uint64_t hdt_prefix(hdt_graph *graph, uint32_t role, const uint8_t *prefix, size_t len, hdt_ranges *ranges);
@@ -226,7 +230,7 @@ uint64_t hdt_header(hdt_graph *graph, uint8_t *out, size_t room);
  * so for p and o. Writes the matches after the first `skip` ones to out, at most `room`, in the order of the file (by subject,
  * predicate, object), each as its three IDs. Returns how many: fewer than `room` if there are no more. If nothing is given, or s, or
  * s and p, or only o, the first match to write is found without the skipped ones. Otherwise each call scans those, so pages of one
- * size take quadratic time: use hdt_page. HDT_CLOSED, which is greater than any room. */
+ * size take quadratic time: use hdt_page. HDT_CLOSED, never a number of triples. */
 uint64_t hdt_find(hdt_graph *graph, uint32_t has_s, const uint8_t *s, size_t s_len, uint32_t has_p, const uint8_t *p, size_t p_len,
                   uint32_t has_o, const uint8_t *o, size_t o_len, uint64_t skip, uint64_t (*out)[3], size_t room);
 
@@ -236,7 +240,7 @@ uint64_t hdt_matching(hdt_graph *graph, uint32_t has_s, const uint8_t *s, size_t
 
 /* The triples that match as N-Triples, a line each, in the order of the file. With HDT_DONE out has the text, which is empty if
  * nothing matches; else it has nothing. HDT_NOT_A_TERM, with the role and ID of the first such string of the first such triple;
- * HDT_IS_CLOSED, HDT_OUT_OF_MEMORY. Time is linear in the text, and in the file at most. */
+ * HDT_IS_CLOSED, HDT_OUT_OF_MEMORY. Time is at most linear in the text and the file together. */
 void hdt_text(hdt_graph *graph, uint32_t has_s, const uint8_t *s, size_t s_len, uint32_t has_p, const uint8_t *p, size_t p_len,
               uint32_t has_o, const uint8_t *o, size_t o_len, hdt_bytes *out, hdt_telling *telling);
 
@@ -299,14 +303,17 @@ void hdt_split(const uint8_t *text, size_t len, uint32_t parts, const uint8_t *p
 void hdt_rewrite(const uint8_t *bytes, size_t len, uint32_t block_size, hdt_bytes *out, hdt_verdict *verdict);
 
 /* The term with a dictionary string, as hdt_string and hdt_strings give it: its kind, and which bytes of the string are
- * its text and its language tag or datatype. Nothing in them is escaped. Returns HDT_DONE; or HDT_NOT_A_TERM if no term
+ * its text and its language tag or datatype. Nothing in them is escaped. To write it as N-Triples, escape `\`, `"`, LF and CR
+ * in a literal, and in an IRI the characters that N-Triples excludes, as \u and 4 digits (docs/NTRIPLES.md, "Writing"); hdt_page_text
+ * does it for triples. No call parses a term of N-Triples. Returns HDT_DONE; or HDT_NOT_A_TERM if no term
  * has this string, as a relative IRI, or HDT_OUT_OF_MEMORY; then all of `parts` is 0. An IRI may have characters that
  * N-Triples excludes. Linear time; memory of that size, which is freed. */
 uint32_t hdt_term(const uint8_t *string, size_t len, hdt_term_parts *parts);
 
 /* The dictionary string of a term: the inverse of hdt_term. The text is the IRI, the label without `_:`, or the text of
  * a literal; the suffix is the language tag without `@` or the IRI of the datatype without `<` and `>`, and is not read
- * with another kind (but may not be null). Writes the first bytes of the string to out as hdt_string does, and returns
+ * with another kind (but may not be null). For the datatype xsd:string use HDT_LITERAL: files that are built never have
+ * it with HDT_TYPED. Writes the first bytes of the string to out as hdt_string does, and returns
  * its length. HDT_ABSENT if there is no such term: the kind is none of HDT_IRI to HDT_TYPED, or a text is not of that
  * kind, as a relative IRI or a tag with a space; HDT_NO_MEMORY; then out is unchanged. Linear time; memory of that
  * size, which is freed. */
@@ -318,7 +325,7 @@ uint32_t hdt_version(void);
 
 /* The name of a reason of a file (HDT_FILE_..) as in docs/FORMAT.md, or of a text (HDT_TEXT_..) as in docs/NTRIPLES.md,
  * in ASCII. Writes its first bytes to out as hdt_string does, with no zero byte after them, and returns its length,
- * which is below HDT_NAME_ROOM. HDT_ABSENT if no reason has this number, as 0 and 250 to 255; then out is unchanged. So
+ * which is below HDT_NAME_ROOM. HDT_ABSENT if no reason has this number, as 0 and the general ones, 250 to 255; then out is unchanged. So
  * this is a C string, which is empty if there is no name:
  *
  *     uint8_t name[HDT_NAME_ROOM] = {0};

@@ -15,7 +15,7 @@ from pathlib import Path
 import pytest
 
 from support.built import SAMPLES, TOP
-from support.c_library import EXAMPLE, compile_program, succeeds
+from support.c_library import EXAMPLE, HEADER, compile_program, succeeds
 from support.clone import copied
 from support.program import Result, Word, hdt, run
 
@@ -233,11 +233,11 @@ def flags_of(prefix: Path) -> list[str]:
 
 @needs_pkg_config
 def test_pkg_config(prefix: Path, tmp_path: Path) -> None:
-    """pkg-config gives the program's version, and flags with which the example compiles."""
+    """pkg-config gives the header's version, and flags with which the example compiles."""
     wanted = [f"-I{prefix}/include", f"-L{prefix}/lib", "-lhdt"]
     assert [os.path.normpath(word) for word in flags_of(prefix)] == wanted
     version = succeeds("pkg-config", "--modversion", "hdt", env={"PKG_CONFIG_PATH": str(prefix / "lib/pkgconfig")})
-    assert f"hdt {version}".encode() == hdt("--version").out
+    assert version.strip() == ".".join(re.findall(r"#define HDT_VERSION_M\w+ (\d+)", HEADER.read_text()))
     program = compile_program(tmp_path / "example", EXAMPLE, "-std=c99", "-O2", *flags_of(prefix))
     assert run_example(program, prefix, SAMPLES / "three.hdt").status == 0
 
@@ -282,7 +282,17 @@ def test_example(linked: str, sample: str, pattern: list[str], examples: dict[st
 def test_example_of_an_invalid_file(linked: str, examples: dict[str, Path], prefix: Path) -> None:
     """The example reports the error of an invalid file."""
     done = run_example(examples[linked], prefix, SAMPLES / "v1-head.hdt")
-    assert done == (1, b"", b"reason 1 at byte 218\n")
+    assert done == (1, b"", b"reason 1 Truncated at byte 218\n")
+
+
+def test_example_of_a_pipe_and_of_no_file(examples: dict[str, Path], prefix: Path) -> None:
+    """The example reads a pipe and a large file as a small one, and reports a file that is missing."""
+    data = (SAMPLES / "three.hdt").read_bytes()
+    done = run([examples["static"], "/dev/stdin"], stdin=data)
+    assert done == run([examples["static"], SAMPLES / "three.hdt"])
+    large = run([examples["static"], "/dev/stdin"], stdin=data + bytes(1 << 18))
+    assert large == (1, b"", f"reason 33 TrailingBytes at byte {len(data)}\n".encode())
+    assert run([examples["static"], prefix / "none"]) == (3, b"", f"{prefix / 'none'} cannot be read\n".encode())
 
 
 # ---- the Python wheel
