@@ -30,7 +30,7 @@ BLOCKS = {
     "docs/C.md": {"c": 1, "sh": 1},
     "docs/GUIDE.md": {"python": 3, "sh": 5, "text": 7},
     "docs/PROBES.md": {"sh": 1},
-    "docs/PYTHON.md": {"python": 7},
+    "docs/PYTHON.md": {"python": 6},
     "docs/RATTLE.md": {"rust": 5, "text": 3},
     "docs/RUST.md": {"rs": 1, "toml": 1},
 }
@@ -220,6 +220,16 @@ def test_converters_of_the_guide(clone: Path) -> None:
     printed = [shell(f"{line} && {count}", clone) for line in commands]
     assert [(status, out.split()[1:6], out.split()[-1]) for status, out in printed] == [
         (0, ["2", "0", "1", "1", "2"], "2"), (0, ["1", "0", "1", "1", "1"], "1")]
+
+
+def test_merging_of_the_guide(clone: Path) -> None:
+    """By the commands of the guide a label is one node in both files, or, with new labels, one in each."""
+    (clone / "graph.nt").write_text('_:b <u:p> "1" .\n')
+    (clone / "samples/three.nt").write_text('_:b <u:p> "2" .\n')
+    (merging,) = [block.text for block in blocks("docs/GUIDE.md", "sh") if "--blank-nodes apart" in block.text]
+    text = f"./hdt build graph.nt graph.hdt; {merging} for it in both apart; do ./hdt dump $it.hdt | cut -c 1-6; done"
+    status, out = shell(text, clone)
+    assert (status, out.splitlines()[-4:]) == (0, ["_:b <u", "_:b <u", "_:f0_b", "_:f1_b"])
 
 
 def test_labels_of_the_guide(clone: Path) -> None:

@@ -5,6 +5,7 @@ from __future__ import annotations
 import copy
 import dataclasses
 import pickle
+import re
 from pathlib import Path
 from typing import Any, Optional
 
@@ -89,6 +90,26 @@ def test_ntriples(text: str) -> None:
 def test_texts_of_no_term(text: str) -> None:
     """Other texts are a ValueError."""
     with pytest.raises(ValueError, match="no term"):
+        hdt.Term.parse_ntriples(text)
+
+
+# Why a text is no term of N-Triples.
+REASONS = {
+    "<http://a/b": "no > at the end",
+    "<u:a b>": "a character or an escape that no IRI has",
+    "<rel>": "not an absolute IRI of N-Triples",
+    '"v1': "not a text in quotation marks, and then nothing, a language tag or ^^ and a datatype",
+    "u:a": "an IRI begins with <, a literal with a quotation mark, a blank node with _:",
+    "_:.": "not the label of a blank node",
+    '"\\U00110000"': "an escape of no character",
+    '"\\ud800"': "it has U+0000 or half of a surrogate pair",
+}
+
+
+@pytest.mark.parametrize("text", REASONS)
+def test_why_a_text_is_no_term(text: str) -> None:
+    """The message ends with the reason."""
+    with pytest.raises(ValueError, match=f": {re.escape(REASONS[text])}$"):
         hdt.Term.parse_ntriples(text)
 
 

@@ -489,7 +489,7 @@ def test_import_without_rdflib() -> None:
     """Without rdflib `hdt` is imported, and `hdt.rdflib` names what it needs."""
     status, _, errors = program("import sys; sys.modules['rdflib'] = None; import hdt; import hdt.rdflib")
     assert status == 1
-    assert errors.endswith("ImportError: hdt.rdflib needs rdflib: pip install 'tickmarl-hdt[rdflib]'\n")
+    assert errors.endswith("ImportError: hdt.rdflib needs rdflib: pip install 'rdflib>=6.1.1'\n")
 
 
 def test_parts_of_rdflib_that_may_change() -> None:

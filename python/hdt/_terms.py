@@ -37,20 +37,39 @@ _ESCAPED = str.maketrans({"\\": "\\\\", '"': '\\"', "\n": "\\n", "\r": "\\r"})
 _ESCAPED_IN_IRI = {code: f"\\u{code:04X}" for code in [*range(0x21), *map(ord, '<>"{}|^`\\')]}
 
 
-def _no_term(text: str) -> ValueError:
-    return ValueError(f"no term: {text!r}")
+_WHY = {  # why the text of a term is none
+    "iri": "not an absolute IRI",
+    "blank": "not the label of a blank node",
+    "literal": "it has U+0000 or half of a surrogate pair",
+}
+
+
+def _no_term(text: str, why: str) -> ValueError:
+    return ValueError(f"no term: {text!r}: {why}")
+
+
+def _why_not_ntriples(text: str) -> str:
+    """Why a text that does not have the form of a term of N-Triples doesn't."""
+    if text.startswith("<"):
+        return "no > at the end" if not text.endswith(">") else "a character or an escape that no IRI has"
+    if text.startswith('"'):
+        return "not a text in quotation marks, and then nothing, a language tag or ^^ and a datatype"
+    return "an IRI begins with <, a literal with a quotation mark, a blank node with _:"
 
 
 def _unescaped(text: str) -> str:
-    """A text without its escapes. Raises ValueError or OverflowError for one of no character."""
-    return _ESCAPE.sub(lambda it: _CHARACTERS[it[3]] if it[3] else chr(int(it[1] or it[2], 16)), text)
+    """A text without its escapes. Raises ValueError for one of no character."""
+    try:
+        return _ESCAPE.sub(lambda it: _CHARACTERS[it[3]] if it[3] else chr(int(it[1] or it[2], 16)), text)
+    except (ValueError, OverflowError):
+        raise _no_term(text, "an escape of no character") from None
 
 
 def _unescaped_iri(text: str) -> str:
     """The same of an IRI. Raises ValueError if there are characters then that no IRI of N-Triples has."""
     iri = _unescaped(text)
     if not _STRICT_IRI.fullmatch(iri):
-        raise _no_term(text)
+        raise _no_term(text, "not an absolute IRI of N-Triples")
     return iri
 
 
@@ -68,7 +87,7 @@ class Term:
     '"chat"@fr'
     >>> hdt.Term("iri", "relative")
     Traceback (most recent call last):
-    ValueError: no term: 'relative'
+    ValueError: no term: 'relative': not an absolute IRI
     """
 
     kind: Kind
@@ -84,11 +103,11 @@ class Term:
             if self.kind != "literal" or None not in (self.language, self.datatype):
                 raise ValueError("only a literal has a language or a datatype, and not both")
             if not _LANGUAGE.fullmatch(self.language or "x") or not _STRICT_IRI.fullmatch(self.datatype or "x:"):
-                raise _no_term(self.language or self.datatype or "")
+                raise _no_term(self.language or self.datatype or "", "not a language tag, or a datatype's IRI")
             if "" in (self.language, self.datatype):
-                raise _no_term("")
+                raise _no_term("", "not a language tag, or a datatype's IRI")
         if not of_kind.fullmatch(self.lexical):
-            raise _no_term(self.lexical)
+            raise _no_term(self.lexical, _WHY[self.kind])
 
     @classmethod
     def parse(cls, string: str) -> Term:
@@ -109,7 +128,7 @@ class Term:
             return cls("literal", text, language=tail[1:])
         if end and tail.startswith("^^<") and tail.endswith(">"):
             return cls("literal", text, datatype=tail[3:-1])
-        raise _no_term(string)
+        raise _no_term(string, "not a text in quotation marks, and then nothing, @ and a language tag, or ^^<datatype>")
 
     def format(self) -> str:
         """The dictionary string, by which it is looked up and found: the inverse of `parse`.
@@ -130,17 +149,14 @@ class Term:
         """
         found = _SPELLED.fullmatch(text)
         if found is None:
-            raise _no_term(text)
+            raise _no_term(text, _why_not_ntriples(text))
         iri, label, literal, language, datatype = found.groups()
         if label is not None:
             return cls("blank", label)
-        try:
-            if iri is not None:
-                return cls("iri", _unescaped_iri(iri))
-            kind = None if datatype is None else _unescaped_iri(datatype)
-            return cls("literal", _unescaped(literal), language, None if kind == _XSD_STRING else kind)
-        except (ValueError, OverflowError):
-            raise _no_term(text) from None
+        if iri is not None:
+            return cls("iri", _unescaped_iri(iri))
+        kind = None if datatype is None else _unescaped_iri(datatype)
+        return cls("literal", _unescaped(literal), language, None if kind == _XSD_STRING else kind)
 
     def format_ntriples(self) -> str:
         """The term as N-Triples, with as few escapes as there may be.

@@ -13,7 +13,7 @@ Within `planned()` the joins of queries over such stores are ordered by the coun
 from then on. Without either, rdflib orders them.
 
 `Graph("HDT")` and its `open(path)` do it by name. It needs rdflib, of 6.1.1 or newer (tested with 6.1.1):
-`pip install 'tickmarl-hdt[rdflib]'`.
+`pip install './python[rdflib]'` in a clone.
 
 Terms are those of the file. A literal keeps its text: `"01"` of xsd:integer doesn't become `1`. A blank node keeps its
 label, behind `scope`. Literals are equal as follows, where a pattern is asked for and where a join compares them:
@@ -32,7 +32,7 @@ from __future__ import annotations
 try:
     import rdflib
 except ImportError as why:
-    raise ImportError("hdt.rdflib needs rdflib: pip install 'tickmarl-hdt[rdflib]'") from why
+    raise ImportError("hdt.rdflib needs rdflib: pip install 'rdflib>=6.1.1'") from why
 
 from hdt import Fault, NotATerm
 from hdt.rdflib._plan import plan_sparql, planned
