@@ -263,3 +263,5 @@ def test_many(tmp_path: Path) -> None:
     lines = b"".join(b'<u:s%06d> <u:p> "%06d" .\n' % (n, n) for n in range(120_000) if n % 3)
     assert hdt("dump", "--skip-non-terms", path) == reported(lines, "triples skipped", 40_000)
     assert hdt("verify", "--terms", path) == verdict(data)
+    assert (hdt("answer", "--skip-non-terms", path, stdin=b"? ? ?\n? <u:p> ?\n")
+            == reported(2 * (lines + b"\n"), "triples skipped", 80_000))
