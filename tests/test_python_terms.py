@@ -113,6 +113,18 @@ def test_why_a_text_is_no_term(text: str) -> None:
         hdt.Term.parse_ntriples(text)
 
 
+@pytest.mark.parametrize("string, wanted", [
+    ("<u:a>", "no term: '<u:a>': an IRI of a dictionary string has no brackets"),
+    ("rel", "no term: 'rel': not an absolute IRI"),
+    ("_:", "no term: '_:': not the label of a blank node"),
+])
+def test_why_a_string_is_no_term(string: str, wanted: str) -> None:
+    """The message has the whole string and the reason."""
+    with pytest.raises(ValueError) as why:
+        hdt.Term.parse(string)
+    assert str(why.value) == wanted
+
+
 FIELDS: dict[str, tuple[Any, ...]] = {
     "another kind": ("IRI", "u:a"),
     "an IRI with a language": ("iri", "u:a", "en"),

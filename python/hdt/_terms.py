@@ -107,7 +107,9 @@ class Term:
             if "" in (self.language, self.datatype):
                 raise _no_term("", "not a language tag, or a datatype's IRI")
         if not of_kind.fullmatch(self.lexical):
-            raise _no_term(self.lexical, _WHY[self.kind])
+            if self.kind == "iri" and self.lexical.startswith("<"):
+                raise _no_term(self.lexical, "an IRI of a dictionary string has no brackets")
+            raise _no_term("_:" * (self.kind == "blank") + self.lexical, _WHY[self.kind])
 
     @classmethod
     def parse(cls, string: str) -> Term:
