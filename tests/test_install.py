@@ -53,6 +53,11 @@ def installed_files(folder: Path) -> set[str]:
     return {str(path.relative_to(folder)) for path in folder.rglob("*") if path.is_symlink() or path.is_file()}
 
 
+def empty_folders(folder: Path) -> set[str]:
+    """The folders below a folder that have nothing in them."""
+    return {str(path.relative_to(folder)) for path in folder.rglob("*") if path.is_dir() and not any(path.iterdir())}
+
+
 @pytest.fixture(scope="module")
 def tree(tmp_path_factory: pytest.TempPathFactory) -> Path:
     """A copy of the repository without what was made in it."""
@@ -121,15 +126,22 @@ def test_destdir(tree: Path, tmp_path: Path) -> None:
 
 @pytest.mark.parametrize("destdir", [False, True], ids=["prefix", "destdir"])
 def test_uninstall(destdir: bool, tree: Path, tmp_path: Path) -> None:
-    """Uninstalling removes what was installed and nothing else."""
+    """Uninstalling removes what was installed, with the folders that were made and are empty, and nothing else.
+
+    An install with DESTDIR lists no folders in hdt.pc, which goes into a package.
+    """
     words = ["PREFIX=/usr", f"DESTDIR={tmp_path}"] if destdir else [f"PREFIX={tmp_path / 'usr'}"]
-    assert make(tree, "install", *words).status == 0
+    (tmp_path / "usr/share/zsh").mkdir(parents=True)
+    for _ in range(2):
+        assert make(tree, "install", *words).status == 0
+    assert ("# made" in (tmp_path / "usr/lib/pkgconfig/hdt.pc").read_text()) == (not destdir)
     others = {"usr/bin/other", "usr/lib/libhdt.so.2", "usr/share/man/man1/hdt.1x"}
     for name in others:
         (tmp_path / name).write_text("other\n")
     done = make(tree, "uninstall", *words)
     assert (done.status, done.err) == (0, b"")
     assert installed_files(tmp_path) == others
+    assert destdir or empty_folders(tmp_path) == {"usr/share/zsh"}
     assert make(tree, "uninstall", *words).status == 0
 
 
@@ -150,6 +162,7 @@ def test_install_fails_whole(name: str, kind: str, tree: Path, tmp_path: Path) -
     before = installed_files(tmp_path)
     done = make(tree, "install", f"PREFIX={prefix}")
     assert (done.status != 0, done.err != b"", installed_files(tmp_path)) == (True, True, before)
+    assert empty_folders(tmp_path) == set()
 
 
 @pytest.mark.parametrize("words", [["--help"], ["a", "b"]], ids=" ".join)
