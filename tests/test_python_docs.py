@@ -2,17 +2,15 @@
 
 from __future__ import annotations
 
-import doctest
-import inspect
 import pydoc
 import re
 import shutil
 from pathlib import Path
-from typing import Any
 
 import pytest
 
 from support.built import SAMPLES, TOP
+from support.docstrings import calls, check_example, examples, lacking, public, untyped
 from support.python_package import PACKAGE, faults, hdt
 from test_documents import blocks
 
@@ -28,68 +26,41 @@ def folder(tmp_path: Path, monkeypatch: pytest.MonkeyPatch) -> Path:
     return tmp_path
 
 
-def public() -> dict[str, Any]:
-    """What the package exports, and the public methods and properties of its classes, by their names."""
-    found = {name: getattr(hdt, name) for name in hdt.__all__ if name not in ("Path", "Role")}
-    for name, kind in list(found.items()):
-        if inspect.isclass(kind):
-            own = [key for key in vars(kind) if not key.startswith("_")]
-            found.update({
-                f"{name}.{key}": getattr(kind, key)
-                for key in own
-                if callable(getattr(kind, key)) or isinstance(getattr(kind, key), property)
-            })
-    return found
-
-
-EXAMPLES = {
-    test.name: test
-    for name in hdt.__all__
-    for test in doctest.DocTestFinder().find(getattr(hdt, name), name, module=False, globs={"hdt": hdt})
-    if test.examples
-}
+EXPORTED = {name: getattr(hdt, name) for name in hdt.__all__ if name not in ("Path", "Role")}
+PUBLIC = public(EXPORTED)
+EXAMPLES = examples(EXPORTED, {"hdt": hdt})
 
 
 @pytest.mark.parametrize("name", EXAMPLES)
 def test_examples(name: str, folder: Path) -> None:
     """The examples of a docstring give what they say."""
-    told: list[str] = []
-    result = doctest.DocTestRunner(verbose=False).run(EXAMPLES[name], out=told.append)
-    assert (result.failed, "".join(told)) == (0, "")
-    assert result.attempted > 0
+    check_example(EXAMPLES[name])
 
 
 def test_each_call_has_an_example() -> None:
     """All that is exported has a docstring with an example."""
-    lacking = [name for name in public() if name not in EXAMPLES]
-    assert lacking == ["Graph.find_numbers"]
+    assert [name for name in PUBLIC if name not in EXAMPLES] == ["Graph.find_numbers"]
     assert hdt.Graph.find_numbers is hdt.Graph.find_ids
-    assert len(public()) > 35
+    assert len(PUBLIC) > 35
 
 
 def test_calls_name_their_errors() -> None:
     """A call that can be given something wrong says what it raises."""
     quiet = {"Graph.close", "Graph.predicates", "Term.format", "Term.format_ntriples"}
-    calls = {name: it for name, it in public().items() if inspect.isroutine(it) and inspect.signature(it).parameters}
-    lacking = [name for name, it in calls.items() if not re.search("Errors|Raises", inspect.getdoc(it) or "")]
-    assert set(lacking) <= quiet, lacking
+    given = {name: PUBLIC[name] for name, signature in calls(PUBLIC).items() if signature.parameters}
+    assert lacking("Errors|Raises", given) <= quiet
 
 
 def test_calls_name_their_cost() -> None:
     """Each call says what time or memory it takes; of terms, the class says it for all."""
-    documents = {name: inspect.getdoc(it) or "" for name, it in public().items()}
-    lacking = {name for name, text in documents.items() if not re.search(r"\btime\b|takes|decodes|memory", text)}
     values = {"Counts", "Fault", "LineFault", "NoTriples", "NotATerm"}
-    assert lacking - values == {f"Term.{name}" for name in ("parse", "format", "parse_ntriples", "format_ntriples")}
+    silent = lacking(r"\btime\b|takes|decodes|memory", PUBLIC)
+    assert silent - values == {f"Term.{name}" for name in ("parse", "format", "parse_ntriples", "format_ntriples")}
 
 
 def test_annotations() -> None:
     """Each parameter and each result has a type."""
-    for name, it in public().items():
-        if inspect.isroutine(it):
-            signature = inspect.signature(it)
-            types = [one.annotation for key, one in signature.parameters.items() if key not in ("self", "cls")]
-            assert inspect.Signature.empty not in [*types, signature.return_annotation], name
+    assert untyped(PUBLIC) == []
 
 
 def test_help() -> None:
@@ -112,6 +83,6 @@ def test_page_has_its_blocks() -> None:
     """docs/PYTHON.md has its programs, which tests/test_documents.py runs, and names every call and every error."""
     text = (TOP / PAGE).read_text()
     assert len(blocks(PAGE, "python")) >= 6
-    missing = [name for name in public() if not re.search(rf"\b{name.rpartition('.')[2]}\b", text)]
+    missing = [name for name in PUBLIC if not re.search(rf"\b{name.rpartition('.')[2]}\b", text)]
     assert missing == []
     assert faults.REASONS and "SIGBUS" in text and "tickmarl_hdt" in text

@@ -15,7 +15,11 @@ from pathlib import Path
 import pytest
 
 from support.built import PROGRAM as BUILT_PROGRAM, SAMPLES, SHARED_LIBRARY, TOP
+from support.package_mutants import Wrong
+from support.parts_mutants import WRONG as PARTS_WRONG
 from support.program import Result, run
+from support.python_mutants import WRONG as PYTHON_WRONG
+from support.rdflib_mutants import WRONG as RDFLIB_WRONG
 from support.tools import tool
 
 MODULES = sorted(it.stem for it in (TOP / "tools").glob("*.py") if "argparse" in it.read_text())
@@ -108,6 +112,13 @@ def test_black() -> None:
     """The modules of `tools` are formatted."""
     files = sorted((TOP / "tools").glob("*.py"))
     assert [it for it in found("black", "-q", "-l", "120", "--check", "--diff", *files)] == []
+
+
+@pytest.mark.parametrize("package, wrong", [("", PYTHON_WRONG), ("/rdflib", RDFLIB_WRONG), ("/parts", PARTS_WRONG)])
+def test_wrong_bodies_of_packages(package: str, wrong: Wrong) -> None:
+    """What each wrong body of a Python package replaces is in its module."""
+    sources = {name: (TOP / f"python/hdt{package}/{name}.py").read_text() for name in wrong}
+    assert [row for name, rows in wrong.items() for row in rows if row[1] not in sources[name]] == []
 
 
 # ---- without the kit
