@@ -14,7 +14,7 @@ from reference import checks, hdt as reference
 from reference import ntriples
 from support.program import READING_FAILED, Result, Word, brief, done, failed, fault, hdt
 from support.search import THREE as THREE_TRIPLES
-from support.search import Triple
+from support.search import UNUSED, Triple, escaped
 
 # Two predicates with as many triples, an object that is the most frequent one but not the first, and strings to escape.
 TIES: list[Triple] = [
@@ -25,11 +25,6 @@ TIES: list[Triple] = [
     (b"_:b", b"u:a", b'"x"@en'),
 ]
 REL: list[Triple] = [(b"u:s", b"rel", b"u:o"), (b"u:s", b"u:p", b"u:o"), (b"u:t", b"u:p", b"u:o")]
-
-
-def escaped(string: bytes) -> bytes:
-    """A string as it is printed in a line."""
-    return string.replace(b"\\", b"\\\\").replace(b"\n", b"\\n").replace(b"\r", b"\\r")
 
 
 def counted(
@@ -77,9 +72,7 @@ FILES = {
     "three triples": reference.graph(THREE_TRIPLES)[0],
     "ties": reference.graph(TIES)[0],
     "a string that is not a term": reference.graph(REL)[0],
-    "unused strings": reference.loose(
-        THREE_TRIPLES, [b"u:a", b"u:b", b"u:z"], [b"u:p", b"u:q", b"u:r"], [b'"unused"', b'"x"', b"u:a", b"u:b"]
-    )[0],
+    "unused strings": UNUSED,
 }
 
 

@@ -141,7 +141,7 @@ def test_c_programs(document: str, number: int, clone: Path) -> None:
     (clone / "block.c").write_text(block.text)
     succeeds(CC, "-std=c99", *WARNINGS, f"-I{HEADER.parent}", "-o", "block", "block.c", STATIC_LIBRARY, cwd=clone)
     done = run(["./block", "samples/three.hdt"], cwd=clone, env=environment(clone))
-    assert (done.status, done.out.decode()) == (0, commented(block.text, "printf", r"/\* (.*) \*/"))
+    assert (done.status, done.out.decode()) == (0, commented(block.text, "(?:printf|fwrite)", r"/\* (.*) \*/"))
 
 
 @pytest.mark.parametrize("document, number", named("python"))

@@ -48,11 +48,7 @@ def split_by_pattern(answer: Answer) -> list[list[int]]:
 def assert_finds(probe: Probe, data: bytes, ids: Sequence[Triple], patterns: Iterable[Pattern]) -> None:
     """A graph and a layout find and count, for each pattern, the triples that match."""
     asked = list(patterns)
-    expected: dict[Pattern, list[Triple]] = {pattern: [] for pattern in asked}
-    for triple in ids:
-        for pattern in model.patterns(triple):
-            if pattern in expected:
-                expected[pattern].append(triple)
+    expected = model.matches_of(ids, asked)
     wanted = [(pattern, [len(expected[pattern]), *items_of(expected[pattern])]) for pattern in asked]
     arguments = [n for pattern in asked for n in pattern]
     for prefix in ALL:

@@ -15,7 +15,7 @@ from reference import hdt as reference
 from support.built import SAMPLES
 from support.program import READING_FAILED, Result, Word, brief, done, hdt
 from support.search import THREE as THREE_TRIPLES
-from support.search import Triple
+from support.search import UNUSED, Triple
 
 Value = Union[int, float, bool]
 
@@ -99,9 +99,6 @@ def check(path: Path, data: bytes) -> dict[str, Value]:
     return values
 
 
-UNUSED = reference.loose(
-    THREE_TRIPLES, [b"u:a", b"u:b", b"u:z"], [b"u:p", b"u:q", b"u:r"], [b'"unused"', b'"x"', b"u:a", b"u:b"]
-)[0]
 FILES = {
     "three triples": reference.graph(THREE_TRIPLES)[0],
     "a base": reference.graph(THREE_TRIPLES, base=b"http://a/")[0],

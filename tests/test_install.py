@@ -7,9 +7,8 @@ import os
 import re
 import shutil
 import sys
-import tempfile
 import zipfile
-from collections.abc import Iterator, Sequence
+from collections.abc import Sequence
 from pathlib import Path
 
 import pytest
@@ -180,19 +179,10 @@ def test_a_prefix_that_is_relative(tree: Path) -> None:
     assert not (tree / "~").exists()
 
 
-@pytest.fixture
-def open_folder() -> Iterator[Path]:
-    """A folder that another user may read."""
-    with tempfile.TemporaryDirectory() as name:
-        folder = Path(name)
-        folder.chmod(0o755)
-        yield folder
-
-
 @needs_root
-def test_install_into_a_folder_of_another_user(open_folder: Path) -> None:
+def test_install_into_a_folder_of_another_user(public_folder: Path) -> None:
     """A folder that the user can't write to stays as it is."""
-    tree, prefix = copied(open_folder), open_folder / "prefix"
+    tree, prefix = copied(public_folder), public_folder / "prefix"
     prefix.mkdir()
     succeeds("chown", "-R", "65534:65534", tree)
     done = make(tree, "install", f"PREFIX={prefix}", before=AS_NOBODY)
@@ -201,9 +191,9 @@ def test_install_into_a_folder_of_another_user(open_folder: Path) -> None:
 
 
 @needs_root
-def test_install_from_a_folder_of_another_user(open_folder: Path) -> None:
+def test_install_from_a_folder_of_another_user(public_folder: Path) -> None:
     """A user who can only read the repository can install it into a folder of their own."""
-    tree, prefix = copied(open_folder), open_folder / "prefix"
+    tree, prefix = copied(public_folder), public_folder / "prefix"
     prefix.mkdir()
     shutil.chown(prefix, 65534, 65534)
     done = make(tree, "install", f"PREFIX={prefix}", before=AS_NOBODY)

@@ -15,7 +15,8 @@ from reference.ntriples import (
 )
 from support.probe import Answer, Argument, Probe, ok
 from support.terms import (
-    STEPS, Case, Request, answered, damaged, document_texts, documents, error_answer, line_texts, shortened, soups,
+    LARGE, LARGE_TERMS, STEPS, Case, Request, answered, damaged, document_texts, documents, error_answer, line_texts,
+    shortened, soups,
 )
 
 ALL = 10_000_000
@@ -361,22 +362,7 @@ def test_late_errors(probe: Probe, data: bytes, line: int, column: int) -> None:
     assert cases[-1][1][-3:] == ("Syntax", str(line), str(column))
 
 
-LARGE = b"b" * 140_000
-
-# The object of a line before and after many bytes, and the same of its dictionary string.
-LARGE_OBJECTS = [
-    (b"<u:", b">", b"u:", b""),
-    (b"_:a", b"", b"_:a", b""),
-    (b'"', b'"', b'"', b'"'),
-    (b'"x"@e', b"", b'"x"@e', b""),
-    (b'"x"^^<u:', b">", b'"x"^^<u:', b">"),
-    (b'"', b'"^^<u:t>', b'"', b'"^^<u:t>'),
-    (b'"', b'"@en', b'"', b'"@en'),
-    (rb'"\u00e9', rb'\t"', b'"\xc3\xa9', b'\t"'),
-]
-
-
-@pytest.mark.parametrize("before, after, string_before, string_after", LARGE_OBJECTS)
+@pytest.mark.parametrize("before, after, string_before, string_after", LARGE_TERMS)
 def test_large_objects(probe: Probe, before: bytes, after: bytes, string_before: bytes, string_after: bytes) -> None:
     """A line of more than 240,000 bytes and one after it, in pieces and at once."""
     data = b"<u:s>\t<u:p>" + SPACES + before + LARGE + after + b" .\n<u:s> <u:p> <u:o> ."

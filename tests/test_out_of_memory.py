@@ -16,7 +16,7 @@ from support.built import PROGRAM, SAMPLES
 from support.probe import Probe, line_of, spelled
 from support.program import Result, Word, hdt, run
 from support.refused_requests import DIALOGUE, GROUPS, Request
-from support.refusing import Refuser, wrong
+from support.refusing import Refusals, Refuser, wrong
 
 OUT_OF_MEMORY = Result(4, b"", b"hdt: out of memory\n")
 THREE = SAMPLES / "three.hdt"
@@ -178,13 +178,18 @@ def folder(tmp_path: Path) -> Path:
     return tmp_path
 
 
+def refused(refuser: Refuser, words: Sequence[Word], folder: Path) -> Refusals:
+    """What the program does with each allocation refused, after a check that it does the same without `refuser`."""
+    command: list[Word] = [PROGRAM, *words]
+    refusals = refuser.run(command, cwd=folder)
+    assert refusals.ample == run(command, cwd=folder)
+    assert len(refusals.refused) > 0
+    return refusals
+
+
 def check_refused(refuser: Refuser, words: Sequence[Word], unchanged: int, folder: Path) -> None:
     """Check that the program reports each refused allocation, but for some that change nothing."""
-    command: list[Word] = [PROGRAM, *words]
-    ample = run(command, cwd=folder)
-    refusals = refuser.run(command, cwd=folder)
-    assert refusals.ample == ample
-    assert len(refusals.refused) > 0
+    refusals = refused(refuser, words, folder)
     assert wrong(refusals, lambda result: result == OUT_OF_MEMORY, unchanged) == []
 
 
@@ -218,11 +223,8 @@ def test_refused_command_lines(words: list[Word], unchanged: int, refuser: Refus
 @pytest.mark.parametrize("name", LINTS)
 def test_lint(name: str, refuser: Refuser, folder: Path) -> None:
     """A program that checks a document writes some first reports and lines, and then reports the refused allocation."""
-    command: list[Word] = [PROGRAM, *LINTS[name]]
-    refusals = refuser.run(command, cwd=folder)
-    ample = run(command, cwd=folder)
-    assert refusals.ample == ample
-    assert len(refusals.refused) > 0
+    refusals = refused(refuser, LINTS[name], folder)
+    ample = refusals.ample
 
     def is_reported(result: Result) -> bool:
         before, last = result.err[:-len(OUT_OF_MEMORY.err)], result.err[-len(OUT_OF_MEMORY.err):]
@@ -235,14 +237,10 @@ def test_lint(name: str, refuser: Refuser, folder: Path) -> None:
 @pytest.mark.parametrize("name", SPLITS)
 def test_split(name: str, refuser: Refuser, folder: Path) -> None:
     """A program that prints a part writes some first lines, and then reports the refused allocation."""
-    command: list[Word] = [PROGRAM, *SPLITS[name]]
-    refusals = refuser.run(command, cwd=folder)
-    ample = run(command, cwd=folder)
-    assert refusals.ample == ample
-    assert len(refusals.refused) > 0
+    refusals = refused(refuser, SPLITS[name], folder)
 
     def is_reported(result: Result) -> bool:
-        return result.status == 4 and result.err == OUT_OF_MEMORY.err and ample.out.startswith(result.out)
+        return result.status == 4 and result.err == OUT_OF_MEMORY.err and refusals.ample.out.startswith(result.out)
 
     assert wrong(refusals, is_reported) == []
 

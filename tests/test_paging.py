@@ -136,16 +136,21 @@ def test_all_pages_of_three(probe: Probe) -> None:
             assert page_in(answer) == expected, (pattern, start, most)
 
 
+@st.composite
+def searches(draw: st.DrawFn) -> tuple[Graph, Pattern]:
+    """Any graph of a few strings, and any pattern."""
+    names = st.integers(0, 5)
+    triples = draw(st.sets(st.tuples(names, names, names), min_size=1, max_size=60))
+    ids = st.none() | st.integers(0, 7)
+    return Graph([(b"u:%d" % s, b"u:%d" % p, b"u:%d" % o) for s, p, o in triples]), draw(st.tuples(ids, ids, ids))
+
+
 @given(data=st.data())
 def test_pages(probe: Probe, data: st.DataObject) -> None:
     """Any graph of a few strings, any pattern, any start and any size."""
-    names = st.integers(0, 5)
-    triples = data.draw(st.sets(st.tuples(names, names, names), min_size=1, max_size=60))
-    graph = Graph([(b"u:%d" % s, b"u:%d" % p, b"u:%d" % o) for s, p, o in triples])
-    ids = st.none() | st.integers(0, 7)
-    pattern = data.draw(st.tuples(ids, ids, ids))
-    start = data.draw(st.integers(0, len(triples) + 1))
-    most = data.draw(st.integers(0, len(triples) + 1))
+    graph, pattern = data.draw(searches())
+    start = data.draw(st.integers(0, len(graph.ids) + 1))
+    most = data.draw(st.integers(0, len(graph.ids) + 1))
     places = graph.places(pattern)
     expected = sum(n >= start for n in places), graph.page(places, start, most)
     assert page_in(probe.on(graph.data, "page", start, most, *pattern)) == expected
@@ -270,12 +275,8 @@ def test_matches_after_some_of_three(probe: Probe) -> None:
 @given(data=st.data())
 def test_matches_after_some(probe: Probe, data: st.DataObject) -> None:
     """Any graph of a few strings, any pattern and any number of matches."""
-    names = st.integers(0, 5)
-    triples = data.draw(st.sets(st.tuples(names, names, names), min_size=1, max_size=60))
-    graph = Graph([(b"u:%d" % s, b"u:%d" % p, b"u:%d" % o) for s, p, o in triples])
-    ids = st.none() | st.integers(0, 7)
-    pattern = data.draw(st.tuples(ids, ids, ids))
-    skip = data.draw(st.integers(0, len(triples) + 1))
+    graph, pattern = data.draw(searches())
+    skip = data.draw(st.integers(0, len(graph.ids) + 1))
     assert probe.on(graph.data, "search_after", skip, *pattern) == ok(*after(graph, pattern, skip))
 
 

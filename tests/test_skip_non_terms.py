@@ -2,6 +2,7 @@
 
 from __future__ import annotations
 
+from contextlib import suppress
 from pathlib import Path
 
 import pytest
@@ -11,6 +12,7 @@ from hypothesis import strategies as st
 from reference import hdt as reference
 from reference import ntriples
 from support.program import WRITING_FAILED, Result, Word, done, fault, hdt, hdt_into
+from support.python_package import hdt as package
 from support.search import THREE, Pattern, Triple, chosen, is_term_of, matches, not_a_term_past_16_bits, spelled
 
 # One triple has a line, one an object that is no term, one a literal as subject, one a predicate that is no IRI.
@@ -265,3 +267,15 @@ def test_many(tmp_path: Path) -> None:
     assert hdt("verify", "--terms", path) == verdict(data)
     assert (hdt("answer", "--skip-non-terms", path, stdin=b"? ? ?\n? <u:p> ?\n")
             == reported(2 * (lines + b"\n"), "triples skipped", 80_000))
+
+
+@pytest.mark.parametrize("triples", [FOUR, SHARED])
+def test_pages_of_one_triple_in_python(triples: list[Triple]) -> None:
+    """By docs/PYTHON.md: pages of one triple, without those that raise, are what `dump --skip-non-terms` prints."""
+    data, _, ordered = reference.graph(triples)
+    text = ""
+    with package.Graph(data) as graph:
+        for n in range(len(graph)):
+            with suppress(package.NotATerm):
+                text += graph.page_text(start=n, limit=1)[0]
+    assert text.encode() == b"".join(map(ntriples.put_strings, kept(ordered, None)[0]))

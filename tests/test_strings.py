@@ -14,7 +14,7 @@ from reference import hdt as reference
 from reference import ntriples
 from support.program import READING_FAILED, Result, Word, brief, done, failed, fault, hdt
 from support.search import THREE as THREE_TRIPLES
-from support.search import Triple
+from support.search import UNUSED, Triple, escaped
 
 # Shared strings and others of each role that begin with the same bytes, and strings to escape.
 KINDS: list[Triple] = [
@@ -28,11 +28,6 @@ KINDS: list[Triple] = [
 ]
 REL: list[Triple] = [(b"u:s", b"rel", b"u:o"), (b"u:s", b"u:p", b"u:o"), (b"u:t", b"u:p", b"rel")]
 KINDS_DATA = reference.graph(KINDS)[0]
-
-
-def escaped(string: bytes) -> bytes:
-    """A string as it is printed in a line."""
-    return string.replace(b"\\", b"\\\\").replace(b"\n", b"\\n").replace(b"\r", b"\\r")
 
 
 def listed(strings: Sequence[bytes], role: str, prefix: bytes, terms: bool) -> Result:
@@ -77,9 +72,7 @@ FILES = {
     "terms of all kinds, a string a block": reference.graph(KINDS, block_size=1)[0],
     "terms of all kinds, blocks of three": reference.graph(KINDS, block_size=3)[0],
     "strings that are not terms": reference.graph(REL)[0],
-    "unused strings": reference.loose(
-        THREE_TRIPLES, [b"u:a", b"u:b", b"u:z"], [b"u:p", b"u:q", b"u:r"], [b'"unused"', b'"x"', b"u:a", b"u:b"]
-    )[0],
+    "unused strings": UNUSED,
 }
 
 

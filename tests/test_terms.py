@@ -10,7 +10,8 @@ from reference.ntriples import (
 )
 from support.probe import Answer, Probe, ok
 from support.terms import (
-    Case, Request, answered, error_answer, fault, shortened, spellings, strings, term_texts, term_values, terms,
+    LARGE, LARGE_TERMS, Case, Request, answered, error_answer, fault, shortened, spellings, strings, term_texts,
+    term_values, terms,
 )
 
 # ---- what the reference says, as a probe answers it
@@ -425,21 +426,6 @@ def test_long_literal(probe: Probe) -> None:
     cases: list[Case] = [(("put_string", string, b"before "), ok("literal", written)),
                          (("put_term", string, b"before "), ok(written))]
     assert shortened(answered(probe, cases)) == shortened(cases)
-
-
-LARGE = b"b" * 140_000
-
-# The text of a term before and after many bytes, and the same of its dictionary string.
-LARGE_TERMS = [
-    (b"<u:", b">", b"u:", b""),
-    (b"_:a", b"", b"_:a", b""),
-    (b'"', b'"', b'"', b'"'),
-    (b'"x"@e', b"", b'"x"@e', b""),
-    (b'"x"^^<u:', b">", b'"x"^^<u:', b">"),
-    (b'"', b'"^^<u:t>', b'"', b'"^^<u:t>'),
-    (b'"', b'"@en', b'"', b'"@en'),
-    (rb'"\u00e9', rb'\t"', b'"\xc3\xa9', b'\t"'),
-]
 
 
 @pytest.mark.parametrize("before, after, string_before, string_after", LARGE_TERMS)

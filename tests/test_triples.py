@@ -69,11 +69,7 @@ def assert_finds(probe: Probe, data: bytes, at: int, counts: Counts, ids: Sequen
                  patterns: Iterable[Pattern]) -> None:
     """All three types find and count, for each pattern, the triples that match."""
     asked = list(patterns)
-    expected: dict[Pattern, list[Triple]] = {pattern: [] for pattern in asked}
-    for triple in ids:
-        for pattern in model.patterns(triple):
-            if pattern in expected:
-                expected[pattern].append(triple)
+    expected = model.matches_of(ids, asked)
     probe.send(("file", data))
     for word in FIND:
         seen = split_by_pattern(probe.ask(word, at, *counts, *parts_of(asked)))

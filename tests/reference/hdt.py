@@ -576,6 +576,16 @@ def patterns(triple: Triple) -> list[Pattern]:
     return [(s, p, o) for s, p, o in product(*((None, n) for n in triple))]
 
 
+def matches_of(ids: Iterable[Triple], asked: Iterable[Pattern]) -> dict[Pattern, list[Triple]]:
+    """The triples that match each of many patterns, by one pass over all triples."""
+    found: dict[Pattern, list[Triple]] = {pattern: [] for pattern in asked}
+    for triple in ids:
+        for pattern in patterns(triple):
+            if pattern in found:
+                found[pattern].append(triple)
+    return found
+
+
 # Whole files
 
 @dataclass(frozen=True)

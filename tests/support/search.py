@@ -15,6 +15,16 @@ Pattern = tuple[Optional[bytes], Optional[bytes], Optional[bytes]]
 
 THREE: list[Triple] = [(b"u:a", b"u:p", b"u:b"), (b"u:a", b"u:q", b'"x"'), (b"u:b", b"u:p", b"u:a")]
 
+# The file of these, with strings that no triple uses.
+UNUSED = reference.loose(
+    THREE, [b"u:a", b"u:b", b"u:z"], [b"u:p", b"u:q", b"u:r"], [b'"unused"', b'"x"', b"u:a", b"u:b"]
+)[0]
+
+
+def escaped(string: bytes) -> bytes:
+    """A dictionary string as it is printed in a line."""
+    return string.replace(b"\\", b"\\\\").replace(b"\n", b"\\n").replace(b"\r", b"\\r")
+
 
 def spelled(string: bytes) -> bytes:
     """A dictionary string as a term of N-Triples."""

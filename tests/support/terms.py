@@ -251,6 +251,23 @@ def strings() -> st.SearchStrategy[bytes]:
 STEPS = st.sampled_from([1, 2, 3, 7, 64, 1_000_000])
 
 
+# ---- large terms
+
+LARGE = b"b" * 140_000
+
+# The text of a term before and after many bytes, and the same of its dictionary string.
+LARGE_TERMS = [
+    (b"<u:", b">", b"u:", b""),
+    (b"_:a", b"", b"_:a", b""),
+    (b'"', b'"', b'"', b'"'),
+    (b'"x"@e', b"", b'"x"@e', b""),
+    (b'"x"^^<u:', b">", b'"x"^^<u:', b">"),
+    (b'"', b'"^^<u:t>', b'"', b'"^^<u:t>'),
+    (b'"', b'"@en', b'"', b'"@en'),
+    (rb'"\u00e9', rb'\t"', b'"\xc3\xa9', b'\t"'),
+]
+
+
 # ---- comparing
 
 
