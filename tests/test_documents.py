@@ -16,11 +16,10 @@ from typing import NamedTuple
 import pytest
 
 from support.built import PROGRAM, STATIC_LIBRARY, TOP
-from support.c_library import CC, HEADER, WARNINGS, file_reasons, succeeds, text_reasons
+from support.c_library import CC, HEADER, WARNINGS, succeeds
 from support.clone import copied
-from support.probe import Probe
 from support.program import Word, run
-from support.python_package import ENVIRONMENT, faults
+from support.python_package import ENVIRONMENT
 from tools import contracts, promises
 
 # The blocks that each document has, by language: a document with fewer fails, so that none is silently left untested.
@@ -142,6 +141,10 @@ def test_c_programs(document: str, number: int, clone: Path) -> None:
     succeeds(CC, "-std=c99", *WARNINGS, f"-I{HEADER.parent}", "-o", "block", "block.c", STATIC_LIBRARY, cwd=clone)
     done = run(["./block", "samples/three.hdt"], cwd=clone, env=environment(clone))
     assert (done.status, done.out.decode()) == (0, commented(block.text, "(?:printf|fwrite)", r"/\* (.*) \*/"))
+    for words, why in [([], b"No such file or directory"), (["no.hdt"], b"No such file or directory"),
+                       (["samples"], b"Is a directory")]:
+        assert run(["./block", *words], cwd=clone, env={"LC_ALL": "C"}) == (1, b"", b"FILE: %s\n" % why)
+    assert run(["./block", "README.md"], cwd=clone) == (1, b"", b"reason 4\n")
 
 
 @pytest.mark.parametrize("document, number", named("python"))
@@ -416,43 +419,3 @@ def test_links(document: str) -> None:
         if not path.exists() or anchor and anchor not in anchors(str(path.resolve().relative_to(TOP))):
             wrong.append(target)
     assert wrong == []
-
-
-# ---- the tables of errors
-
-
-def spoken(name: str) -> str:
-    """A name in capitals, with a line between its words."""
-    return re.sub(r"(?<=[a-z0-9])(?=[A-Z])", "_", name).upper()
-
-
-def test_how_many_errors_there_are() -> None:
-    """34 errors of files and 9 of N-Triples are documented, each in the list and in a row of its own table."""
-    rows = re.findall(r"^\| (\d) `(\w+)`", (TOP / "docs/NTRIPLES.md").read_text(), re.M)
-    assert (len(file_reasons()), len(text_reasons())) == (34, 9)
-    assert sorted({(int(number), name) for number, name in rows}) == list(enumerate(text_reasons(), 1))
-
-
-@pytest.mark.parametrize("prefix", ["FILE", "TEXT"])
-def test_errors_of_the_header(prefix: str) -> None:
-    """c/hdt.h has the documented names."""
-    names = file_reasons() if prefix == "FILE" else text_reasons()
-    wanted = [(f"HDT_{prefix}_{spoken(name)}", str(number)) for number, name in enumerate(names, 1)]
-    assert re.findall(rf"(HDT_{prefix}_\w+) = (\d+)", HEADER.read_text()) == wanted
-
-
-def test_errors_of_the_python_package() -> None:
-    """The Python package has the documented names."""
-    assert (faults.REASONS, faults.LINE_REASONS) == (file_reasons(), text_reasons())
-
-
-def test_errors_of_files(probe: Probe) -> None:
-    """The engine's numbers and names of errors of files are the documented ones."""
-    answers = probe.send(*(("demand", 0, number, number) for number in range(1, 35)))
-    assert answers == [("fault", str(number), name, str(number)) for number, name in enumerate(file_reasons(), 1)]
-
-
-def test_errors_of_texts(probe: Probe) -> None:
-    """The engine's numbers and names of errors of N-Triples are the documented ones."""
-    answers = probe.send(*(("line_reason", number) for number in range(1, 10)))
-    assert answers == [("ok", str(number), name) for number, name in enumerate(text_reasons(), 1)]

@@ -12,6 +12,7 @@ from reference import checks, hdt as model
 from reference import ntriples
 from support.built import BUILT, TOP
 from support.c_library import HEADER, file_reasons, text_reasons
+from support.probe import Probe
 from support.program import Result, run
 from support.python_package import faults
 from tools import errors
@@ -145,10 +146,24 @@ def test_lists_agree(kind: str, where: str) -> None:
 
 @pytest.mark.parametrize("kind, prefix", [("file", "FILE"), ("text", "TEXT")])
 def test_list_of_the_header(kind: str, prefix: str) -> None:
-    """c/hdt.h has the names of the page; Unused is missing as long as C has no tight reading."""
+    """c/hdt.h has the names of the page."""
     names = [(number, f"HDT_{prefix}_{spoken(name)}") for number, name in of_kind(kind)]
     listed = [(int(number), name) for name, number in re.findall(rf"(HDT_{prefix}_\w+) = (\d+)", HEADER.read_text())]
-    assert listed == names[:len(listed)] and len(listed) >= {"file": 33, "text": 9}[kind]
+    assert listed == names
+
+
+def test_lists_of_the_engine(probe: Probe) -> None:
+    """The engine's numbers and names of errors are those of the page."""
+    files = probe.send(*(("demand", 0, number, number) for number, _ in of_kind("file")))
+    assert files == [("fault", str(number), name, str(number)) for number, name in of_kind("file")]
+    texts = probe.send(*(("line_reason", number) for number, _ in of_kind("text")))
+    assert texts == [("ok", str(number), name) for number, name in of_kind("text")]
+
+
+def test_rows_of_ntriples() -> None:
+    """Each error of a text has a row in the tables of docs/NTRIPLES.md."""
+    rows = re.findall(r"^\| (\d) `(\w+)`", (TOP / "docs/NTRIPLES.md").read_text(), re.M)
+    assert sorted({(int(number), name) for number, name in rows}) == of_kind("text")
 
 
 def test_messages_of_the_program() -> None:
