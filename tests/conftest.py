@@ -10,6 +10,7 @@ import pytest
 from hypothesis import HealthCheck, settings
 
 from support import built
+from support.documents import LONG_LINE
 from support.probe import Probe
 
 # Files are long draws, and slow on a busy machine: neither is an error of a test.
@@ -49,6 +50,14 @@ def probe() -> Iterator[Probe]:
     it = Probe()
     yield it
     assert all(status == 0 for status in it.close().values())
+
+
+@pytest.fixture(scope="session")
+def large_document(tmp_path_factory: pytest.TempPathFactory) -> Path:
+    """A document of some 58 MB, whose lines are all the same."""
+    path = tmp_path_factory.mktemp("document") / "document.nt"
+    path.write_bytes(LONG_LINE * 60_000)
+    return path
 
 
 @pytest.fixture

@@ -17,7 +17,7 @@ from support.built import SAMPLES
 from support.probe import Probe
 from support.program import READING_FAILED, WRITING_FAILED, Result, Word, brief, done, failed, fault, hdt, hdt_into
 from support.search import THREE as THREE_TRIPLES
-from support.search import Graph, Pattern, Triple, chosen, not_a_term_past_16_bits, spelled
+from support.search import THREE_PATTERNS, Graph, Pattern, Triple, chosen, not_a_term_past_16_bits, spelled
 
 V1 = (SAMPLES / "v1.hdt").read_bytes()
 THREE = SAMPLES / "three.hdt"
@@ -66,15 +66,12 @@ def patterns_of(triples: Sequence[Triple]) -> list[Pattern]:
     ]
 
 
-# Each string of the three triples, any, and one that is nowhere in its role.
-PRODUCT: list[Pattern] = list(product((None, b"u:a", b"u:b", b'"x"'), (None, b"u:p", b"u:q", b"_:b"),
-                                      (None, b"u:a", b'"x"', b"u:z")))
 LONGEST: list[Pattern] = [(None, None, b'"' + b"long " * 20_000 + b'"')]
 
 PATTERNS = {
     **{f"{name}, pattern {n}": (name, pattern)
        for name, triples in GRAPHS.items() for n, pattern in enumerate(patterns_of(triples))},
-    **{f"three, product {n}": ("three", pattern) for n, pattern in enumerate(PRODUCT)},
+    **{f"three, product {n}": ("three", pattern) for n, pattern in enumerate(THREE_PATTERNS)},
     "many, the longest literal": ("many", LONGEST[0]),
 }
 

@@ -14,6 +14,7 @@ from reference import hdt as model
 from reference.hdt import MAX, Pattern, Triple
 from support import prefixes
 from support.built import SAMPLES
+from support.drafts import texts
 from support.probe import Answer, Argument, Probe, ok, spelled
 from support.properties import examples
 
@@ -286,9 +287,6 @@ def test_text_of_a_large_graph_by_one_speller(probe: Probe, large: Large) -> Non
 
 # Properties
 
-# Strings with common prefixes, some of which end within a character.
-TEXTS = sorted("".join(characters).encode() for n in range(4) for characters in product("a/\u00e9\u00ea", repeat=n))
-texts = st.sampled_from(TEXTS)
 styles = st.builds(
     model.Style, block_size=st.sampled_from([1, 2, 3, 16]), width=st.sampled_from([0, 0, 12, 63]),
     padding=st.sampled_from([0, -1]), longest_prefixes=st.booleans(), behind=st.sampled_from([b"", b"a=b"]))

@@ -13,7 +13,7 @@ from hypothesis import strategies as st
 from reference import checks, hdt as reference
 from support.built import SAMPLES
 from support.program import NO_SUCH_NUMBER, NO_SUCH_TERM, READING_FAILED, Result, Word, done, failed, fault, hdt
-from support.search import spelled
+from support.search import escaped, spelled
 
 V1 = (SAMPLES / "v1.hdt").read_bytes()
 THREE = (SAMPLES / "three.hdt").read_bytes()
@@ -37,11 +37,6 @@ FILES: dict[str, tuple[bytes, Roles]] = {
     "strings to escape": (file_of(SHARED, SUBJECTS, PREDICATES, OBJECTS, 1),
                           (SHARED + SUBJECTS, PREDICATES, SHARED + OBJECTS)),
 }
-
-
-def escaped(string: bytes) -> bytes:
-    """A string as it is printed in a line."""
-    return string.replace(b"\\", b"\\\\").replace(b"\n", b"\\n").replace(b"\r", b"\\r")
 
 
 def lookups(path: Path, role: str, strings: list[bytes], nowhere: list[bytes]) -> list[tuple[list[Word], Result]]:

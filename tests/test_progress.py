@@ -9,13 +9,13 @@ from pathlib import Path
 import pytest
 
 from support.built import PROGRAM, SAMPLES
+from support.documents import LONG_LINE
 from support.program import Result, Word, closed, done, hdt, run
 
 THREE = SAMPLES / "three.hdt"
 SIZE = THREE.stat().st_size
 ONCE = b"hdt: read %d of %d bytes\n" % (SIZE, SIZE)
 STEP = 1 << 24
-LINE = b'<http://example.org/subject> <http://example.org/predicate> "%s" .\n' % (b"x" * 900)
 
 
 def progress_of(err: bytes) -> tuple[list[tuple[int, int | None]], list[bytes]]:
@@ -49,29 +49,21 @@ def test_rewrite(tmp_path: Path) -> None:
     assert (tmp_path / "progress.hdt").read_bytes() == (tmp_path / "plain.hdt").read_bytes()
 
 
-@pytest.fixture(scope="module")
-def document(tmp_path_factory: pytest.TempPathFactory) -> Path:
-    """A document of some 58 MB, whose lines are all the same."""
-    path = tmp_path_factory.mktemp("document") / "document.nt"
-    path.write_bytes(LINE * 60_000)
-    return path
-
-
-def test_without_the_option(tmp_path: Path, document: Path) -> None:
+def test_without_the_option(tmp_path: Path, large_document: Path) -> None:
     """Without `--progress` nothing is printed on standard error."""
-    seen = hdt("build", document, tmp_path / "out.hdt")
+    seen = hdt("build", large_document, tmp_path / "out.hdt")
     assert (seen.status, seen.out.split()[:2], seen.err) == (0, [b"built", b"1"], b"")
 
 
 @pytest.mark.parametrize("piped", [False, True], ids=["a file", "a pipe"])
-def test_large_document(tmp_path: Path, document: Path, piped: bool) -> None:
+def test_large_document(tmp_path: Path, large_document: Path, piped: bool) -> None:
     """A line is printed each 16 MiB and at the end; a pipe does not know how many bytes there are."""
-    plain = hdt("build", document, tmp_path / "plain.hdt")
-    words: list[Word] = ["build", "--progress", "/dev/stdin" if piped else document, tmp_path / "out.hdt"]
-    seen = (run(["sh", "-c", 'cat "$1" | "$2" "$3" "$4" "$5" "$6"', "sh", document, PROGRAM, *words]) if piped
+    plain = hdt("build", large_document, tmp_path / "plain.hdt")
+    words: list[Word] = ["build", "--progress", "/dev/stdin" if piped else large_document, tmp_path / "out.hdt"]
+    seen = (run(["sh", "-c", 'cat "$1" | "$2" "$3" "$4" "$5" "$6"', "sh", large_document, PROGRAM, *words]) if piped
             else hdt(*words))
     counts, others = progress_of(seen.err)
-    length = document.stat().st_size
+    length = large_document.stat().st_size
     assert (seen.status, seen.out, others) == (0, plain.out, [])
     assert {of for _, of in counts} == {None if piped else length}
     read = [count for count, _ in counts]
@@ -84,7 +76,7 @@ def test_large_document(tmp_path: Path, document: Path, piped: bool) -> None:
 def test_error_after_the_progress(tmp_path: Path) -> None:
     """The error of an input is printed after the lines of progress."""
     path = tmp_path / "bad.nt"
-    path.write_bytes(LINE * 20_000 + b"x\n")
+    path.write_bytes(LONG_LINE * 20_000 + b"x\n")
     seen = hdt("build", path, tmp_path / "out.hdt", "--progress")
     counts, others = progress_of(seen.err)
     assert (seen.status, seen.out, others) == (1, b"", [b"hdt: line 20001 column 1: 1 Syntax"])

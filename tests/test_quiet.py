@@ -2,7 +2,6 @@
 
 from __future__ import annotations
 
-from itertools import product
 from pathlib import Path
 
 import pytest
@@ -14,15 +13,12 @@ from reference import hdt as reference
 from support.built import SAMPLES
 from support.program import READING_FAILED, Result, Word, closed, done, failed, fault, hdt, hdt_into
 from support.search import THREE as THREE_TRIPLES
-from support.search import Pattern, Triple, matches, spelled
+from support.search import THREE_PATTERNS, Pattern, Triple, matches, spelled
 
 THREE = SAMPLES / "three.hdt"
 NO_MATCH = Result(1, b"", b"")
 REL: list[Triple] = [(b"u:s", b"rel", b"u:o"), (b"u:s", b"u:p", b"u:o")]
 
-# Each string of the three triples, any, and one that is nowhere in its role.
-PRODUCT: list[Pattern] = list(product((None, b"u:a", b"u:b", b'"x"'), (None, b"u:p", b"u:q", b"_:b"),
-                                      (None, b"u:a", b'"x"', b"u:z")))
 # Options that make no difference with --quiet.
 IGNORED: list[list[Word]] = [
     [], ["--count"], ["--numbers"], ["--most", "0"], ["--most", "1"], ["--most", str(2**64 - 1)],
@@ -44,8 +40,8 @@ def words_of(pattern: Pattern, raw: bool) -> list[Word]:
 @pytest.mark.parametrize("raw", [False, True], ids=["terms", "raw"])
 def test_every_pattern(raw: bool) -> None:
     """Patterns of the three triples, by terms and by dictionary strings: nothing is printed."""
-    seen = [(pattern, hdt("find", "--quiet", THREE, *words_of(pattern, raw))) for pattern in PRODUCT]
-    assert seen == [(pattern, wanted(THREE_TRIPLES, pattern)) for pattern in PRODUCT]
+    seen = [(pattern, hdt("find", "--quiet", THREE, *words_of(pattern, raw))) for pattern in THREE_PATTERNS]
+    assert seen == [(pattern, wanted(THREE_TRIPLES, pattern)) for pattern in THREE_PATTERNS]
 
 
 @pytest.mark.parametrize("options", IGNORED, ids=lambda options: " ".join(map(str, options)) or "none")

@@ -12,10 +12,10 @@ from pathlib import Path
 import pytest
 
 from support.built import PROGRAM, SAMPLES
+from support.documents import LONG_LINE
 from support.program import Word, hdt
 from support.terminal_errors import on_terminal, read_until, screen
 
-LINE = b'<http://example.org/subject> <http://example.org/predicate> "%s" .\n' % (b"x" * 900)
 ERASED = b"\r\x1b[K"
 
 
@@ -30,14 +30,6 @@ def megabytes(path: Path) -> int:
 
 
 @pytest.fixture(scope="module")
-def document(tmp_path_factory: pytest.TempPathFactory) -> Path:
-    """A document of some 58 MB, whose lines are all the same."""
-    path = tmp_path_factory.mktemp("document") / "document.nt"
-    path.write_bytes(LINE * 60_000)
-    return path
-
-
-@pytest.fixture(scope="module")
 def file(tmp_path_factory: pytest.TempPathFactory) -> Path:
     """An HDT file of some 20 MB."""
     folder = tmp_path_factory.mktemp("file")
@@ -49,33 +41,33 @@ def file(tmp_path_factory: pytest.TempPathFactory) -> Path:
     return folder / "file.hdt"
 
 
-def test_build(document: Path, tmp_path: Path) -> None:
+def test_build(large_document: Path, tmp_path: Path) -> None:
     """The percentage and the megabytes, at each 16 MiB; then that it is sorted; and nothing is left."""
-    shown = on_terminal("build", document, tmp_path / "out.hdt")
-    size = document.stat().st_size
+    shown = on_terminal("build", large_document, tmp_path / "out.hdt")
+    size = large_document.stat().st_size
     *reading, last = texts(shown.text)
     assert shown.status == 0 and shown.text.endswith(ERASED) and screen(shown.text) == []
-    assert last == f"hdt: sorting, {megabytes(document)} MB"
+    assert last == f"hdt: sorting, {megabytes(large_document)} MB"
     assert len(reading) == size // (16 << 20)
     for step, text in enumerate(reading, 1):
-        match = re.fullmatch(rf"hdt: reading (\d+)%, (\d+) of {megabytes(document)} MB", text)
+        match = re.fullmatch(rf"hdt: reading (\d+)%, (\d+) of {megabytes(large_document)} MB", text)
         assert match is not None
         low, high = (step << 24) + 0, (step << 24) + (step << 17)
         assert low // 1_000_000 <= int(match[2]) <= high // 1_000_000
         assert low * 100 // size <= int(match[1]) <= high * 100 // size
 
 
-def test_output_on_the_same_terminal(document: Path, tmp_path: Path) -> None:
+def test_output_on_the_same_terminal(large_document: Path, tmp_path: Path) -> None:
     """The line is gone before the output is printed on the same terminal."""
-    shown = on_terminal("build", document, tmp_path / "out.hdt", out_too=True)
+    shown = on_terminal("build", large_document, tmp_path / "out.hdt", out_too=True)
     assert len(texts(shown.text)) == 4
-    assert screen(shown.text) == hdt("build", document, tmp_path / "out.hdt").out.decode().splitlines()
+    assert screen(shown.text) == hdt("build", large_document, tmp_path / "out.hdt").out.decode().splitlines()
 
 
 @pytest.mark.parametrize("columns", [10, 33, 40, 120])
-def test_width(columns: int, document: Path, tmp_path: Path) -> None:
+def test_width(columns: int, large_document: Path, tmp_path: Path) -> None:
     """The line is not wrapped, so nothing of it is left on a narrow terminal."""
-    shown = on_terminal("build", document, tmp_path / "out.hdt", out_too=True)
+    shown = on_terminal("build", large_document, tmp_path / "out.hdt", out_too=True)
     assert screen(shown.text, columns)[0].startswith("built")
     assert max(map(len, texts(shown.text))) < 40
 
@@ -83,20 +75,20 @@ def test_width(columns: int, document: Path, tmp_path: Path) -> None:
 def test_error_after_progress(tmp_path: Path) -> None:
     """The line is gone before the message of an error."""
     path = tmp_path / "bad.nt"
-    path.write_bytes(LINE * 20_000 + b"x\n")
+    path.write_bytes(LONG_LINE * 20_000 + b"x\n")
     shown = on_terminal("build", path, "out.hdt", cwd=tmp_path)
     lines = hdt("build", "--verbose", path, "out.hdt", cwd=tmp_path).err.decode().splitlines()
     assert shown.status == 1 and len(texts(shown.text)) == 1 and lines[0] == "hdt: line 20001 column 1: 1 Syntax"
     assert screen(shown.text, 200) == lines
 
 
-def test_pipe(document: Path, tmp_path: Path) -> None:
+def test_pipe(large_document: Path, tmp_path: Path) -> None:
     """The megabytes that were read of a pipe, as its length is not known."""
-    with subprocess.Popen(["cat", document], stdout=subprocess.PIPE) as cat:
+    with subprocess.Popen(["cat", large_document], stdout=subprocess.PIPE) as cat:
         assert cat.stdout is not None
         shown = on_terminal("build", "-", tmp_path / "out.hdt", stdin=cat.stdout)
     *reading, last = texts(shown.text)
-    assert last == f"hdt: sorting, {megabytes(document)} MB" and len(reading) == 3
+    assert last == f"hdt: sorting, {megabytes(large_document)} MB" and len(reading) == 3
     assert [re.fullmatch(r"hdt: reading, \d+ MB", text) is not None for text in reading] == [True] * 3
     assert screen(shown.text) == []
 
@@ -172,7 +164,7 @@ def test_requests_typed_by_hand(file: Path) -> None:
     os.close(leader)
 
 
-def test_output_that_is_the_terminal(document: Path) -> None:
+def test_output_that_is_the_terminal(large_document: Path) -> None:
     """If OUT is standard error, no line is mixed into the file."""
-    shown = on_terminal("build", document, "/dev/stderr")
+    shown = on_terminal("build", large_document, "/dev/stderr")
     assert texts(shown.text) == []

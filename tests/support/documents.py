@@ -17,6 +17,8 @@ DEFAULT_BASE = b"http://example.org/dataset"
 
 THREE: list[Strings] = [(b"u:a", b"u:p", b"u:b"), (b"u:a", b"u:q", b'"x"'), (b"u:b", b"u:p", b"u:a")]
 
+LONG_LINE = b'<http://example.org/subject> <http://example.org/predicate> "%s" .\n' % (b"x" * 900)
+
 
 def each_kind() -> list[Strings]:
     """64 triples with every kind of term."""

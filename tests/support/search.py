@@ -4,6 +4,7 @@ from __future__ import annotations
 
 from collections.abc import Sequence
 from functools import cached_property, lru_cache
+from itertools import product
 from typing import Optional
 
 from reference import hdt as reference
@@ -15,7 +16,10 @@ Pattern = tuple[Optional[bytes], Optional[bytes], Optional[bytes]]
 
 THREE: list[Triple] = [(b"u:a", b"u:p", b"u:b"), (b"u:a", b"u:q", b'"x"'), (b"u:b", b"u:p", b"u:a")]
 
-# The file of these, with strings that no triple uses.
+# Each string of the three triples, any, and one that is nowhere in its role.
+THREE_PATTERNS: list[Pattern] = list(product(
+    (None, b"u:a", b"u:b", b'"x"'), (None, b"u:p", b"u:q", b"_:b"), (None, b"u:a", b'"x"', b"u:z")))
+# The file of the three triples, with strings that no triple uses.
 UNUSED = reference.loose(
     THREE, [b"u:a", b"u:b", b"u:z"], [b"u:p", b"u:q", b"u:r"], [b'"unused"', b'"x"', b"u:a", b"u:b"]
 )[0]
