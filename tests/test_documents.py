@@ -141,9 +141,9 @@ def test_c_programs(document: str, number: int, clone: Path) -> None:
     succeeds(CC, "-std=c99", *WARNINGS, f"-I{HEADER.parent}", "-o", "block", "block.c", STATIC_LIBRARY, cwd=clone)
     done = run(["./block", "samples/three.hdt"], cwd=clone, env=environment(clone))
     assert (done.status, done.out.decode()) == (0, commented(block.text, "(?:printf|fwrite)", r"/\* (.*) \*/"))
-    for words, why in [([], b"No such file or directory"), (["no.hdt"], b"No such file or directory"),
-                       (["samples"], b"Is a directory")]:
-        assert run(["./block", *words], cwd=clone, env={"LC_ALL": "C"}) == (1, b"", b"FILE: %s\n" % why)
+    for word, why in {"": "No such file or directory", "no.hdt": "No such file or directory",
+                      "samples": "Is a directory"}.items():
+        assert run(["./block", *word.split()], cwd=clone, env={"LC_ALL": "C"}) == (1, b"", f"FILE: {why}\n".encode())
     assert run(["./block", "README.md"], cwd=clone) == (1, b"", b"reason 4\n")
 
 

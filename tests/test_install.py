@@ -130,17 +130,20 @@ def test_uninstall(destdir: bool, tree: Path, tmp_path: Path) -> None:
     An install with DESTDIR lists no folders in hdt.pc, which goes into a package.
     """
     words = ["PREFIX=/usr", f"DESTDIR={tmp_path}"] if destdir else [f"PREFIX={tmp_path / 'usr'}"]
-    (tmp_path / "usr/share/zsh").mkdir(parents=True)
+    for name in ("usr/share/zsh", "beside"):
+        (tmp_path / name).mkdir(parents=True)
     for _ in range(2):
         assert make(tree, "install", *words).status == 0
-    assert ("# made" in (tmp_path / "usr/lib/pkgconfig/hdt.pc").read_text()) == (not destdir)
+    settings = tmp_path / "usr/lib/pkgconfig/hdt.pc"
+    assert ("# made" in settings.read_text()) == (not destdir)
+    settings.write_text(settings.read_text() + "# made ../beside\n")
     others = {"usr/bin/other", "usr/lib/libhdt.so.2", "usr/share/man/man1/hdt.1x"}
     for name in others:
         (tmp_path / name).write_text("other\n")
     done = make(tree, "uninstall", *words)
     assert (done.status, done.err) == (0, b"")
     assert installed_files(tmp_path) == others
-    assert destdir or empty_folders(tmp_path) == {"usr/share/zsh"}
+    assert destdir or empty_folders(tmp_path) == {"usr/share/zsh", "beside"}
     assert make(tree, "uninstall", *words).status == 0
 
 
