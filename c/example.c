@@ -41,15 +41,15 @@ static int print_matches(hdt_graph *graph, const char *subject, const char *pred
     int has_s = strcmp(subject, "?") != 0, has_p = strcmp(predicate, "?") != 0, has_o = strcmp(object, "?") != 0;
     const uint8_t *s = (const uint8_t *)subject, *p = (const uint8_t *)predicate, *o = (const uint8_t *)object;
     hdt_bytes text = HDT_BYTES_INIT;
-    hdt_telling telling;
-    hdt_text(graph, has_s, s, strlen(subject), has_p, p, strlen(predicate), has_o, o, strlen(object), &text, &telling);
-    if (telling.reason == HDT_DONE) {
+    hdt_text_result outcome;
+    hdt_text(graph, has_s, s, strlen(subject), has_p, p, strlen(predicate), has_o, o, strlen(object), &text, &outcome);
+    if (outcome.reason == HDT_DONE) {
         fwrite(text.at, 1, text.len, stdout);
     } else {
-        fprintf(stderr, "reason %u: role %u, number %llu\n", telling.reason, telling.role, (unsigned long long)telling.number);
+        fprintf(stderr, "reason %u: role %u, number %llu\n", outcome.reason, outcome.role, (unsigned long long)outcome.number);
     }
     hdt_free(&text);
-    return telling.reason == HDT_DONE ? 0 : 1;
+    return outcome.reason == HDT_DONE ? 0 : 1;
 }
 
 int main(int argc, char **argv) {

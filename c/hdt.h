@@ -112,7 +112,8 @@ typedef struct {
     uint32_t reason; /* HDT_DONE, HDT_NOT_A_TERM, HDT_IS_CLOSED, HDT_OUT_OF_MEMORY */
     uint32_t role;   /* HDT_NOT_A_TERM: the role of the string, else 0 */
     uint64_t number; /* HDT_NOT_A_TERM: its ID in that role, else 0 */
-} hdt_telling;
+} hdt_text_result;
+typedef hdt_text_result hdt_telling; /* its name in earlier copies of this header */
 
 /* A graph: state is 1 if it is open, else 0. */
 typedef struct {
@@ -242,14 +243,14 @@ uint64_t hdt_matching(hdt_graph *graph, uint32_t has_s, const uint8_t *s, size_t
  * nothing matches; else it has nothing. HDT_NOT_A_TERM, with the role and ID of the first such string of the first such triple;
  * HDT_IS_CLOSED, HDT_OUT_OF_MEMORY. Time is at most linear in the text and the file together. */
 void hdt_text(hdt_graph *graph, uint32_t has_s, const uint8_t *s, size_t s_len, uint32_t has_p, const uint8_t *p, size_t p_len,
-              uint32_t has_o, const uint8_t *o, size_t o_len, hdt_bytes *out, hdt_telling *telling);
+              uint32_t has_o, const uint8_t *o, size_t o_len, hdt_bytes *out, hdt_text_result *outcome);
 
 /* hdt_find, hdt_matching and hdt_text for a pattern whose parts are strings, IDs or any. An ID needs no look-up, so a join uses the
  * IDs that another call has written to its `out`. A string that its role doesn't have matches nothing. The errors are those of
  * hdt_find, hdt_matching and hdt_text. */
 uint64_t hdt_pattern_find(hdt_graph *graph, const hdt_pattern *pattern, uint64_t skip, uint64_t (*out)[3], size_t room);
 uint64_t hdt_pattern_matching(hdt_graph *graph, const hdt_pattern *pattern);
-void hdt_pattern_text(hdt_graph *graph, const hdt_pattern *pattern, hdt_bytes *out, hdt_telling *telling);
+void hdt_pattern_text(hdt_graph *graph, const hdt_pattern *pattern, hdt_bytes *out, hdt_text_result *outcome);
 
 /* A page of the matches of a pattern, in the order of the file. `from` and `next` are indexes of triples of the file,
  * counted from 0, not of matches. Writes the first matches from triple `from` on to out, as many as fit, and returns their
@@ -269,7 +270,7 @@ uint64_t hdt_page(hdt_graph *graph, const hdt_pattern *pattern, uint64_t from, u
  * strings, or to all strings if that is less. Memory of the size of the page and its text, and for a page that decodes
  * all strings one byte for each; all but the text is freed. */
 void hdt_page_text(hdt_graph *graph, const hdt_pattern *pattern, uint64_t from, uint64_t most, hdt_bytes *out,
-                   uint64_t *next, hdt_telling *telling);
+                   uint64_t *next, hdt_text_result *outcome);
 
 /* The number of triples of each predicate: counts[0] is that of the predicate with ID 1, and so on. Writes the counts
  * of the first `room` predicates at most, and returns how many predicates there are, as hdt_count does. HDT_CLOSED;

@@ -62,7 +62,7 @@ int main(int argc, char **argv) {
     FILE *file = argc == 2 ? fopen(argv[1], "rb") : NULL;
     hdt_graph graph = HDT_GRAPH_INIT;
     hdt_bytes text = HDT_BYTES_INIT, made = HDT_BYTES_INIT;
-    hdt_telling telling;
+    hdt_text_result outcome;
     hdt_report report;
     hdt_verdict verdict;
     hdt_pattern all = HDT_PATTERN_INIT, of_predicate = HDT_PATTERN_INIT, of_object = HDT_PATTERN_INIT;
@@ -122,7 +122,7 @@ int main(int argc, char **argv) {
     page_rows(&graph, "triples of predicate 1", &of_predicate, triples);
     page_rows(&graph, "triples of object 1", &of_object, triples);
     begin = now();
-    hdt_text(&graph, 0, any, 0, 0, any, 0, 0, any, 0, &text, &telling);
+    hdt_text(&graph, 0, any, 0, 0, any, 0, 0, any, 0, &text, &outcome);
     row("text of all, a triple", begin, hdt_len(&graph));
     begin = now();
     hdt_build(text.at, text.len, (const uint8_t *)"http://a/", 9, 16, &made, &report);

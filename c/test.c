@@ -410,30 +410,30 @@ static void pages(hdt_graph *graph, const hdt_pattern *pattern, uint64_t (*wante
 /* The texts of all pages of a size, one after another, against the text of all. */
 static void page_texts(hdt_graph *graph, const hdt_pattern *pattern, uint64_t count) {
     hdt_bytes all = HDT_BYTES_INIT, page = HDT_BYTES_INIT;
-    hdt_telling telling;
+    hdt_text_result outcome;
     uint64_t from = 0, put = 0, next = 7, most = count / 3 + 1, turns = 0;
-    hdt_pattern_text(graph, pattern, &all, &telling);
-    if (telling.reason == HDT_DONE) {
+    hdt_pattern_text(graph, pattern, &all, &outcome);
+    if (outcome.reason == HDT_DONE) {
         do {
-            hdt_page_text(graph, pattern, from, most, &page, &next, &telling);
-            if (!CHECK(telling.reason == HDT_DONE && page.len <= all.len - put && page.state == 1)) {
+            hdt_page_text(graph, pattern, from, most, &page, &next, &outcome);
+            if (!CHECK(outcome.reason == HDT_DONE && page.len <= all.len - put && page.state == 1)) {
                 break;
             }
             CHECK(page.len == 0 || memcmp(page.at, all.at + put, page.len) == 0);
-            CHECK(telling.role == 0 && telling.number == 0);
+            CHECK(outcome.role == 0 && outcome.number == 0);
             put += page.len;
             from = next;
         } while (from != HDT_ABSENT && ++turns < 4);
         CHECK(put == all.len && from == HDT_ABSENT);
     } else { /* the page of all matches has the same string that is no term; one of none has an empty text */
-        hdt_telling other;
+        hdt_text_result other;
         hdt_page_text(graph, pattern, 0, count, &page, &next, &other);
-        CHECK(memcmp(&telling, &other, sizeof other) == 0 && has_nothing(&page) && next == HDT_ABSENT);
+        CHECK(memcmp(&outcome, &other, sizeof other) == 0 && has_nothing(&page) && next == HDT_ABSENT);
         hdt_page_text(graph, pattern, 0, 0, &page, &next, &other);
         CHECK(other.reason == HDT_DONE && page.len == 0 && next < hdt_len(graph));
     }
-    hdt_page_text(graph, pattern, UINT64_MAX, UINT64_MAX, &page, &next, &telling);
-    CHECK(telling.reason == HDT_DONE && page.len == 0 && next == HDT_ABSENT);
+    hdt_page_text(graph, pattern, UINT64_MAX, UINT64_MAX, &page, &next, &outcome);
+    CHECK(outcome.reason == HDT_DONE && page.len == 0 && next == HDT_ABSENT);
     hdt_free(&all);
     hdt_free(&page);
 }
@@ -528,20 +528,20 @@ static void search(hdt_graph *graph, const hdt_pattern *given, uint64_t (*all)[3
 
 static void text(hdt_graph *graph, const hdt_pattern *given) {
     hdt_bytes out = HDT_BYTES_INIT, same = HDT_BYTES_INIT;
-    hdt_telling telling, told;
+    hdt_text_result outcome, told;
     long before = live;
-    hdt_text(graph, GIVEN(given), &out, &telling);
+    hdt_text(graph, GIVEN(given), &out, &outcome);
     hdt_pattern_text(graph, given, &same, &told);
-    CHECK(told.reason == telling.reason && told.role == telling.role && told.number == telling.number);
+    CHECK(told.reason == outcome.reason && told.role == outcome.role && told.number == outcome.number);
     CHECK(same.len == out.len && same.state == out.state && (out.len == 0 || memcmp(same.at, out.at, out.len) == 0));
     hdt_free(&same);
-    if (telling.reason == HDT_DONE) {
-        CHECK(telling.role == 0 && telling.number == 0);
+    if (outcome.reason == HDT_DONE) {
+        CHECK(outcome.role == 0 && outcome.number == 0);
         CHECK(lines_of(&out) == hdt_matching(graph, GIVEN(given)));
         CHECK(out.len == 0 || out.at[out.len - 1] == '\n');
     } else {
-        CHECK(telling.reason == HDT_NOT_A_TERM && telling.role < 3);
-        CHECK(telling.number >= 1 && telling.number <= hdt_count(graph, telling.role));
+        CHECK(outcome.reason == HDT_NOT_A_TERM && outcome.role < 3);
+        CHECK(outcome.number >= 1 && outcome.number <= hdt_count(graph, outcome.role));
         CHECK(has_nothing(&out));
     }
     hdt_free(&out);
@@ -592,7 +592,7 @@ static void searches(hdt_graph *graph) {
 /* Whether two graphs have one header, and one text or string that is no term. */
 static int alike(hdt_graph *a, hdt_graph *b) {
     hdt_bytes texts[2] = {HDT_BYTES_INIT, HDT_BYTES_INIT};
-    hdt_telling told[2];
+    hdt_text_result told[2];
     uint64_t len = hdt_header(a, (uint8_t *)texts, 0);
     uint8_t *headers = malloc(2 * len + 1);
     int same = hdt_header(b, headers, len) == len && hdt_header(a, headers + len, len) == len && memcmp(headers, headers + len, len) == 0;
@@ -613,7 +613,7 @@ static void remake(hdt_graph *graph, const guarded *file, const hdt_verdict *ver
     hdt_graph made = HDT_GRAPH_INIT;
     hdt_verdict told, other;
     hdt_report report;
-    hdt_telling telling;
+    hdt_text_result outcome;
     size_t i;
     long before = live;
     for (i = 0; i < 4; i++) {
@@ -633,8 +633,8 @@ static void remake(hdt_graph *graph, const guarded *file, const hdt_verdict *ver
         hdt_rewrite(file->at, file->len, bad[i], &out, &told);
         CHECK(told.reason == HDT_BAD_OPTIONS && told.place == 0 && told.counts[0] == 0 && has_nothing(&out));
     }
-    hdt_text(graph, GIVEN(&any), &again, &telling);
-    if (telling.reason == HDT_DONE) {
+    hdt_text(graph, GIVEN(&any), &again, &outcome);
+    if (outcome.reason == HDT_DONE) {
         hdt_build(again.at, again.len, base, sizeof base - 1, 16, &out, &report);
         CHECK(report.reason == HDT_DONE && report.line == 0 && report.column == 0 && report.counts[0] == verdict->counts[0]);
         hdt_verify(out.at, out.len, &other);
@@ -654,7 +654,7 @@ static void remake(hdt_graph *graph, const guarded *file, const hdt_verdict *ver
 static void closed(hdt_graph *graph) {
     uint64_t out[1][3] = {{7, 7, 7}}, number = 1, end = 7;
     uint8_t room = 0xAA;
-    hdt_telling telling;
+    hdt_text_result outcome;
     hdt_report report;
     hdt_bytes made = HDT_BYTES_INIT;
     hdt_ranges ranges = {{7, 7}, {7, 7}};
@@ -670,18 +670,18 @@ static void closed(hdt_graph *graph) {
     CHECK(find(graph, &any, 0, out, 1) == HDT_CLOSED && out[0][0] == 7 && hdt_matching(graph, GIVEN(&any)) == HDT_CLOSED);
     hdt_build((const uint8_t *)"<u:s> <u:p> <u:o> .", 19, base, sizeof base - 1, 16, &made, &report);
     CHECK(report.reason == HDT_DONE && live > before);
-    hdt_text(graph, GIVEN(&any), &made, &telling); /* frees what was made */
-    CHECK(telling.reason == HDT_IS_CLOSED && telling.role == 0 && telling.number == 0 && has_nothing(&made) && live == before);
+    hdt_text(graph, GIVEN(&any), &made, &outcome); /* frees what was made */
+    CHECK(outcome.reason == HDT_IS_CLOSED && outcome.role == 0 && outcome.number == 0 && has_nothing(&made) && live == before);
     CHECK(hdt_pattern_find(graph, &any, 0, out, 1) == HDT_CLOSED && out[0][0] == 7 && hdt_pattern_matching(graph, &any) == HDT_CLOSED);
     CHECK(hdt_predicates(graph, &end, 1) == HDT_CLOSED && end == 7);
     CHECK(hdt_page(graph, &any, 0, out, 1, &number) == HDT_CLOSED && out[0][0] == 7 && number == HDT_ABSENT);
     hdt_build((const uint8_t *)"<u:s> <u:p> <u:o> .", 19, base, sizeof base - 1, 16, &made, &report);
-    hdt_pattern_text(graph, &any, &made, &telling);
-    CHECK(telling.reason == HDT_IS_CLOSED && telling.role == 0 && telling.number == 0 && has_nothing(&made) && live == before);
+    hdt_pattern_text(graph, &any, &made, &outcome);
+    CHECK(outcome.reason == HDT_IS_CLOSED && outcome.role == 0 && outcome.number == 0 && has_nothing(&made) && live == before);
     hdt_build((const uint8_t *)"<u:s> <u:p> <u:o> .", 19, base, sizeof base - 1, 16, &made, &report);
     number = 7;
-    hdt_page_text(graph, &any, 0, 1, &made, &number, &telling);
-    CHECK(telling.reason == HDT_IS_CLOSED && telling.role == 0 && telling.number == 0 && has_nothing(&made) && number == HDT_ABSENT && live == before);
+    hdt_page_text(graph, &any, 0, 1, &made, &number, &outcome);
+    CHECK(outcome.reason == HDT_IS_CLOSED && outcome.role == 0 && outcome.number == 0 && has_nothing(&made) && number == HDT_ABSENT && live == before);
     hdt_close(graph);
     CHECK(graph->state == 0);
 }
@@ -771,7 +771,7 @@ static int call_pattern_find(const job *it) {
 
 static int call_text(const job *it) {
     hdt_bytes made = HDT_BYTES_INIT;
-    hdt_telling told;
+    hdt_text_result told;
     int answer;
     hdt_text(it->graph, GIVEN(&any), &made, &told);
     answer = told.reason == HDT_OUT_OF_MEMORY ? (has_nothing(&made) ? TOLD : WRONG) : told.reason == HDT_DONE ? as_made(&made, &it->document) : told.reason == HDT_NOT_A_TERM ? AMPLE : WRONG;
@@ -788,7 +788,7 @@ static int call_page(const job *it) {
 
 static int call_pattern_text(const job *it) {
     hdt_bytes made = HDT_BYTES_INIT;
-    hdt_telling told;
+    hdt_text_result told;
     int answer;
     hdt_pattern_text(it->graph, &any, &made, &told);
     answer = told.reason == HDT_OUT_OF_MEMORY ? (has_nothing(&made) ? TOLD : WRONG) : told.reason == HDT_DONE ? as_made(&made, &it->document) : told.reason == HDT_NOT_A_TERM ? AMPLE : WRONG;
@@ -798,7 +798,7 @@ static int call_pattern_text(const job *it) {
 
 static int call_page_text(const job *it) {
     hdt_bytes made = HDT_BYTES_INIT;
-    hdt_telling told;
+    hdt_text_result told;
     uint64_t next = 7;
     int answer;
     hdt_page_text(it->graph, &any, 0, UINT64_MAX, &made, &next, &told);
@@ -856,7 +856,7 @@ static int call_rewrite(const job *it) {
     return answer;
 }
 
-static long tellings; /* of memory that was refused */
+static long refusals_told; /* of memory that was refused */
 
 static void refuse_each(const char *what, int (*call)(const job *), const job *it) {
     const char *name = current;
@@ -874,7 +874,7 @@ static void refuse_each(const char *what, int (*call)(const job *), const job *i
         if (!CHECK(answer == AMPLE || answer == TOLD) || !CHECK(live == before) || refused == refusals) {
             break; /* wrong, or nothing was refused any more */
         }
-        tellings += answer == TOLD;
+        refusals_told += answer == TOLD;
     }
     CHECK(answer == AMPLE);
     current = name;
@@ -884,7 +884,7 @@ static void refuse(const guarded *file, const hdt_verdict *verdict) {
     hdt_graph graph = HDT_GRAPH_INIT;
     hdt_verdict told;
     hdt_report report;
-    hdt_telling telling;
+    hdt_text_result outcome;
     uint8_t string[4096];
     job it = {file, &graph, any, *verdict, HDT_BYTES_INIT, HDT_BYTES_INIT, HDT_BYTES_INIT};
     refuse_each("verify", call_verify, &it);
@@ -906,11 +906,11 @@ static void refuse(const guarded *file, const hdt_verdict *verdict) {
     refuse_each("string", call_string, &it);
     refuse_each("strings", call_strings, &it);
     refuse_each("header", call_header, &it);
-    hdt_text(&graph, GIVEN(&any), &it.document, &telling);
+    hdt_text(&graph, GIVEN(&any), &it.document, &outcome);
     refuse_each("text", call_text, &it);
     refuse_each("pattern text", call_pattern_text, &it);
     refuse_each("page text", call_page_text, &it);
-    if (telling.reason == HDT_DONE) {
+    if (outcome.reason == HDT_DONE) {
         hdt_build(it.document.at, it.document.len, base, sizeof base - 1, 16, &it.built, &report);
         refuse_each("build", call_build, &it);
         refuse_each("split", call_split, &it);
@@ -1100,7 +1100,7 @@ static void all_of(const document *it, const uint8_t *name, size_t name_len, uin
     guarded written = guarded_copy(it->at, it->len), file;
     hdt_bytes made = HDT_BYTES_INIT;
     hdt_graph graph = HDT_GRAPH_INIT;
-    hdt_telling telling;
+    hdt_text_result outcome;
     hdt_verdict verdict;
     hdt_report report;
     hdt_split_report split;
@@ -1125,8 +1125,8 @@ static void all_of(const document *it, const uint8_t *name, size_t name_len, uin
         look_ups(&graph, &verdict);
         header(&graph, &file);
         searches(&graph);
-        hdt_text(&graph, GIVEN(&any), &made, &telling);
-        CHECK(telling.reason == HDT_DONE && made.len == it->len && memcmp(made.at, it->at, it->len) == 0);
+        hdt_text(&graph, GIVEN(&any), &made, &outcome);
+        CHECK(outcome.reason == HDT_DONE && made.len == it->len && memcmp(made.at, it->at, it->len) == 0);
         hdt_free(&made);
         remake(&graph, &file, &verdict);
     }
@@ -1330,7 +1330,7 @@ int main(int argc, char **argv) {
     for (i = 1; i < 256; i++) {
         reasons += seen[i] > 0;
     }
-    printf("%ld checks, %ld growths refused, %ld of them told; of damaged files %ld are files, the others have %ld reasons\n", checks, refused, tellings, seen[0], reasons);
+    printf("%ld checks, %ld growths refused, %ld of them told; of damaged files %ld are files, the others have %ld reasons\n", checks, refused, refusals_told, seen[0], reasons);
     printf("%ld passed, %ld failed\n", passed, failed);
     return failed_checks ? 1 : 0;
 }

@@ -201,7 +201,7 @@ WRONG = {
                       f"return RIGHT(g, {GIVEN.replace('hs', 'hs == 1')}, skip, out, room);"),
     "hdt_matching": Wrong("uint64_t", f"hdt_graph *g, {PATTERN}",
                           f"uint64_t n = RIGHT(g, {GIVEN}); return n == 2 ? 1 : n;"),
-    "hdt_text": Wrong("void", f"hdt_graph *g, {PATTERN}, hdt_bytes *out, hdt_telling *t",
+    "hdt_text": Wrong("void", f"hdt_graph *g, {PATTERN}, hdt_bytes *out, hdt_text_result *t",
                       f"RIGHT(g, {GIVEN}, out, t); if (out->len) out->len--;"),
     "hdt_build": Wrong("void", "const uint8_t *x, size_t n, const uint8_t *b, size_t bn, uint32_t k, hdt_bytes *out, "
                                "hdt_report *r",
@@ -220,14 +220,14 @@ WRONG = {
     "hdt_pattern_matching": Wrong("uint64_t", "hdt_graph *g, const hdt_pattern *q",
                                   "hdt_pattern r = *q; if (r.p.kind > HDT_STRING) r.p.kind = HDT_ANY; "
                                   "return RIGHT(g, &r);"),
-    "hdt_pattern_text": Wrong("void", "hdt_graph *g, const hdt_pattern *q, hdt_bytes *out, hdt_telling *t",
+    "hdt_pattern_text": Wrong("void", "hdt_graph *g, const hdt_pattern *q, hdt_bytes *out, hdt_text_result *t",
                               "hdt_pattern r = *q; r.o.kind = HDT_ANY; RIGHT(g, &r, out, t);"),
     "hdt_page": Wrong("uint64_t", "hdt_graph *g, const hdt_pattern *q, uint64_t from, uint64_t (*out)[3], size_t room, "
                                   "uint64_t *next",
                       "uint64_t n = RIGHT(g, q, from, out, room, next); "
                       "if (*next != HDT_ABSENT && room > 1) ++*next; return n;"),
     "hdt_page_text": Wrong("void", "hdt_graph *g, const hdt_pattern *q, uint64_t from, uint64_t most, hdt_bytes *out, "
-                                   "uint64_t *next, hdt_telling *t",
+                                   "uint64_t *next, hdt_text_result *t",
                            "RIGHT(g, q, from, most, out, next, t); if (from && *next == HDT_ABSENT) *next = from;"),
     "hdt_predicates": Wrong("uint64_t", "hdt_graph *g, uint64_t *counts, size_t room",
                             "uint64_t n = RIGHT(g, counts, room); return n < HDT_CLOSED && n > room ? room : n;"),

@@ -11,7 +11,7 @@ from typing import Any, Optional
 from . import _library
 from ._calls import ROLES, Pattern, bracketed, closed, counts_of, encoded, is_bracketed, pattern_of
 from ._faults import NotATerm
-from ._library import Handle, Lent, Made, Ranges, Telling, Verdict, library
+from ._library import Handle, Lent, Made, Ranges, TextResult, Verdict, library
 
 _FIRST_BYTES = 256  # room for a string; it grows where one needs more
 _PORTION = 4_096  # strings that are looked up at once
@@ -30,14 +30,14 @@ def _cut(text: str, ends: list[int]) -> list[str]:
     return [it if it.isascii() else it.encode("latin-1").decode() for it in strings]
 
 
-def _text_of(made: Made, telling: Telling) -> str:
+def _text_of(made: Made, outcome: TextResult) -> str:
     """The text that a call has made. Raises NotATerm, MemoryError, or ValueError if the graph is closed."""
-    if telling.reason == _library.IS_CLOSED:
+    if outcome.reason == _library.IS_CLOSED:
         raise closed()
-    if telling.reason == _library.OUT_OF_MEMORY:
+    if outcome.reason == _library.OUT_OF_MEMORY:
         raise MemoryError
-    if telling.reason == _library.NOT_A_TERM:
-        raise NotATerm(ROLES[telling.role], telling.number)
+    if outcome.reason == _library.NOT_A_TERM:
+        raise NotATerm(ROLES[outcome.role], outcome.number)
     return str(made.view(), "utf-8")
 
 
@@ -213,21 +213,21 @@ class OpenHandle:
 
     def _text(self, pattern: Pattern) -> str:
         """The matches as N-Triples. Raises NotATerm."""
-        telling = Telling()
+        outcome = TextResult()
         with Made() as made:
             with self._lock:
-                library.hdt_pattern_text(self._handle, pattern.packed, made, telling)
-            return _text_of(made, telling)
+                library.hdt_pattern_text(self._handle, pattern.packed, made, outcome)
+            return _text_of(made, outcome)
 
     def _page_text(self, pattern: Pattern, start: int, most: int) -> tuple[str, Optional[int]]:
         """The text of the matches from a position on, at most so many, and the position of the next one."""
-        telling, following = Telling(), _ZERO[:]
+        outcome, following = TextResult(), _ZERO[:]
         first, lines = min(start, _LARGEST), min(most, _LARGEST)
         with Made() as made:
             with self._lock:
                 at = following.buffer_info()[0]
-                library.hdt_page_text(self._handle, pattern.packed, first, lines, made, at, telling)
-            text = _text_of(made, telling)
+                library.hdt_page_text(self._handle, pattern.packed, first, lines, made, at, outcome)
+            text = _text_of(made, outcome)
         return text, None if following[0] == _library.ABSENT else following[0]
 
     def _pieces(self, pattern: Pattern) -> Iterator[str]:

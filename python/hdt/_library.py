@@ -45,8 +45,8 @@ class SplitReport(ctypes.Structure):
     ]
 
 
-class Telling(ctypes.Structure):
-    """An hdt_telling."""
+class TextResult(ctypes.Structure):
+    """An hdt_text_result."""
 
     _fields_ = [("reason", ctypes.c_uint32), ("role", ctypes.c_uint32), ("number", ctypes.c_uint64)]
 
@@ -131,7 +131,7 @@ def _load() -> Any:
     )
     pattern, room = ctypes.c_void_p, ctypes.c_void_p  # (a pattern is given as its bytes)
     made, ranges = ctypes.POINTER(Made), ctypes.POINTER(Ranges)
-    verdict, report, telling = ctypes.POINTER(Verdict), ctypes.POINTER(Report), ctypes.POINTER(Telling)
+    verdict, report, outcome = ctypes.POINTER(Verdict), ctypes.POINTER(Report), ctypes.POINTER(TextResult)
     split_report = ctypes.POINTER(SplitReport)
     for name, parameters, answer in (
         ("hdt_verify", [*bytes_of, verdict], None),
@@ -148,9 +148,9 @@ def _load() -> Any:
         ("hdt_predicates", [graph, room, size], number),
         ("hdt_pattern_find", [graph, pattern, number, room, size], number),
         ("hdt_pattern_matching", [graph, pattern], number),
-        ("hdt_pattern_text", [graph, pattern, made, telling], None),
+        ("hdt_pattern_text", [graph, pattern, made, outcome], None),
         ("hdt_page", [graph, pattern, number, room, size, room], number),
-        ("hdt_page_text", [graph, pattern, number, number, made, room, telling], None),
+        ("hdt_page_text", [graph, pattern, number, number, made, room, outcome], None),
         ("hdt_build", [*bytes_of, *bytes_of, ctypes.c_uint32, made, report], None),
         ("hdt_split", [*bytes_of, ctypes.c_uint32, *bytes_of, made, room, size, split_report], None),
         ("hdt_rewrite", [*bytes_of, ctypes.c_uint32, made, verdict], None),

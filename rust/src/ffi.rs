@@ -34,11 +34,11 @@ extern "C" {
                         room: usize) -> u64;
     fn hdt_pattern_matching(graph: *mut hdt_graph, pattern: *const hdt_pattern) -> u64;
     fn hdt_pattern_text(graph: *mut hdt_graph, pattern: *const hdt_pattern, out: *mut hdt_bytes,
-                        telling: *mut hdt_telling);
+                        outcome: *mut hdt_text_result);
     fn hdt_page(graph: *mut hdt_graph, pattern: *const hdt_pattern, from: u64, out: *mut [u64; 3], room: usize,
                 next: *mut u64) -> u64;
     fn hdt_page_text(graph: *mut hdt_graph, pattern: *const hdt_pattern, from: u64, most: u64, out: *mut hdt_bytes,
-                     next: *mut u64, telling: *mut hdt_telling);
+                     next: *mut u64, outcome: *mut hdt_text_result);
     fn hdt_build(text: *const u8, len: usize, base: *const u8, base_len: usize, block_size: u32, out: *mut hdt_bytes,
                  report: *mut hdt_report);
     fn hdt_split(text: *const u8, len: usize, parts: u32, prefix: *const u8, prefix_len: usize, out: *mut hdt_bytes,
@@ -222,26 +222,26 @@ impl<'bytes> Handle<'bytes> {
         (answer, next)
     }
 
-    pub(crate) fn text(&self, pattern: &Pattern<'_>) -> (Bytes, hdt_telling) {
-        let (given, mut out, mut telling) = (hdt_pattern::of(pattern), Bytes::new(), hdt_telling::default());
+    pub(crate) fn text(&self, pattern: &Pattern<'_>) -> (Bytes, hdt_text_result) {
+        let (given, mut out, mut outcome) = (hdt_pattern::of(pattern), Bytes::new(), hdt_text_result::default());
         self.ask(|graph| {
-            // SAFETY: it has the handle, `out` and `telling` alone, and the strings outlive the call.
-            unsafe { hdt_pattern_text(graph, &given, &mut out.made, &mut telling) };
+            // SAFETY: it has the handle, `out` and `outcome` alone, and the strings outlive the call.
+            unsafe { hdt_pattern_text(graph, &given, &mut out.made, &mut outcome) };
             0
         });
-        (out, telling)
+        (out, outcome)
     }
 
     /// The text of the matches from triple `from` on, and the index of the next match.
-    pub(crate) fn page_text(&self, pattern: &Pattern<'_>, from: u64, most: u64) -> (Bytes, u64, hdt_telling) {
-        let (given, mut out, mut telling) = (hdt_pattern::of(pattern), Bytes::new(), hdt_telling::default());
+    pub(crate) fn page_text(&self, pattern: &Pattern<'_>, from: u64, most: u64) -> (Bytes, u64, hdt_text_result) {
+        let (given, mut out, mut outcome) = (hdt_pattern::of(pattern), Bytes::new(), hdt_text_result::default());
         let mut next = HDT_ABSENT;
         self.ask(|graph| {
-            // SAFETY: it has the handle, `out`, `next` and `telling` alone, and the strings outlive the call.
-            unsafe { hdt_page_text(graph, &given, from, most, &mut out.made, &mut next, &mut telling) };
+            // SAFETY: it has the handle, `out`, `next` and `outcome` alone, and the strings outlive the call.
+            unsafe { hdt_page_text(graph, &given, from, most, &mut out.made, &mut next, &mut outcome) };
             0
         });
-        (out, next, telling)
+        (out, next, outcome)
     }
 }
 

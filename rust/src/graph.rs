@@ -245,8 +245,8 @@ impl<'bytes> Graph<'bytes> {
     ///
     /// [`Error::NotATerm`] is the first string that can't be written; [`Error::OutOfMemory`].
     pub fn text(&self, pattern: Pattern<'_>) -> Result<Bytes, Error> {
-        let (text, telling) = self.handle.text(&pattern);
-        told(&telling).map(|()| text)
+        let (text, outcome) = self.handle.text(&pattern);
+        checked(&outcome).map(|()| text)
     }
 
     /// The triples of [`page`](Graph::page) as N-Triples, at most `most`, and the index of the next match.
@@ -266,16 +266,16 @@ impl<'bytes> Graph<'bytes> {
     /// # }
     /// ```
     pub fn page_text(&self, pattern: Pattern<'_>, from: u64, most: u64) -> Result<(Bytes, Option<u64>), Error> {
-        let (text, next, telling) = self.handle.page_text(&pattern, from, most);
-        told(&telling).map(|()| (text, index(next)))
+        let (text, next, outcome) = self.handle.page_text(&pattern, from, most);
+        checked(&outcome).map(|()| (text, index(next)))
     }
 }
 
 /// The error of a call that makes a text, if there is one.
-fn told(telling: &ffi::hdt_telling) -> Result<(), Error> {
-    match telling.reason {
+fn checked(outcome: &ffi::hdt_text_result) -> Result<(), Error> {
+    match outcome.reason {
         ffi::HDT_DONE => Ok(()),
-        ffi::HDT_NOT_A_TERM => Err(Error::NotATerm { role: Role::of(telling.role), id: telling.number }),
+        ffi::HDT_NOT_A_TERM => Err(Error::NotATerm { role: Role::of(outcome.role), id: outcome.number }),
         reason => Err(Error::other(reason)),
     }
 }

@@ -110,7 +110,7 @@ pub(crate) struct hdt_split_report {
 
 #[repr(C)]
 #[derive(Default)]
-pub(crate) struct hdt_telling {
+pub(crate) struct hdt_text_result {
     pub(crate) reason: u32,
     pub(crate) role: u32,
     pub(crate) number: u64,

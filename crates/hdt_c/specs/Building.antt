@@ -53,7 +53,7 @@ pub record AreInvalidOptions (base : List ℕ) (b : ℕ) : Type 0 where
 -- the text has the error
 pub record HasDocumentFault (text : List ℕ) (fault : BuildFault) : Type 0 where
   pub after : Option (List ℕ)
-  pub told : IsBuildFaultOf (Some text) after fault
+  pub is_reported : IsBuildFaultOf (Some text) after fault
 
 -- the text or the options have the error; running out of memory says nothing of them
 abbrev pub HasBuildFault : List ℕ → List ℕ → ℕ → BuildFault → Type 0
@@ -62,19 +62,19 @@ HasBuildFault text base b faults.OutOfMemory = ⊤
 HasBuildFault text base b fault = HasDocumentFault text fault
 
 -- the bytes are the file, and the report says so
-pub record BuildsBytes (text base : List ℕ) (b : ℕ) (out : HdtBytes) (told_is : HdtReport) : Type 0 where
+pub record BuildsBytes (text base : List ℕ) (b : ℕ) (out : HdtBytes) (reported : HdtReport) : Type 0 where
   pub bytes : List ℕ
   pub report : Report
   pub is : BuildsText text base b bytes report
   pub made : HoldsBytes out bytes
-  pub told : told_is ≡ built report
+  pub is_reported : reported ≡ built report
 
 -- there are no bytes, and the report is that of the error
-pub record FailsToBuild (text base : List ℕ) (b : ℕ) (out : HdtBytes) (told_is : HdtReport) : Type 0 where
+pub record FailsToBuild (text base : List ℕ) (b : ℕ) (out : HdtBytes) (reported : HdtReport) : Type 0 where
   pub fault : BuildFault
   pub stands : HasBuildFault text base b fault
   pub made : HoldsNoBytes out
-  pub told : told_is ≡ report_of_fault fault
+  pub is_reported : reported ≡ report_of_fault fault
 
 -- the result of `hdt_build`
 abbrev pub ReportsBuild : List ℕ → List ℕ → ℕ → HdtBytes → HdtReport → Type 0

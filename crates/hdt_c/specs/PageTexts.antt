@@ -9,7 +9,7 @@ use Rattle.hdt_c.specs.LookUps.{absent}
 use Rattle.hdt_c.specs.Pages.{OfGivenPattern}
 use Rattle.hdt_c.specs.Texts.{HoldsText, HoldsNoText}
 use Rattle.hdt_c.specs.declared.bytes.HdtBytes.{HdtBytes}
-use Rattle.hdt_c.specs.declared.report.HdtTelling.{HdtTelling}
+use Rattle.hdt_c.specs.declared.report.HdtTextResult.{HdtTextResult}
 
 -- the first `most` matches from triple `from` on; without a pattern there is none
 abbrev pub page_triples : GraphParts → Option Pattern → ℕ → ℕ → List Triple
@@ -23,7 +23,7 @@ IsAfterPage g (Some p) from most next = IsNextMatch g.triples p from most next �
 
 -- the bytes are the text of the page, and `next` is the index of the match after it; or there are no bytes and no index,
 -- and the result is the error
-abbrev pub ReportsPageText : GraphParts → ℕ → ℕ → ℕ → HdtBytes → HdtTelling → Option Pattern → Type 0
-ReportsPageText g from most next out telling pattern =
-    (HoldsText g (page_triples g pattern from most) out telling × IsAfterPage g pattern from most next)
-    ⊎ (HoldsNoText g (page_triples g pattern from most) out telling × (next ≡ absent))
+abbrev pub ReportsPageText : GraphParts → ℕ → ℕ → ℕ → HdtBytes → HdtTextResult → Option Pattern → Type 0
+ReportsPageText g from most next out outcome pattern =
+    (HoldsText g (page_triples g pattern from most) out outcome × IsAfterPage g pattern from most next)
+    ⊎ (HoldsNoText g (page_triples g pattern from most) out outcome × (next ≡ absent))

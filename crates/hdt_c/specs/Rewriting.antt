@@ -31,7 +31,7 @@ pub record RewritesBytes (bytes : List ℕ) (b : ℕ) (out : HdtBytes) (v : HdtV
   pub report : Report
   pub is : IsRewriteOf bytes b new report
   pub made : HoldsBytes out new
-  pub told : v ≡ rewritten report
+  pub is_reported : v ≡ rewritten report
 
 -- the result of `hdt_rewrite`
 abbrev pub ReportsRewrite : List ℕ → ℕ → HdtBytes → HdtVerdict → Type 0

@@ -87,7 +87,7 @@ IsNumberOfParts parts = (1 ≤ parts) × (parts ≤ 65536)
 
 -- the bytes are the texts of the parts, the byte offset at which each ends was written to the buffer, and the report
 -- says so
-pub record PutsParts (text : List ℕ) (parts : ℕ) (prefix : List ℕ) (out : HdtBytes) (old new : List ℕ) (told : HdtSplitReport) : Type 0 where
+pub record PutsParts (text : List ℕ) (parts : ℕ) (prefix : List ℕ) (out : HdtBytes) (old new : List ℕ) (reported : HdtSplitReport) : Type 0 where
   pub bytes : List ℕ
   pub ends : List ℕ
   pub report : SplitReport
@@ -95,19 +95,19 @@ pub record PutsParts (text : List ℕ) (parts : ℕ) (prefix : List ℕ) (out : 
   pub joined : JoinsParts text parts prefix bytes ends report
   pub made : HoldsBytes out bytes
   pub places : new ≡ overwritten_prefix ends old
-  pub told_is : told ≡ split_report report
+  pub is_reported : reported ≡ split_report report
 
 -- there are no bytes, and the report is that of the error
-pub record FailsToSplit (text : List ℕ) (parts : ℕ) (out : HdtBytes) (old new : List ℕ) (told : HdtSplitReport) : Type 0 where
+pub record FailsToSplit (text : List ℕ) (parts : ℕ) (out : HdtBytes) (old new : List ℕ) (reported : HdtSplitReport) : Type 0 where
   pub fault : SplitFault
   pub count : IsNumberOfParts parts
   pub is : HasSplitFault text fault
   pub nothing : WritesNothing out old new
-  pub told_is : told ≡ split_report_of_fault fault
+  pub is_reported : reported ≡ split_report_of_fault fault
 
 -- there are no bytes, since the number of parts is not valid
 abbrev pub RefusesParts : ℕ → HdtBytes → List ℕ → List ℕ → HdtSplitReport → Type 0
-RefusesParts parts out old new told = (IsNumberOfParts parts → ⊥) × WritesNothing out old new × (told ≡ split_report_for 252)
+RefusesParts parts out old new reported = (IsNumberOfParts parts → ⊥) × WritesNothing out old new × (reported ≡ split_report_for 252)
 
 abbrev pub ReportsSplit : List ℕ → ℕ → List ℕ → HdtBytes → List ℕ → List ℕ → HdtSplitReport → Type 0
-ReportsSplit text parts prefix out old new told = PutsParts text parts prefix out old new told ⊎ (FailsToSplit text parts out old new told ⊎ RefusesParts parts out old new told)
+ReportsSplit text parts prefix out old new reported = PutsParts text parts prefix out old new reported ⊎ (FailsToSplit text parts out old new reported ⊎ RefusesParts parts out old new reported)

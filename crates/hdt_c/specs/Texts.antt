@@ -11,11 +11,11 @@ use Rattle.hdt_file.specs.declared.fault.DumpFault.{DumpFault}
 use Rattle.hdt_file.specs.declared.fault.DumpFault.TheVariants as faults
 use Rattle.hdt_c.specs.Bytes.{HoldsBytes, HoldsNoBytes}
 use Rattle.hdt_c.specs.declared.bytes.HdtBytes.{HdtBytes}
-use Rattle.hdt_c.specs.declared.report.HdtTelling.{HdtTelling}
+use Rattle.hdt_c.specs.declared.report.HdtTextResult.{HdtTextResult}
 
 -- the result of a reason without a string
-abbrev pub telling_for : ℕ → HdtTelling
-telling_for n = record { reason = n; role = 0; number = 0 }
+abbrev pub text_result_for : ℕ → HdtTextResult
+text_result_for n = record { reason = n; role = 0; number = 0 }
 
 -- the number of a role in c/hdt.h
 abbrev pub role_number : Role → ℕ
@@ -24,26 +24,26 @@ role_number Predicate = 1
 role_number Object = 2
 
 -- the result of an error
-abbrev pub telling_of_fault : DumpFault → HdtTelling
-telling_of_fault (faults.NotATerm role n) = record { reason = 250; role = role_number role; number = n }
-telling_of_fault (faults.Write n) = telling_for 255
-telling_of_fault faults.OutOfMemory = telling_for 255
+abbrev pub text_result_of_fault : DumpFault → HdtTextResult
+text_result_of_fault (faults.NotATerm role n) = record { reason = 250; role = role_number role; number = n }
+text_result_of_fault (faults.Write n) = text_result_for 255
+text_result_of_fault faults.OutOfMemory = text_result_for 255
 
 -- the bytes are the text of the triples, and the result says so
-pub record HoldsText (g : GraphParts) (found : List Triple) (out : HdtBytes) (telling : HdtTelling) : Type 0 where
+pub record HoldsText (g : GraphParts) (found : List Triple) (out : HdtBytes) (outcome : HdtTextResult) : Type 0 where
   pub text : List ℕ
   pub is : IsTextOf (denoted g found) text
   pub bytes : HoldsBytes out text
-  pub told : telling ≡ telling_for 0
+  pub is_reported : outcome ≡ text_result_for 0
 
 -- there are no bytes, and the result is that of the error: the first string of the first triple that is not a term
 -- which its role allows, or that memory ran out
-pub record HoldsNoText (g : GraphParts) (found : List Triple) (out : HdtBytes) (telling : HdtTelling) : Type 0 where
+pub record HoldsNoText (g : GraphParts) (found : List Triple) (out : HdtBytes) (outcome : HdtTextResult) : Type 0 where
   pub fault : DumpFault
   pub stands : ReportsFirstNonTerm g found fault
   pub bytes : HoldsNoBytes out
-  pub told : telling ≡ telling_of_fault fault
+  pub is_reported : outcome ≡ text_result_of_fault fault
 
 -- the result of making the text of triples
-abbrev pub ReportsText : GraphParts → List Triple → HdtBytes → HdtTelling → Type 0
-ReportsText g found out telling = HoldsText g found out telling ⊎ HoldsNoText g found out telling
+abbrev pub ReportsText : GraphParts → List Triple → HdtBytes → HdtTextResult → Type 0
+ReportsText g found out outcome = HoldsText g found out outcome ⊎ HoldsNoText g found out outcome

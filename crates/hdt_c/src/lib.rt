@@ -35,6 +35,6 @@ pub use bytes::{Address, HdtBytes};
 pub use handle::{HdtGraph, ResourcePtr};
 pub use pattern::{HdtPart, HdtPattern};
 pub use prefix::HdtRanges;
-pub use report::{HdtReport, HdtSplitReport, HdtTelling};
+pub use report::{HdtReport, HdtSplitReport, HdtTextResult};
 pub use terms::HdtTermParts;
 pub use verdict::HdtVerdict;

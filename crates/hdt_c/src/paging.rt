@@ -11,14 +11,14 @@ ghost use Rattle.hdt_c.specs.Handle.{IsClosed, OfGraph, SameGraph};
 ghost use Rattle.hdt_c.specs.LookUps.{absent, closed, numbers};
 ghost use Rattle.hdt_c.specs.Pages.{OfGivenPattern, PutsNothing, PutsPageOf, ReturnsPage};
 ghost use Rattle.hdt_c.specs.PageTexts.{IsAfterPage, ReportsPageText, page_triples};
-ghost use Rattle.hdt_c.specs.Texts.{telling_for};
+ghost use Rattle.hdt_c.specs.Texts.{text_result_for};
 
 use crate::bytes::HdtBytes;
 use crate::handle::{HdtGraph, graph_ref};
 use crate::look_ups::{ABSENT, CLOSED, NO_MEMORY};
 use crate::pattern::{HdtPattern, ids_of_parts};
-use crate::report::HdtTelling;
-use crate::text::{for_reason, no_graph, telling_of_fault};
+use crate::report::HdtTextResult;
+use crate::text::{for_reason, no_graph, text_result_of_fault};
 use hdt_file::{DumpFault, Graph, TermWriter};
 use hdt_seq::Steps;
 use hdt_triples::Pattern;
@@ -145,7 +145,7 @@ fn put_page_text(
     most: u64,
     out: &mut HdtBytes,
     next: &mut u64,
-) -> HdtTelling
+) -> HdtTextResult
     ensures { ReportsPageText (graph_view graph.now) from most next.new out.new result pattern }
 {
     *next = ABSENT;
@@ -155,11 +155,11 @@ fn put_page_text(
                 *next = after;
                 for_reason(0)
             }
-            Err(_) => telling_of_fault(DumpFault::OutOfMemory),
+            Err(_) => text_result_of_fault(DumpFault::OutOfMemory),
         },
         Err(fault) => {
             out.free(alloc);
-            telling_of_fault(fault)
+            text_result_of_fault(fault)
         }
     }
 }
@@ -175,21 +175,21 @@ pub extern "C" fn hdt_page_text(
     most: u64,
     out: &mut HdtBytes,
     next: &mut u64,
-    telling: &mut HdtTelling,
+    outcome: &mut HdtTextResult,
 )
-    ensures exact { OfGraph graph.old (λ g. OfGivenPattern (IsGivenPattern g pattern.now) (ReportsPageText g from most next.new out.new telling.new)) }
-    ensures closed { IsClosed graph.old → (telling.new ≡ telling_for 253) × (next.new ≡ absent) × HoldsNoBytes out.new }
+    ensures exact { OfGraph graph.old (λ g. OfGivenPattern (IsGivenPattern g pattern.now) (ReportsPageText g from most next.new out.new outcome.new)) }
+    ensures closed { IsClosed graph.old → (outcome.new ≡ text_result_for 253) × (next.new ≡ absent) × HoldsNoBytes out.new }
     ensures kept { SameGraph graph.old graph.new }
 {
     match graph.take(alloc) {
         None => {
             *next = ABSENT;
-            *telling = no_graph(alloc, out);
+            *outcome = no_graph(alloc, out);
         }
         Some(taken) => {
             let opened = graph_ref(&taken);
             let given = ids_of_parts(opened, pattern);
-            *telling = put_page_text(alloc, opened, given, from, most, out, next);
+            *outcome = put_page_text(alloc, opened, given, from, most, out, next);
             graph.put(taken);
         }
     }

@@ -4,14 +4,14 @@ ghost use Rattle.hdt_c.specs.Bytes.{HoldsNoBytes};
 ghost use Rattle.hdt_c.specs.GivenPatterns.{IsGivenPattern};
 ghost use Rattle.hdt_c.specs.Handle.{IsClosed, OfGraph, SameGraph};
 ghost use Rattle.hdt_c.specs.LookUps.{OfMatches, PutsPage, closed};
-ghost use Rattle.hdt_c.specs.Texts.{ReportsText, telling_for};
+ghost use Rattle.hdt_c.specs.Texts.{ReportsText, text_result_for};
 
 use crate::bytes::HdtBytes;
 use crate::finding::{count_matches, find_into};
 use crate::handle::{HdtGraph, graph_ref};
 use crate::look_ups::CLOSED;
 use crate::pattern::{HdtPattern, pattern_of_parts};
-use crate::report::HdtTelling;
+use crate::report::HdtTextResult;
 use crate::text::{no_graph, put_text};
 use std::alloc::Global;
 
@@ -68,17 +68,17 @@ pub extern "C" fn hdt_pattern_text(
     graph: &mut HdtGraph,
     pattern: &HdtPattern<'_>,
     out: &mut HdtBytes,
-    telling: &mut HdtTelling,
+    outcome: &mut HdtTextResult,
 )
-    ensures exact { OfGraph graph.old (λ g. OfMatches g (IsGivenPattern g pattern.now) (λ found. ReportsText g found out.new telling.new)) }
-    ensures closed { IsClosed graph.old → (telling.new ≡ telling_for 253) × HoldsNoBytes out.new }
+    ensures exact { OfGraph graph.old (λ g. OfMatches g (IsGivenPattern g pattern.now) (λ found. ReportsText g found out.new outcome.new)) }
+    ensures closed { IsClosed graph.old → (outcome.new ≡ text_result_for 253) × HoldsNoBytes out.new }
     ensures kept { SameGraph graph.old graph.new }
 {
     match graph.take(alloc) {
-        None => *telling = no_graph(alloc, out),
+        None => *outcome = no_graph(alloc, out),
         Some(taken) => {
             let opened = graph_ref(&taken);
-            *telling = put_text(alloc, opened, pattern_of_parts(opened, pattern), out);
+            *outcome = put_text(alloc, opened, pattern_of_parts(opened, pattern), out);
             graph.put(taken);
         }
     }

@@ -33,10 +33,10 @@ pub struct HdtSplitReport {
     pub triples: u64,
 }
 
-/// `hdt_telling`: the result of making the text of a graph.
+/// `hdt_text_result`: the result of making the text of a graph.
 #[repr(C)]
 #[derive(Clone, Copy)]
-pub struct HdtTelling {
+pub struct HdtTextResult {
     /// 0: there is a text; 250: a string is not a term that its role allows; 253: the graph is closed; 255: out of
     /// memory.
     pub reason: u32,

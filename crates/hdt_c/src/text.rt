@@ -6,12 +6,12 @@ ghost use Rattle.hdt_file.specs.TextWriting.{matches_if_given};
 ghost use Rattle.hdt_c.specs.LookUps.{OfMatches, string_if_flag};
 ghost use Rattle.hdt_c.specs.Bytes.{HoldsNoBytes};
 ghost use Rattle.hdt_c.specs.Handle.{IsClosed, OfGraph, SameGraph};
-ghost use Rattle.hdt_c.specs.Texts.{ReportsText, telling_for, role_number, telling_of_fault};
+ghost use Rattle.hdt_c.specs.Texts.{ReportsText, text_result_for, role_number, text_result_of_fault};
 
 use crate::bytes::HdtBytes;
 use crate::finding::{pattern_of, string_if_flag};
 use crate::handle::{HdtGraph, graph_ref};
-use crate::report::HdtTelling;
+use crate::report::HdtTextResult;
 use crate::verdict::OUT_OF_MEMORY;
 use hdt_dict::Role;
 use hdt_file::{DumpFault, Graph, graph_text};
@@ -25,10 +25,10 @@ pub(crate) const NOT_A_TERM: u32 = 250;
 const IS_CLOSED: u32 = 253;
 
 /// A result with a reason but no string.
-pub(crate) fn for_reason(reason: u32) -> HdtTelling
-    ensures { result ≡ telling_for reason }
+pub(crate) fn for_reason(reason: u32) -> HdtTextResult
+    ensures { result ≡ text_result_for reason }
 {
-    HdtTelling {
+    HdtTextResult {
         reason,
         role: 0,
         number: 0,
@@ -47,11 +47,11 @@ fn role_number(role: Role) -> u32
 }
 
 /// The result of an error.
-pub(crate) fn telling_of_fault(fault: DumpFault) -> HdtTelling
-    ensures { result ≡ telling_of_fault fault }
+pub(crate) fn text_result_of_fault(fault: DumpFault) -> HdtTextResult
+    ensures { result ≡ text_result_of_fault fault }
 {
     match fault {
-        DumpFault::NotATerm(role, number) => HdtTelling {
+        DumpFault::NotATerm(role, number) => HdtTextResult {
             reason: NOT_A_TERM,
             role: role_number(role),
             number,
@@ -66,24 +66,24 @@ pub(crate) fn put_text(
     graph: &Graph<'static>,
     pattern: Option<Pattern>,
     out: &mut HdtBytes,
-) -> HdtTelling
+) -> HdtTextResult
     ensures { ReportsText (graph_view graph.now) (matches_if_given (graph_view graph.now) pattern) out.new result }
 {
     match graph_text(alloc, graph, pattern) {
         Ok(text) => match out.put(alloc, text) {
             Ok(()) => for_reason(0),
-            Err(_) => telling_of_fault(DumpFault::OutOfMemory),
+            Err(_) => text_result_of_fault(DumpFault::OutOfMemory),
         },
         Err(fault) => {
             out.free(alloc);
-            telling_of_fault(fault)
+            text_result_of_fault(fault)
         }
     }
 }
 
 /// The result of a graph that is not open: there is no text.
-pub(crate) fn no_graph(alloc: Global, out: &mut HdtBytes) -> HdtTelling
-    ensures { (result ≡ telling_for 253) × HoldsNoBytes out.new }
+pub(crate) fn no_graph(alloc: Global, out: &mut HdtBytes) -> HdtTextResult
+    ensures { (result ≡ text_result_for 253) × HoldsNoBytes out.new }
 {
     out.free(alloc);
     for_reason(IS_CLOSED)
@@ -101,14 +101,14 @@ pub extern "C" fn hdt_text(
     has_o: u32,
     o: &[u8],
     out: &mut HdtBytes,
-    telling: &mut HdtTelling,
+    outcome: &mut HdtTextResult,
 )
-    ensures exact { OfGraph graph.old (λ g. OfMatches g (IsPattern g (string_if_flag has_s s.entry ∷ string_if_flag has_p p.entry ∷ string_if_flag has_o o.entry ∷ [])) (λ found. ReportsText g found out.new telling.new)) }
-    ensures closed { IsClosed graph.old → (telling.new ≡ telling_for 253) × HoldsNoBytes out.new }
+    ensures exact { OfGraph graph.old (λ g. OfMatches g (IsPattern g (string_if_flag has_s s.entry ∷ string_if_flag has_p p.entry ∷ string_if_flag has_o o.entry ∷ [])) (λ found. ReportsText g found out.new outcome.new)) }
+    ensures closed { IsClosed graph.old → (outcome.new ≡ text_result_for 253) × HoldsNoBytes out.new }
     ensures kept { SameGraph graph.old graph.new }
 {
     match graph.take(alloc) {
-        None => *telling = no_graph(alloc, out),
+        None => *outcome = no_graph(alloc, out),
         Some(taken) => {
             let given = [
                 string_if_flag(has_s, s),
@@ -116,7 +116,7 @@ pub extern "C" fn hdt_text(
                 string_if_flag(has_o, o),
             ];
             let opened = graph_ref(&taken);
-            *telling = put_text(alloc, opened, pattern_of(opened, given), out);
+            *outcome = put_text(alloc, opened, pattern_of(opened, given), out);
             graph.put(taken);
         }
     }

@@ -24,11 +24,11 @@ is_bad (Write n) = false
 stands : (text base : List ℕ) (b : ℕ) (options : Options) → AreGivenOptions base b options → (after : Option (List ℕ)) (fault : BuildFault)
     → (fault ≡ BadOptions → AreValidOptions options → ⊥) → (fault ≢ BadOptions → IsBuildFaultOf (Some text) after fault) → HasBuildFault text base b fault
 unfolding is_bad
-stands text base b options given after (Line fault) bad told = record { after = after; told = told (λ e. true≢false (sym (ap is_bad e))) }
-stands text base b options given after NoTriples bad told = record { after = after; told = told (λ e. true≢false (sym (ap is_bad e))) }
-stands text base b options given after BadOptions bad told = record { options = options; given = given; bad = bad refl }
-stands text base b options given after OutOfMemory bad told = tt
-stands text base b options given after (Write n) bad told = record { after = after; told = told (λ e. true≢false (sym (ap is_bad e))) }
+stands text base b options given after (Line fault) bad is_reported = record { after = after; is_reported = is_reported (λ e. true≢false (sym (ap is_bad e))) }
+stands text base b options given after NoTriples bad is_reported = record { after = after; is_reported = is_reported (λ e. true≢false (sym (ap is_bad e))) }
+stands text base b options given after BadOptions bad is_reported = record { options = options; given = given; bad = bad refl }
+stands text base b options given after OutOfMemory bad is_reported = tt
+stands text base b options given after (Write n) bad is_reported = record { after = after; is_reported = is_reported (λ e. true≢false (sym (ap is_bad e))) }
 
 pub returns-in-Ok-clause-ok : goal.returns-in-Ok-clause-ok
 returns-in-Ok-clause-ok c =
