@@ -10,4 +10,5 @@ pub mod IterationSteps
 pub mod ComparisonUpdates
 pub mod Appending
 pub mod Concatenation
+pub mod SectionCursors
 pub mod PrefixLemmas

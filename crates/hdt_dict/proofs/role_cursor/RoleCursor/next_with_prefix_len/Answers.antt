@@ -1,7 +1,7 @@
 use Rattle.std.proofs.Common.{◌≡◌, ◌≤◌, ◌++◌, true, false, ap, sym, subst, ◌∙◌, arith}
 use Rattle.hdt_front.specs.Searching.{lcp_len}
 use Rattle.hdt_front.specs.Iteration.{strings}
-use Rattle.hdt_dict.specs.Following.{following}
+use Rattle.hdt_dict.specs.RoleSections.{following}
 use Rattle.hdt_dict.specs.Iteration.{Progress, stepped, next_id}
 use Rattle.hdt_dict.proofs.IterationSteps.{front_kept, ended, empty, no_strings, stays, behind, no_next, unmoved, took}
 use Rattle.hdt_dict.proofs.role_cursor.RoleCursor.next_with_prefix_len.Goals as goal
