@@ -12,7 +12,7 @@ ghost use Rattle.hdt_dict.specs.Ids.{string_at_id, AppendsString};
 ghost use Rattle.hdt_dict.specs.Located.{AreLocated};
 ghost use Rattle.hdt_wire.specs.declared.role.Role.{Role};
 
-use crate::disjoint::{check_objects, check_subjects};
+use crate::disjoint::check_disjoint;
 use hdt_front::{ReadFault, Section, SectionIter};
 use hdt_seq::Steps;
 use hdt_wire::{Kind, Role, read_control};
@@ -61,8 +61,8 @@ impl<'a> Dictionary<'a> {
         let (subjects, predicates_at) = Section::read(alloc, bytes, subjects_at)?;
         let (predicates, objects_at) = Section::read(alloc, bytes, predicates_at)?;
         let (objects, end) = Section::read(alloc, bytes, objects_at)?;
-        check_subjects(alloc, &shared, &subjects)?;
-        check_objects(alloc, &shared, &subjects, &objects)?;
+        check_disjoint(alloc, &shared, None, &subjects)?;
+        check_disjoint(alloc, &shared, Some(subjects), &objects)?;
         let dictionary = Dictionary {
             shared,
             subjects,
