@@ -1,5 +1,6 @@
--- The strings of each role are distinct, and there are no more than its sections allow.
+-- The sections of a dictionary are disjoint; the strings of each role are distinct, and there are no more than its sections allow.
 use Rattle.std.proofs.Common.{◌+◌, ◌≤◌, arith, length, length-append, ℕ, ◌++◌, Option, Some, None, option_copied, subst}
+use Rattle.std.proofs.lemmas.List.Elements.{Contains-append_left, Contains-append_right}
 use Rattle.hdt_front.specs.declared.section.Section.{Section}
 use Rattle.hdt_front.specs.Strings.{strings_of, section_of}
 use Rattle.hdt_front.specs.SectionIteration.{located_strings}
@@ -8,10 +9,29 @@ use Rattle.hdt_dict.specs.declared.dictionary.Dictionary.{Dictionary}
 use Rattle.hdt_wire.specs.declared.role.Role.{Role}
 use Rattle.hdt_wire.specs.declared.role.Role.TheVariants.{Subject, Predicate, Object}
 use Rattle.hdt_dict.specs.declared.role_sections.RoleSections.{RoleSections}
-use Rattle.hdt_dict.specs.Dictionary.{role_strings, lists_of_dictionary}
+use Rattle.hdt_dict.specs.Dictionary.{AreDisjoint, role_strings, lists_of_dictionary}
+use Rattle.hdt_dict.specs.Laws.Dictionary.{apart_exact}
 use Rattle.hdt_dict.specs.RoleSections.{following}
 use Rattle.hdt_dict.specs.Views.{dictionary_of}
 use Rattle.hdt_dict.proofs.Numbering.{Distinct, distinct_ascending, distinct-append}
+
+-- ---- disjoint sections
+
+pub shared_subjects : (d : Dictionary) → AreDisjoint (strings_of d.shared) (strings_of d.subjects)
+unfolding section_of
+shared_subjects d = (apart_exact (strings_of d.shared) (section_of d.subjects)).found tt d.subjects_apart
+
+before_objects : (d : Dictionary) → AreDisjoint (strings_of d.shared ++ strings_of d.subjects) (strings_of d.objects)
+unfolding section_of
+before_objects d = (apart_exact (strings_of d.shared ++ strings_of d.subjects) (section_of d.objects)).found tt d.objects_apart
+
+pub shared_objects : (d : Dictionary) → AreDisjoint (strings_of d.shared) (strings_of d.objects)
+shared_objects d = λ x a b. before_objects d x (Contains-append_left (strings_of d.shared) (strings_of d.subjects) x a) b
+
+pub subjects_objects : (d : Dictionary) → AreDisjoint (strings_of d.subjects) (strings_of d.objects)
+subjects_objects d = λ x a b. before_objects d x (Contains-append_right (strings_of d.shared) (strings_of d.subjects) x a) b
+
+-- ---- the strings of a role
 
 distinct_section : (s : Section) → Distinct (strings_of s)
 distinct_section s = subst Distinct (located_are_strings s) (distinct_ascending (located_strings s) (located_ascend s))

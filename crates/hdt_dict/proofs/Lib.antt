@@ -3,7 +3,6 @@ pub mod Splitting
 pub mod Merging
 pub mod Overlaps
 pub mod DisjointChecks
-pub mod LocatedStrings
 pub mod Numbering
 pub mod Dictionaries
 pub mod IterationSteps

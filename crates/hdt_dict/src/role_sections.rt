@@ -33,7 +33,6 @@ impl<'a> Dictionary<'a> {
         ensures blocks { (n : ℕ) → block_bytes_of_two result.first.now (option_copied result.second) n ≡ role_block_bytes self.now role n }
         ensures decode { max (block_size result.first.now) (following_block_size (option_copied result.second)) ≡ role_decode_cost (dictionary_of self.now) role }
     {
-        self.are_sections();
         match role {
             Role::Subject => RoleSections {
                 first: &self.shared,
