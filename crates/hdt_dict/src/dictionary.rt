@@ -135,7 +135,6 @@ impl<'a> Dictionary<'a> {
     }
 
     /// Returns the number of strings of a role. Their IDs are 1 to this number.
-    #[tactic(auto, unfolding(crate::specs::Views::dictionary_of, hdt_front::specs::Strings::section_of))]
     pub fn count(&self, role: Role) -> u64
         ensures { result ≡ length (role_strings (lists_of_dictionary (dictionary_of self.now)) role) }
     {
@@ -159,7 +158,6 @@ impl<'a> Dictionary<'a> {
     /// ID. In this case, and if memory runs out, `out` is unchanged.
     ///
     /// Decodes the block of the string from its start up to the string.
-    #[tactic(auto, unfolding(crate::specs::Views::dictionary_of, crate::specs::Cost::role_decode_cost, hdt_front::specs::Strings::section_of))]
     pub fn string_of(
         &self,
         role: Role,
@@ -182,7 +180,6 @@ impl<'a> Dictionary<'a> {
 
     /// Returns the front-coded bytes of the block that has the string of a role with ID n, from 1, borrowed from the
     /// input: decoding the string reads no others. Empty if n is not a valid ID. Two memory accesses.
-    #[tactic(auto, unfolding(crate::specs::Views::role_block_bytes))]
     pub fn block(&self, role: Role, n: u64) -> &'a [u8]
         ensures { result.now ≡ role_block_bytes self.now role n }
     {
