@@ -217,7 +217,8 @@ impl<'a> Dictionary<'a> {
 
     /// Returns an iterator over the strings of a section with their byte offsets, as errors report them. Sections are 0
     /// shared, 1 subjects, 2 predicates, 3 objects. A full iteration takes time linear in the front-coded bytes, where
-    /// a call of [`string_start`](Dictionary::string_start) for each string would scan a block each. Allocates nothing yet.
+    /// a call of [`string_start`](Dictionary::string_start) for each string would scan a block each. Allocates nothing
+    /// yet.
     pub fn located_strings(&self, alloc: Global, section: usize) -> SectionIter<'a>
         requires { section < 4 }
         ensures { AreLocated (section_by_index (dictionary_of self.now) section) result.ahead }
