@@ -7,7 +7,7 @@ use Rattle.hdt_front.specs.Searching.{lcp_len}
 use Rattle.hdt_front.specs.Laws.CommonPrefix.{lcp_le_flip, lcp_transitive, shared_prefix_left, shared_prefix_right}
 use Rattle.hdt_front.specs.Iteration.{LocatedString, LocatedAscend, first_string, next_lcp}
 use Rattle.hdt_dict.specs.Inside.Overlap.{contains_string, drop_less, IsComparison, IsStaleComparison}
-use Rattle.hdt_dict.proofs.Overlaps.{reached}
+use Rattle.hdt_dict.proofs.Overlaps.{reached, string_of}
 
 -- ---- the cursor advances
 
@@ -28,9 +28,6 @@ other_turned k comparison v w x l h e = subst (λ (w : List LocatedString). IsSt
 abbrev pub FirstTurns : ℕ → Ordering × ℕ → List LocatedString → List LocatedString → Type 0
 FirstTurns k comparison v [] = Unit {0}
 FirstTurns k comparison v (q ∷ qs) = IsStaleComparison k comparison v q.string
-
-string_of : (p : LocatedString) (ps : List LocatedString) (x : List ℕ) → first_string (p ∷ ps) ≡ Some x → p.string ≡ x
-string_of p ps x e = cc
 
 pub first_turns : (k : ℕ) (comparison : Ordering × ℕ) (v list : List LocatedString) (x : List ℕ) → FirstTurns k comparison v list → first_string list ≡ Some x → IsStaleComparison k comparison v x
 first_turns k comparison v [] x f e = absurd (cc)

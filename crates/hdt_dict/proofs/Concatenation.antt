@@ -3,7 +3,7 @@ use Rattle.std.proofs.Common.{◌≡◌, ℕ, zero, suc, ◌+◌, ◌-◌, ◌*�
 use Rattle.std.specs.List.{concat}
 use Rattle.std.specs.Prelude.{Result, Ok, Err, OnErr}
 use Rattle.hdt_wire.specs.Control.{IsPrefixOf}
-use Rattle.std.proofs.lemmas.List.{take_more, map-append, append-nil, get_or_append_left, take-append-le}
+use Rattle.std.proofs.lemmas.List.{take_more, map-append, append-nil, take-append-le}
 use Rattle.std.proofs.lemmas.List.Folds.{concat-append}
 use Rattle.hdt_dict.specs.StringBatch.{AscendTo, ends_from, strings_by_id}
 
@@ -46,14 +46,6 @@ before_within ns n (suc i) a h = (a i (omega (arith, h))).1
 
 pub one_more : (i m : ℕ) → (i + 1) * m ≡ i * m + m
 one_more i m = grind arith
-
--- the strings of the first of two lists
-pub in_first : (xs ys : List (List ℕ)) (ns : List ℕ) → ((i : ℕ) → i < length ns → (1 ≤ slice_index ns i) × (slice_index ns i ≤ length xs)) → strings_by_id (xs ++ ys) ns ≡ strings_by_id xs ns
-in_first xs ys [] h = refl
-in_first xs ys (n ∷ ns) h =
-    let k = h 0 (omega arith) in
-    ap (λ (s : List ℕ). s ∷ strings_by_id (xs ++ ys) ns) (get_or_append_left xs ys [] (n - 1) (omega (arith, k.0, k.1)))
-    ∙ ap (λ l. slice_index_or xs (n - 1) [] ∷ l) (in_first xs ys ns (λ i lt. h (suc i) (omega (arith, lt))))
 
 -- an error may leave bytes after the old ones
 pub left_behind : {T E : Type 0} (result : Result T E) (old new more : List ℕ) → new ≡ old ++ more → OnErr result (IsPrefixOf old new)

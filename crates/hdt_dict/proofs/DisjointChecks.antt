@@ -1,5 +1,5 @@
 -- Merging two sections gives the result of the check that they are disjoint.
-use Rattle.std.proofs.Common.{◌≡◌, ℕ, zero, suc, ◌+◌, ◌<◌, ◌||◌, not, Bool, true, false, cond, List, [], ◌∷◌, ◌++◌, length, get_or, Option, Some, refl, sym, ap, ◌∙◌, arith, add-zero, zero-add}
+use Rattle.std.proofs.Common.{◌≡◌, ℕ, zero, suc, ◌+◌, ◌<◌, ◌||◌, not, Bool, true, false, cond, List, [], ◌∷◌, ◌++◌, length, get_or, Option, Some, None, refl, sym, ap, ◌∙◌, arith, add-zero, zero-add}
 use Rattle.std.specs.Str.{bytes_eq}
 use Rattle.std.specs.Prelude.{Result}
 use Rattle.std.proofs.lemmas.List.{length-map}
@@ -19,7 +19,7 @@ use Rattle.hdt_front.specs.Iteration.{LocatedString, located_from}
 use Rattle.hdt_front.specs.Laws.Iteration.{located_are_strings}
 use Rattle.hdt_front.specs.SectionIteration.{located_strings}
 use Rattle.hdt_dict.specs.Strings.{has}
-use Rattle.hdt_dict.specs.Inside.Overlap.{contains_string, first_offset, check_not_found}
+use Rattle.hdt_dict.specs.Inside.Overlap.{contains_string, first_offset, check_not_found, located_of, strings_before}
 use Rattle.hdt_dict.specs.Dictionary.{disjoint_check, disjoint_at}
 
 or_assoc : (a b c : Bool) → (a || (b || c)) ≡ ((a || b) || c)
@@ -83,7 +83,7 @@ rows_first f row (p ∷ ps) k h =
     ∙ ap (λ r. demand (not (f p.string)) p.place SectionsOverlap >>= (λ _. r)) (rows_first f row ps (k + 1) (λ j lt. let e : k + 1 + j ≡ k + suc j = omega arith in ap row e ∙ h (suc j) (omega (arith, lt))))
     ∙ met_by (f p.string) p.place (first_offset f ps)
 
-pub section_rows : (others : List (List ℕ)) (s : Section) (f : List ℕ → Bool) → ((x : List ℕ) → f x ≡ has others x) → check_not_found (first_offset f (located_strings s)) ≡ disjoint_at others (section_of s)
+section_rows : (others : List (List ℕ)) (s : Section) (f : List ℕ → Bool) → ((x : List ℕ) → f x ≡ has others x) → check_not_found (first_offset f (located_strings s)) ≡ disjoint_at others (section_of s)
 unfolding section_of disjoint_check
 section_rows others s f same =
     sym (rows_first f (disjoint_check others (section_of s)) (located_strings s) 0 (λ j lt.
@@ -93,16 +93,16 @@ section_rows others s f same =
     ∙ ap (λ (p : LocatedString). demand (not (f p.string)) p.place SectionsOverlap) (sym e)))
     ∙ ap (λ n. checks_from (disjoint_check others (section_of s)) 0 n) (many_placed s)
 
--- a subject that is shared
-pub shared_rows : (shared subjects : Section) → check_not_found (first_offset (contains_string (located_strings shared)) (located_strings subjects)) ≡ disjoint_at (strings_of shared) (section_of subjects)
-shared_rows shared subjects =
-    section_rows (strings_of shared) subjects (contains_string (located_strings shared)) (λ x. ap (λ l. has l x) (located_are_strings shared))
+pub no_overlap : (shared : Section) (other : Option Section) (s : Section)
+    → check_not_found (first_offset (λ x. contains_string (located_strings shared) x || contains_string (located_of other) x) (located_strings s)) ≡ disjoint_at (strings_before shared other) (section_of s)
+no_overlap shared other s =
+    section_rows (strings_before shared other) s (λ x. contains_string (located_strings shared) x || contains_string (located_of other) x)
+    (λ x. ap (λ l. has l x || contains_string (located_of other) x) (located_are_strings shared) ∙ both other x)
+  where
+    or_false : (b : Bool) → (b || false) ≡ b
+    or_false true = refl
+    or_false false = refl
 
--- an object that is shared or a subject
-pub other_rows : (shared subjects objects : Section)
-    → check_not_found (first_offset (λ x. contains_string (located_strings shared) x || contains_string (located_strings subjects) x) (located_strings objects)) ≡ disjoint_at (strings_of shared ++ strings_of subjects) (section_of objects)
-other_rows shared subjects objects =
-    section_rows (strings_of shared ++ strings_of subjects) objects (λ x. contains_string (located_strings shared) x || contains_string (located_strings subjects) x) (λ x.
-    ap (λ l. has l x || contains_string (located_strings subjects) x) (located_are_strings shared)
-    ∙ ap (λ l. has (strings_of shared) x || has l x) (located_are_strings subjects)
-    ∙ sym (has-append (strings_of shared) (strings_of subjects) x))
+    both : (other : Option Section) (x : List ℕ) → (has (strings_of shared) x || contains_string (located_of other) x) ≡ has (strings_before shared other) x
+    both None x = or_false (has (strings_of shared) x)
+    both (Some t) x = ap (λ l. has (strings_of shared) x || has l x) (located_are_strings t) ∙ sym (has-append (strings_of shared) (strings_of t) x)

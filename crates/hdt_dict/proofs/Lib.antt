@@ -3,11 +3,11 @@ pub mod Splitting
 pub mod Merging
 pub mod Overlaps
 pub mod DisjointChecks
-pub mod LocatedStrings
 pub mod Numbering
 pub mod Dictionaries
 pub mod IterationSteps
 pub mod ComparisonUpdates
 pub mod Appending
 pub mod Concatenation
+pub mod SectionCursors
 pub mod PrefixLemmas

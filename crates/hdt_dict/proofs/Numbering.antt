@@ -6,24 +6,18 @@ use Rattle.std.specs.List.{Contains}
 use Rattle.std.specs.Ordering.{is_lt}
 use Rattle.std.proofs.lemmas.Cmp.{nat_list_cmp_total, tied_itself}
 use Rattle.std.proofs.lemmas.Slice.Eq.{bytes_eq-Decides}
-use Rattle.std.proofs.lemmas.Option.{slice_get_within}
+use Rattle.std.proofs.lemmas.Option.{slice_get_within, get_or_from_slice_get}
 use Rattle.hdt_front.specs.StringChecks.{precedes}
 use Rattle.hdt_front.specs.StringIds.{id_of}
 use Rattle.hdt_front.specs.Iteration.{LocatedString, After, LocatedAscend, strings}
 use Rattle.hdt_dict.specs.Strings.{has}
 use Rattle.hdt_dict.specs.Dictionary.{AreDisjoint}
 use Rattle.hdt_dict.proofs.DisjointChecks.{has-append}
-use Rattle.hdt_dict.specs.Laws.Strings.{has-Contains}
+use Rattle.hdt_dict.specs.Laws.Strings.{has-Contains, Contains-has}
 use Rattle.hdt_dict.specs.Ids.{string_at_id}
 use Rattle.hdt_dict.proofs.Overlaps.{not_ahead}
 
 -- ---- equal strings
-
-same : (y x : List ℕ) → bytes_eq y x ≡ true → y ≡ x
-same y x h = (bytes_eq-Decides y x).0 h
-
-itself : (x : List ℕ) → bytes_eq x x ≡ true
-itself x = (bytes_eq-Decides x x).1 refl
 
 not_itself : (x : List ℕ) → precedes x x ≡ false
 not_itself x = ap is_lt (tied_itself nat_list_cmp_total x)
@@ -97,7 +91,7 @@ number_is m n e = cc
 
 string_by : (b : Bool) (y x : List ℕ) (ys : List (List ℕ)) (r : Option ℕ) (n : ℕ) → bytes_eq y x ≡ b → ((m : ℕ) → r ≡ Some m → string_at_id ys m ≡ Some x)
     → cond b (Some 1) (option_map (λ n. n + 1) r) ≡ Some n → string_at_id (y ∷ ys) n ≡ Some x
-string_by true y x ys r n e rest is = ap (string_at_id (y ∷ ys)) (sym (number_is 1 n is)) ∙ ap Some (same y x e)
+string_by true y x ys r n e rest is = ap (string_at_id (y ∷ ys)) (sym (number_is 1 n is)) ∙ ap Some ((bytes_eq-Decides y x).0 e)
 string_by false y x ys None n e rest is = absurd (cc)
 string_by false y x ys (Some zero) n e rest is = let no_string = rest 0 refl in absurd (cc)
 string_by false y x ys (Some (suc m)) n e rest is =
@@ -109,22 +103,17 @@ unfolding id_of
 string_of_number [] x n e = absurd (cc)
 string_of_number (y ∷ ys) x n e = string_by (bytes_eq y x) y x ys (id_of ys x) n refl (λ m h. string_of_number ys x m h) e
 
-member : (xs : List (List ℕ)) (x : List ℕ) (i : ℕ) → slice_get xs i ≡ Some x → has xs x ≡ true
-member [] x i e = absurd (cc)
-member (y ∷ ys) x zero e = ap (λ b. b || has ys x) (ap (λ z. bytes_eq z x) (some_is y x e) ∙ itself x)
-member (y ∷ ys) x (suc i) e = second_true (bytes_eq y x) (has ys x) (member ys x i e)
-  where
-    second_true : (a b : Bool) → b ≡ true → (a || b) ≡ true
-    second_true true b h = refl
-    second_true false b h = h
+there : (xs : List (List ℕ)) (x : List ℕ) (n : ℕ) → string_at_id xs n ≡ Some x → Contains xs x
+there xs x zero e = absurd (cc)
+there xs x (suc i) e = (i, slice_get_within xs i x e, get_or_from_slice_get xs i x x e)
 
 number_at : (xs : List (List ℕ)) (x : List ℕ) (i : ℕ) → Distinct xs → slice_get xs i ≡ Some x → id_of xs x ≡ Some (i + 1)
 unfolding id_of
 number_at [] x i d e = absurd (cc)
 number_at (y ∷ ys) x zero d e =
-    ap (λ b. cond b (Some 1) (option_map (λ n. n + 1) (id_of ys x))) (ap (λ z. bytes_eq z x) (some_is y x e) ∙ itself x)
+    ap (λ b. cond b (Some 1) (option_map (λ n. n + 1) (id_of ys x))) ((bytes_eq-Decides y x).1 (some_is y x e))
 number_at (y ∷ ys) x (suc i) d e =
-    let other : bytes_eq y x ≡ false = false_is (bytes_eq y x) (λ h. both_no (has ys x) (member ys x i e) (ap (has ys) (sym (same y x h)) ∙ d.0)) in
+    let other : bytes_eq y x ≡ false = false_is (bytes_eq y x) (λ h. both_no (has ys x) (Contains-has ys x (there ys x (suc i) e)) (ap (has ys) (sym ((bytes_eq-Decides y x).0 h)) ∙ d.0)) in
     let up : i + 1 + 1 ≡ suc i + 1 = omega arith in
     ap (λ b. cond b (Some 1) (option_map (λ n. n + 1) (id_of ys x))) other ∙ ap (option_map (λ n. n + 1)) (number_at ys x i d.1 e) ∙ ap Some up
 
@@ -142,10 +131,6 @@ numbered_within xs x (suc i) e = omega (arith, slice_get_within xs i x e)
 -- an ID is at most the length
 pub place_within : (xs : List (List ℕ)) (x : List ℕ) (n : ℕ) → id_of xs x ≡ Some n → n ≤ length xs
 place_within xs x n e = numbered_within xs x n (string_of_number xs x n e)
-
-there : (xs : List (List ℕ)) (x : List ℕ) (n : ℕ) → string_at_id xs n ≡ Some x → Contains xs x
-there xs x zero e = absurd (cc)
-there xs x (suc i) e = has-Contains xs x (member xs x i e)
 
 -- a string of one list has no ID in a disjoint list
 pub place_apart : (xs ys : List (List ℕ)) (x : List ℕ) (n : ℕ) → AreDisjoint xs ys → id_of ys x ≡ Some n → id_of xs x ≡ None

@@ -1,7 +1,5 @@
 -- The first string that is in another list, if both ascend.
-use Rattle.std.proofs.Common.{◌≡◌, ℕ, ◌||◌, Bool, true, false, cond, List, [], ◌∷◌, drop, Option, Some, refl, sym, ap, ◌∙◌, subst, Ordering}
-use Rattle.std.specs.Prelude.{Result, Ok, Err, IfOk}
-use Rattle.std.specs.declared.alloc.AllocError.{AllocError}
+use Rattle.std.proofs.Common.{◌≡◌, ℕ, ◌||◌, Bool, true, false, cond, List, [], ◌∷◌, drop, Some, refl, sym, ap, ◌∙◌, subst, Ordering}
 use Rattle.std.specs.Str.{bytes_eq}
 use Rattle.std.specs.declared.cmp.Ordering.TheVariants.{Less, Equal, Greater}
 use Rattle.std.specs.Ordering.{nat_cmp, is_lt, is_eq}
@@ -81,8 +79,6 @@ pub ascends_left : (x : List ℕ) (ps : List LocatedString) → LocatedAscend ps
 ascends_left x [] a = tt
 ascends_left x (p ∷ ps) a = ascends_left_by (precedes p.string x) x p ps a (ascends_left x ps (ascends_tail p.string ps a))
 
--- ---- one iteration of `reaches`
-
 -- ---- one iteration over a list, for any test
 
 same_first : (s : List ℕ) (ps : List LocatedString) (f g : List ℕ → Bool) → After s ps → ((z : List ℕ) → precedes s z ≡ true → f z ≡ g z) → first_offset f ps ≡ first_offset g ps
@@ -91,7 +87,7 @@ same_first s (p ∷ ps) f g a same =
     ap (λ b. cond b (Some p.place) (first_offset f ps)) (same p.string a.0)
     ∙ ap (λ r. cond (g p.string) (Some p.place) r) (same_first p.string ps f g a.1 (λ z h. same z (trans s p.string z a.0 h)))
 
-string_of : (p : LocatedString) (ps : List LocatedString) (x : List ℕ) → first_string (p ∷ ps) ≡ Some x → p.string ≡ x
+pub string_of : (p : LocatedString) (ps : List LocatedString) (x : List ℕ) → first_string (p ∷ ps) ≡ Some x → p.string ≡ x
 string_of p ps x e = cc
 
 -- a string that fails the test, and another test with the same result for all strings after it
@@ -111,7 +107,7 @@ pub ascends_drop : (v : List LocatedString) → LocatedAscend v → LocatedAscen
 ascends_drop [] a = tt
 ascends_drop (p ∷ ps) a = ascends_tail p.string ps a
 
--- ---- the result of `reaches`, and the remaining strings
+-- ---- the result of `seek_not_less`, and the remaining strings
 
 pub reached : (x : List ℕ) (v w : List LocatedString) (b : Bool) → LocatedAscend v → b ≡ is_first x w → w ≡ drop_less x v → b ≡ contains_string v x
 reached x v w b a found left = found ∙ ap (is_first x) left ∙ first_is x v a
@@ -143,14 +139,3 @@ or_none a b e f = ap (λ a. a || b) e ∙ f
 
 pub or_both : (a b c d : Bool) → a ≡ c → b ≡ d → (a || b) ≡ (c || d)
 or_both a b c d e f = ap (λ a. a || b) e ∙ ap (λ b. c || b) f
-
--- ---- the cursors are at the start of their sections
-
-pub answered : (r : Result (Option ℕ) AllocError) (list one two list' one' two' : List LocatedString)
-    → IfOk r (λ r. r ≡ first_offset (λ x. contains_string one x || contains_string two x) list) → list ≡ list' → one ≡ one' → two ≡ two'
-    → IfOk r (λ r. r ≡ first_offset (λ x. contains_string one' x || contains_string two' x) list')
-answered (Ok r) list one two list' one' two' h e f g =
-    h ∙ ap (λ v. first_offset (λ x. contains_string v x || contains_string two x) list) f
-    ∙ ap (λ w. first_offset (λ x. contains_string one' x || contains_string w x) list) g
-    ∙ ap (first_offset (λ x. contains_string one' x || contains_string two' x)) e
-answered (Err r) list one two list' one' two' h e f g = tt

@@ -36,12 +36,12 @@ from_string xs prefix (suc i) h = from_string_by xs prefix i (slice_get xs i) re
 
 -- ---- one list
 
-pub one_to : (xs : List (List ℕ)) (prefix : List ℕ) (s e n : ℕ) → IsPrefixRange xs prefix s e → ((s ≤ n) × (n < e)) ⊎ ((e ≤ n) × (n < e)) → SomeBeginsWith prefix (string_at_id xs n)
-one_to xs prefix s e n r (inl h) = to_string xs prefix n (record { some = omega (arith, r.some, h.0); within = omega (arith, r.within, h.1); begins = r.inside n h.0 h.1 })
-one_to xs prefix s e n r (inr h) = absurd (omega (arith, h.0, h.1))
-
-pub one_from : (xs : List (List ℕ)) (prefix : List ℕ) (s e n : ℕ) → IsPrefixRange xs prefix s e → SomeBeginsWith prefix (string_at_id xs n) → ((s ≤ n) × (n < e)) ⊎ ((e ≤ n) × (n < e))
-one_from xs prefix s e n r h = let b = from_string xs prefix n h in inl (r.all n b.some b.within b.begins)
+pub one : (xs : List (List ℕ)) (prefix : List ℕ) (s e n : ℕ) → IsPrefixRange xs prefix s e → (((s ≤ n) × (n < e)) ⊎ ((e ≤ n) × (n < e))) ↔ SomeBeginsWith prefix (string_at_id xs n)
+one xs prefix s e n r = (to, λ h. let b = from_string xs prefix n h in inl (r.all n b.some b.within b.begins))
+  where
+    to : ((s ≤ n) × (n < e)) ⊎ ((e ≤ n) × (n < e)) → SomeBeginsWith prefix (string_at_id xs n)
+    to (inl h) = to_string xs prefix n (record { some = omega (arith, r.some, h.0); within = omega (arith, r.within, h.1); begins = r.inside n h.0 h.1 })
+    to (inr h) = absurd (omega (arith, h.0, h.1))
 
 -- ---- two lists
 

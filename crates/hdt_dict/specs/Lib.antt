@@ -6,7 +6,7 @@ pub mod StringBatch
 pub mod Views
 pub mod Iteration
 pub mod Located
-pub mod Following
+pub mod RoleSections
 pub mod Strings
 pub mod Split
 pub mod DictionaryString

@@ -1,5 +1,5 @@
 -- What contracts see of a `Dictionary`.
-use Rattle.std.specs.Prelude.{ℕ, ◌-◌, ◌&&◌, nat_le, cond, length, List, []}
+use Rattle.std.specs.Prelude.{ℕ, ◌-◌, ◌&&◌, nat_le, cond, length, List, [], Option, Some, None}
 use Rattle.hdt_front.specs.Strings.{strings_of, section_of, packed_block}
 use Rattle.hdt_front.specs.declared.section.Section.{Section}
 use Rattle.hdt_wire.specs.declared.role.Role.{Role}
@@ -13,16 +13,17 @@ dictionary_of d = record { shared = section_of d.shared; subjects = section_of d
 
 -- ---- the bytes that decoding a string reads
 
--- the front-coded bytes of the block of the string with ID n, from 1; empty if there is no such string
-abbrev pub block_bytes : Section → ℕ → List ℕ
-block_bytes s n = cond (nat_le 1 n && nat_le n (length (strings_of s))) (packed_block s (n - 1)) []
+-- the front-coded bytes of the block of the string with ID n, from 1; empty if there is no such string, or no section
+abbrev pub block_bytes : Option Section → ℕ → List ℕ
+block_bytes None n = []
+block_bytes (Some s) n = cond (nat_le 1 n && nat_le n (length (strings_of s))) (packed_block s (n - 1)) []
 
--- the same over two consecutive sections
-abbrev pub block_bytes_of_two : Section → Section → ℕ → List ℕ
-block_bytes_of_two a b n = cond (nat_le n (length (strings_of a))) (block_bytes a n) (block_bytes b (n - length (strings_of a)))
+-- the same over a section and one that may follow it
+abbrev pub block_bytes_of_two : Section → Option Section → ℕ → List ℕ
+block_bytes_of_two a b n = cond (nat_le n (length (strings_of a))) (block_bytes (Some a) n) (block_bytes b (n - length (strings_of a)))
 
 -- the same for a role
 unfoldable pub role_block_bytes : Dictionary → Role → ℕ → List ℕ
-role_block_bytes d Subject n = block_bytes_of_two d.shared d.subjects n
-role_block_bytes d Predicate n = block_bytes d.predicates n
-role_block_bytes d Object n = block_bytes_of_two d.shared d.objects n
+role_block_bytes d Subject n = block_bytes_of_two d.shared (Some d.subjects) n
+role_block_bytes d Predicate n = block_bytes_of_two d.predicates None n
+role_block_bytes d Object n = block_bytes_of_two d.shared (Some d.objects) n

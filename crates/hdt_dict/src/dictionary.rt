@@ -9,13 +9,11 @@ ghost use Rattle.hdt_front.specs.Strings.{strings_of, section_of};
 ghost use Rattle.hdt_front.specs.Section.{AreSectionStrings, string_offset};
 ghost use Rattle.hdt_dict.specs.Dictionary.{AreDisjoint, DictionaryParts, IsDictionary, section_by_index, disjoint_at, dictionary_at, checks_before_strings, role_strings, lists_of_dictionary};
 ghost use Rattle.hdt_dict.specs.Ids.{string_at_id, AppendsString};
+ghost use Rattle.hdt_dict.specs.Located.{AreLocated};
 ghost use Rattle.hdt_wire.specs.declared.role.Role.{Role};
 
-use crate::disjoint::{check_objects, check_subjects};
-use crate::section_pair::{
-    append_from_one, append_from_two, block_in_one, block_in_two, find_in_two,
-};
-use hdt_front::{ReadFault, Section};
+use crate::disjoint::check_disjoint;
+use hdt_front::{ReadFault, Section, SectionIter};
 use hdt_seq::Steps;
 use hdt_wire::{Kind, Role, read_control};
 use std::alloc::{AllocError, Global};
@@ -63,8 +61,8 @@ impl<'a> Dictionary<'a> {
         let (subjects, predicates_at) = Section::read(alloc, bytes, subjects_at)?;
         let (predicates, objects_at) = Section::read(alloc, bytes, predicates_at)?;
         let (objects, end) = Section::read(alloc, bytes, objects_at)?;
-        check_subjects(alloc, &shared, &subjects)?;
-        check_objects(alloc, &shared, &subjects, &objects)?;
+        check_disjoint(alloc, &shared, None, &subjects)?;
+        check_disjoint(alloc, &shared, Some(subjects), &objects)?;
         let dictionary = Dictionary {
             shared,
             subjects,
@@ -137,30 +135,10 @@ impl<'a> Dictionary<'a> {
     }
 
     /// Returns the number of strings of a role. Their IDs are 1 to this number.
-    #[tactic(auto, unfolding(crate::specs::Views::dictionary_of, hdt_front::specs::Strings::section_of))]
     pub fn count(&self, role: Role) -> u64
         ensures { result ≡ length (role_strings (lists_of_dictionary (dictionary_of self.now)) role) }
     {
-        match role {
-            Role::Subject => self.shared.len() + self.subjects.len(),
-            Role::Predicate => self.predicates.len(),
-            Role::Object => self.shared.len() + self.objects.len(),
-        }
-    }
-
-    /// Searches for a string in the sections of a role.
-    #[tactic(auto, unfolding(crate::specs::Views::dictionary_of, crate::specs::Cost::role_search_cost, hdt_front::specs::Strings::section_of))]
-    fn find_id(&self, role: Role, x: &[u8], steps: &mut Steps) -> Option<u64>
-        ensures place { result ≡ id_of (role_strings (lists_of_dictionary (dictionary_of self.now)) role) x.now }
-        ensures cost { steps.new ≤ steps.old + role_search_cost (dictionary_of self.now) role }
-        ensures more { steps.old ≤ steps.new }
-    {
-        self.are_sections();
-        match role {
-            Role::Subject => find_in_two(&self.shared, &self.subjects, x, steps),
-            Role::Predicate => self.predicates.place_of(x, steps),
-            Role::Object => find_in_two(&self.shared, &self.objects, x, steps),
-        }
+        self.sections_of(role).len()
     }
 
     /// Returns the ID of a string in a role, from 1, or `None` if the role has no such string.
@@ -173,14 +151,13 @@ impl<'a> Dictionary<'a> {
         ensures cost { steps.new ≤ steps.old + role_search_cost (dictionary_of self.now) role }
         ensures more { steps.old ≤ steps.new }
     {
-        self.find_id(role, x, steps)
+        self.sections_of(role).find(x, steps)
     }
 
     /// Appends the string of a role with ID n, from 1, to `out`, and returns true. Returns false if n is not a valid
     /// ID. In this case, and if memory runs out, `out` is unchanged.
     ///
     /// Decodes the block of the string from its start up to the string.
-    #[tactic(auto, unfolding(crate::specs::Views::dictionary_of, crate::specs::Cost::role_decode_cost, hdt_front::specs::Strings::section_of))]
     pub fn string_of(
         &self,
         role: Role,
@@ -194,40 +171,58 @@ impl<'a> Dictionary<'a> {
         ensures absent { string_at_id (role_strings (lists_of_dictionary (dictionary_of self.now)) role) n ≡ None → IsOk result }
         ensures more { steps.old ≤ steps.new }
     {
-        match role {
-            Role::Subject => append_from_two(&self.shared, &self.subjects, n, out, steps),
-            Role::Predicate => append_from_one(&self.predicates, n, out, steps),
-            Role::Object => append_from_two(&self.shared, &self.objects, n, out, steps),
-        }
+        let Some((section, place)) = self.sections_of(role).place(n) else {
+            return Ok(false);
+        };
+        section.string(place, out, steps)?;
+        Ok(true)
     }
 
     /// Returns the front-coded bytes of the block that has the string of a role with ID n, from 1, borrowed from the
     /// input: decoding the string reads no others. Empty if n is not a valid ID. Two memory accesses.
-    #[tactic(auto, unfolding(crate::specs::Views::role_block_bytes))]
     pub fn block(&self, role: Role, n: u64) -> &'a [u8]
         ensures { result.now ≡ role_block_bytes self.now role n }
     {
-        match role {
-            Role::Subject => block_in_two(&self.shared, &self.subjects, n),
-            Role::Predicate => block_in_one(&self.predicates, n),
-            Role::Object => block_in_two(&self.shared, &self.objects, n),
+        match self.sections_of(role).place(n) {
+            None => &[],
+            Some((section, place)) => section.block(place),
+        }
+    }
+
+    /// The section at an index, from 0, in file order.
+    #[inline]
+    #[tactic(auto, unfolding(crate::specs::Views::dictionary_of))]
+    fn section(&self, index: usize) -> &Section<'a>
+        ensures { section_of result.now ≡ section_by_index (dictionary_of self.now) index }
+    {
+        match index {
+            0 => &self.shared,
+            1 => &self.subjects,
+            2 => &self.predicates,
+            _ => &self.objects,
         }
     }
 
     /// Returns the byte offset in the input of string n, from 1, of a section, as errors report it. Sections are 0
     /// shared, 1 subjects, 2 predicates, 3 objects. Scans at most one block.
-    #[tactic(auto, unfolding(crate::specs::Views::dictionary_of, hdt_front::specs::Strings::section_of))]
+    #[tactic(auto, unfolding(hdt_front::specs::Strings::section_of))]
     pub fn string_start(&self, section: usize, n: u64) -> u64
         requires section { section < 4 }
         requires from_one { 1 ≤ n }
         requires within { n ≤ length (section_by_index (dictionary_of self.now) section).strings }
         ensures { result ≡ string_offset (section_by_index (dictionary_of self.now) section) (n - 1) }
     {
-        match section {
-            0 => self.shared.string_start(n),
-            1 => self.subjects.string_start(n),
-            2 => self.predicates.string_start(n),
-            _ => self.objects.string_start(n),
-        }
+        self.section(section).string_start(n)
+    }
+
+    /// Returns an iterator over the strings of a section with their byte offsets, as errors report them. Sections are 0
+    /// shared, 1 subjects, 2 predicates, 3 objects. A full iteration takes time linear in the front-coded bytes, where
+    /// a call of [`string_start`](Dictionary::string_start) for each string would scan a block each. Allocates nothing
+    /// yet.
+    pub fn located_strings(&self, alloc: Global, section: usize) -> SectionIter<'a>
+        requires { section < 4 }
+        ensures { AreLocated (section_by_index (dictionary_of self.now) section) result.ahead }
+    {
+        SectionIter::new(alloc, self.section(section))
     }
 }

@@ -8,6 +8,7 @@ ghost use Rattle.hdt_dict.specs.DictionaryString.{IsDictionaryString};
 ghost use Rattle.hdt_dict.specs.Writing.{AreSections, canonical_dictionary, canonical_dictionary_parts};
 
 /// The checks of a dictionary return a dictionary exactly if it is encoded at the offset.
+#[tactic(auto, using(crate::specs::Laws::Dictionary::dictionary_exact))]
 pub fn dictionaries_are_exact()
     ensures { (bytes : List ℕ) (at : ℕ) → IsBytes bytes → Exactly (dictionary_at bytes at) (λ d. IsDictionary d bytes at) }
 {}
@@ -19,6 +20,7 @@ pub fn one_dictionary()
 {}
 
 /// The canonical bytes of a dictionary are read back as that dictionary, whatever precedes and follows them.
+#[tactic(auto, using(crate::specs::Laws::Writing::dictionary_stands))]
 pub fn dictionary_is_read_again()
     ensures { (b : ℕ) (d : SectionLists) (bytes : List ℕ) (at end : ℕ) → 1 ≤ b → b < 2 ^ 64 → AreSections d → length bytes < 2 ^ 64
         → HasSlice bytes at (canonical_dictionary b d) end → IsDictionary (canonical_dictionary_parts b d at) bytes at }

@@ -26,13 +26,12 @@ mod arena;
 mod dictionary;
 mod disjoint;
 mod laws;
-mod located;
 mod merge;
 mod overlap;
 mod parts;
 mod prefix;
 mod role_cursor;
-mod section_pair;
+mod role_sections;
 mod string_batch;
 mod writing;
 

@@ -1,5 +1,5 @@
 //! Finding strings that are in two sections, by merging them.
-ghost use Rattle.std.specs.Prelude.{◌≡◌, ◌||◌, List, Bool, ℕ, OnOk, IfOk};
+ghost use Rattle.std.specs.Prelude.{◌≡◌, ◌||◌, [], List, Bool, ℕ, OnOk, IfOk, unwrap_or};
 ghost use Rattle.hdt_dict.specs.Inside.Overlap.{contains_string, first_offset, drop_less, IsComparison, IsStaleComparison};
 ghost use Rattle.hdt_front.specs.Iteration.{LocatedAscend};
 
@@ -45,44 +45,40 @@ fn seek_not_less(
     Ok(comparison)
 }
 
-/// The byte offset of the first string of a section that is in another one.
-pub(crate) fn first_common(
-    list: &mut Cursor<'_>,
-    other: &mut Cursor<'_>,
-) -> Result<Option<usize>, AllocError>
-    requires list { LocatedAscend list.old }
-    requires other { LocatedAscend other.old }
-    ensures { IfOk result (λ r. r ≡ first_offset (contains_string other.old) list.old) }
+/// The same for a cursor that may be absent, which is as one at the end.
+fn seek_if_any(
+    cursor: &mut Option<Cursor<'_>>,
+    x: &[u8],
+    kept: usize,
+    comparison: (Ordering, usize),
+) -> Result<(Ordering, usize), AllocError>
+    requires { IsStaleComparison kept comparison (unwrap_or cursor.old []) x.now }
+    ensures lies { IfOk result (λ r. IsComparison r (unwrap_or cursor.new []) x.now) }
+    ensures left { OnOk result (unwrap_or cursor.new [] ≡ drop_less x.now (unwrap_or cursor.old [])) }
 {
-    let mut kept = 0;
-    let mut comparison = (Ordering::Less, 0);
-    while let Some(x) = list.string() {
-        comparison = seek_not_less(other, x, kept, comparison)?;
-        if comparison.0 == Ordering::Equal {
-            return Ok(list.place());
-        }
-        kept = list.advance_with_prefix_len()?;
+    match cursor {
+        Some(cursor) => seek_not_less(cursor, x, kept, comparison),
+        None => Ok((Ordering::Greater, 0)),
     }
-    Ok(None)
 }
 
 /// The byte offset of the first string of a section that is in one of two others.
-pub(crate) fn first_common_of_two(
+pub(crate) fn first_common(
     list: &mut Cursor<'_>,
     one: &mut Cursor<'_>,
-    two: &mut Cursor<'_>,
+    two: &mut Option<Cursor<'_>>,
 ) -> Result<Option<usize>, AllocError>
     requires list { LocatedAscend list.old }
     requires one { LocatedAscend one.old }
-    requires two { LocatedAscend two.old }
-    ensures { IfOk result (λ r. r ≡ first_offset (λ x. contains_string one.old x || contains_string two.old x) list.old) }
+    requires two { LocatedAscend (unwrap_or two.old []) }
+    ensures { IfOk result (λ r. r ≡ first_offset (λ x. contains_string one.old x || contains_string (unwrap_or two.old []) x) list.old) }
 {
     let mut kept = 0;
     let mut first = (Ordering::Less, 0);
     let mut second = (Ordering::Less, 0);
     while let Some(x) = list.string() {
         first = seek_not_less(one, x, kept, first)?;
-        second = seek_not_less(two, x, kept, second)?;
+        second = seek_if_any(two, x, kept, second)?;
         if first.0 == Ordering::Equal || second.0 == Ordering::Equal {
             return Ok(list.place());
         }

@@ -33,7 +33,7 @@ impl<'a> Model for RoleCursor<'a> {
     ghost use Rattle.std.specs.Prelude.{◌<◌, ◌+◌, ◌^◌, ◌++◌, length};
     ghost use Rattle.hdt_front.specs.Iteration.{strings};
     ghost use Rattle.hdt_dict.specs.Iteration.{Progress};
-    ghost use Rattle.hdt_dict.specs.Following.{following};
+    ghost use Rattle.hdt_dict.specs.RoleSections.{following};
 
     ghost Value = { Progress };
 
@@ -43,24 +43,6 @@ impl<'a> Model for RoleCursor<'a> {
 }
 
 impl<'a> RoleCursor<'a> {
-    ghost use Rattle.std.specs.Prelude.{◌<◌, ◌^◌, ◌++◌, length};
-    ghost use Rattle.hdt_front.specs.Strings.{strings_of};
-    ghost use Rattle.hdt_dict.specs.Following.{following};
-
-    /// A cursor over the strings of a section, and then those of another one.
-    #[tactic(auto, using(crate::proofs::IterationSteps::starts))]
-    fn over(alloc: Global, first: &Section<'a>, then: Option<Section<'a>>) -> RoleCursor<'a>
-        requires { length (strings_of first.now ++ following then) < 2 ^ 64 }
-        ensures { result ≡ record { given = 0; last = []; ahead = strings_of first.now ++ following then.entry } }
-    {
-        RoleCursor {
-            alloc,
-            walk: SectionIter::new(alloc, first),
-            then,
-            given: 0,
-        }
-    }
-
     /// Returns the last string; empty if there is none yet.
     pub fn last(&self) -> &[u8]
         ensures { result.now ≡ self.now.last }
@@ -112,14 +94,16 @@ impl<'a> RoleCursor<'a> {
 
 impl<'a> Dictionary<'a> {
     /// Returns a cursor over the strings of a role, in the order of their IDs. Allocates nothing yet.
-    #[tactic(auto, unfolding(crate::specs::Views::dictionary_of, hdt_front::specs::Strings::section_of))]
+    #[tactic(auto, using(crate::proofs::IterationSteps::starts))]
     pub fn strings(&self, alloc: Global, role: Role) -> RoleCursor<'a>
         ensures { result ≡ record { given = 0; last = []; ahead = role_strings (lists_of_dictionary (dictionary_of self.now)) role } }
     {
-        match role {
-            Role::Subject => RoleCursor::over(alloc, &self.shared, Some(self.subjects)),
-            Role::Predicate => RoleCursor::over(alloc, &self.predicates, None),
-            Role::Object => RoleCursor::over(alloc, &self.shared, Some(self.objects)),
+        let sections = self.sections_of(role);
+        RoleCursor {
+            alloc,
+            walk: SectionIter::new(alloc, sections.first),
+            then: sections.copy_second(),
+            given: 0,
         }
     }
 }

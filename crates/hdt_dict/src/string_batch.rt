@@ -1,15 +1,17 @@
 //! Looking up the strings of many IDs at once.
-ghost use Rattle.std.specs.Prelude.{◌≡◌, ◌<◌, ◌≤◌, ◌+◌, ◌-◌, ◌*◌, ◌++◌, ◌^◌, [], ℕ, true, false, length, max, slice_index_or, slice_index, IsOk, IfOk, OnOk, OnErr};
+ghost use Rattle.std.specs.Prelude.{◌≡◌, ◌<◌, ◌≤◌, ◌+◌, ◌-◌, ◌*◌, ◌++◌, ◌^◌, [], ℕ, true, false, length, max, slice_index_or, slice_index, IsOk, IfOk, OnOk, OnErr, option_copied};
 ghost use Rattle.hdt_wire.specs.Control.{IsPrefixOf};
 ghost use Rattle.hdt_front.specs.Strings.{strings_of, block_size};
 ghost use Rattle.hdt_dict.specs.Dictionary.{role_strings, lists_of_dictionary};
+ghost use Rattle.hdt_dict.specs.RoleSections.{following, following_block_size};
 ghost use Rattle.hdt_dict.specs.Inside.Seeking.{AreAtString};
 ghost use Rattle.hdt_dict.specs.Cost.{role_decode_cost};
 ghost use Rattle.hdt_dict.specs.StringBatch.{AppendsAll, AppendsStrings, AreIds, AscendTo, strings_by_id};
 ghost use Rattle.hdt_dict.specs.Views.{dictionary_of};
 
 use crate::dictionary::Dictionary;
-use hdt_front::{Section, Seeker};
+use crate::role_sections::RoleSections;
+use hdt_front::Seeker;
 use hdt_seq::Steps;
 use hdt_wire::{Role, truncate_on_error};
 use std::alloc::{AllocError, Global};
@@ -55,114 +57,33 @@ fn append_next(
     out.extend_from_slice(second.last())
 }
 
-/// Appends the strings of two consecutive sections with these IDs, and the offset at which each ends. An error may
-/// leave some of them in the buffers.
-fn append_batch<'a>(
+/// Appends the strings of a role with these IDs, and the offset at which each ends. An error may leave some of them in
+/// the buffers.
+fn append_batch(
     alloc: Global,
-    first: &Section<'a>,
-    second: &Section<'a>,
+    sections: &RoleSections<'_, '_>,
     numbers: &[u64],
     out: &mut Vec<u8>,
     ends: &mut Vec<u64>,
     steps: &mut Steps,
 ) -> Result<(), AllocError>
-    requires { AreIds (strings_of first.now ++ strings_of second.now) numbers.now }
-    ensures ok { OnOk result (AppendsStrings (strings_by_id (strings_of first.now ++ strings_of second.now) numbers.now) out.old.items out.new.items ends.old.items ends.new.items) }
+    requires { AreIds (strings_of sections.now.first.now ++ following (option_copied sections.now.second)) numbers.now }
+    ensures ok { OnOk result (AppendsStrings (strings_by_id (strings_of sections.now.first.now ++ following (option_copied sections.now.second)) numbers.now) out.old.items out.new.items ends.old.items ends.new.items) }
     ensures err { OnErr result (IsPrefixOf out.old.items out.new.items) }
     ensures places { OnErr result (IsPrefixOf ends.old.items ends.new.items) }
-    ensures cost { steps.new ≤ steps.old + length numbers.now * max (block_size first.now) (block_size second.now) }
+    ensures cost { steps.new ≤ steps.old + length numbers.now * max (block_size sections.now.first.now) (following_block_size (option_copied sections.now.second)) }
     ensures once { (n : ℕ) → AscendTo numbers.now n → steps.new ≤ steps.old + n }
     ensures more { steps.old ≤ steps.new }
 {
-    let mut in_first = Seeker::new(alloc, first);
-    let mut in_second = Seeker::new(alloc, second);
+    let mut in_first = Seeker::new(alloc, sections.first);
+    // Without a second section, no ID is greater than the number of strings of the first one.
+    let mut in_second = Seeker::new(alloc, sections.second.unwrap_or(sections.first));
+    let many = sections.first.len();
     for at in 0..numbers.len() {
-        append_next(
-            &mut in_first,
-            &mut in_second,
-            first.len(),
-            numbers[at],
-            out,
-            steps,
-        )?;
+        append_next(&mut in_first, &mut in_second, many, numbers[at], out, steps)?;
         ends.push(out.len() as u64)?;
     }
     Ok(())
-}
-
-/// The same, but if memory runs out, `out` and `ends` are unchanged.
-fn append_batch_or_nothing<'a>(
-    alloc: Global,
-    first: &Section<'a>,
-    second: &Section<'a>,
-    numbers: &[u64],
-    out: &mut Vec<u8>,
-    ends: &mut Vec<u64>,
-    steps: &mut Steps,
-) -> Result<(), AllocError>
-    requires { AreIds (strings_of first.now ++ strings_of second.now) numbers.now }
-    ensures ok { OnOk result (AppendsStrings (strings_by_id (strings_of first.now ++ strings_of second.now) numbers.now) out.old.items out.new.items ends.old.items ends.new.items) }
-    ensures err { OnErr result ((out.new.items ≡ out.old.items) × (ends.new.items ≡ ends.old.items)) }
-    ensures cost { steps.new ≤ steps.old + length numbers.now * max (block_size first.now) (block_size second.now) }
-    ensures once { (n : ℕ) → AscendTo numbers.now n → steps.new ≤ steps.old + n }
-    ensures more { steps.old ≤ steps.new }
-{
-    let start = out.len();
-    let listed = ends.len();
-    let appended = append_batch(alloc, first, second, numbers, out, ends, steps);
-    if appended.is_err() {
-        ends.truncate(listed);
-    }
-    truncate_on_error(appended, start, out)
-}
-
-/// Appends the strings of a section with these IDs, if all IDs are valid; returns whether they are.
-fn append_batch_from_one(
-    alloc: Global,
-    section: &Section<'_>,
-    numbers: &[u64],
-    out: &mut Vec<u8>,
-    ends: &mut Vec<u64>,
-    steps: &mut Steps,
-) -> Result<bool, AllocError>
-    ensures ok { IfOk result (λ all. AppendsAll (strings_of section.now) numbers.now all out.old.items out.new.items ends.old.items ends.new.items) }
-    ensures err { OnErr result ((out.new.items ≡ out.old.items) × (ends.new.items ≡ ends.old.items)) }
-    ensures cost { steps.new ≤ steps.old + length numbers.now * block_size section.now }
-    ensures once { (n : ℕ) → AscendTo numbers.now n → steps.new ≤ steps.old + n }
-    ensures more { steps.old ≤ steps.new }
-    ensures absent { (AreIds (strings_of section.now) numbers.now → ⊥) → IsOk result }
-{
-    if !are_ids(numbers, section.len()) {
-        return Ok(false);
-    }
-    // The second section is not used, as no ID is greater than the length of the first one.
-    append_batch_or_nothing(alloc, section, section, numbers, out, ends, steps)?;
-    Ok(true)
-}
-
-/// The same for two consecutive sections.
-fn append_batch_from_two(
-    alloc: Global,
-    first: &Section<'_>,
-    second: &Section<'_>,
-    numbers: &[u64],
-    out: &mut Vec<u8>,
-    ends: &mut Vec<u64>,
-    steps: &mut Steps,
-) -> Result<bool, AllocError>
-    requires { length (strings_of first.now) + length (strings_of second.now) < 2 ^ 64 }
-    ensures ok { IfOk result (λ all. AppendsAll (strings_of first.now ++ strings_of second.now) numbers.now all out.old.items out.new.items ends.old.items ends.new.items) }
-    ensures err { OnErr result ((out.new.items ≡ out.old.items) × (ends.new.items ≡ ends.old.items)) }
-    ensures cost { steps.new ≤ steps.old + length numbers.now * max (block_size first.now) (block_size second.now) }
-    ensures once { (n : ℕ) → AscendTo numbers.now n → steps.new ≤ steps.old + n }
-    ensures more { steps.old ≤ steps.new }
-    ensures absent { (AreIds (strings_of first.now ++ strings_of second.now) numbers.now → ⊥) → IsOk result }
-{
-    if !are_ids(numbers, first.len() + second.len()) {
-        return Ok(false);
-    }
-    append_batch_or_nothing(alloc, first, second, numbers, out, ends, steps)?;
-    Ok(true)
 }
 
 impl<'a> Dictionary<'a> {
@@ -172,7 +93,6 @@ impl<'a> Dictionary<'a> {
     ///
     /// Each string takes at most as many steps as [`string_of`](Dictionary::string_of). If the IDs never descend, each
     /// block is decoded once, and all strings together take at most as many steps as the last ID.
-    #[tactic(auto, unfolding(crate::specs::Views::dictionary_of, crate::specs::Cost::role_decode_cost, hdt_front::specs::Strings::section_of))]
     pub fn strings_of(
         &self,
         alloc: Global,
@@ -189,33 +109,17 @@ impl<'a> Dictionary<'a> {
         ensures more { steps.old ≤ steps.new }
         ensures absent { (AreIds (role_strings (lists_of_dictionary (dictionary_of self.now)) role) numbers.now → ⊥) → IsOk result }
     {
-        match role {
-            Role::Subject => append_batch_from_two(
-                alloc,
-                &self.shared,
-                &self.subjects,
-                numbers,
-                out,
-                ends,
-                steps,
-            ),
-            Role::Predicate => append_batch_from_one(
-                alloc,
-                &self.predicates,
-                numbers,
-                out,
-                ends,
-                steps,
-            ),
-            Role::Object => append_batch_from_two(
-                alloc,
-                &self.shared,
-                &self.objects,
-                numbers,
-                out,
-                ends,
-                steps,
-            ),
+        if !are_ids(numbers, self.count(role)) {
+            return Ok(false);
         }
+        let start = out.len();
+        let listed = ends.len();
+        let sections = self.sections_of(role);
+        let appended = append_batch(alloc, &sections, numbers, out, ends, steps);
+        if appended.is_err() {
+            ends.truncate(listed);
+        }
+        truncate_on_error(appended, start, out)?;
+        Ok(true)
     }
 }

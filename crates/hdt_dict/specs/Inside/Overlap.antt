@@ -1,12 +1,25 @@
 -- Finding strings that are in two sections, by merging them.
-use Rattle.std.specs.Prelude.{◌≡◌, ◌<◌, ◌≤◌, ℕ, List, [], ◌∷◌, Bool, cond, Option, Some, None, Result, Ok, Err}
+use Rattle.std.specs.Prelude.{◌≡◌, ◌<◌, ◌≤◌, ℕ, List, [], ◌∷◌, ◌++◌, Bool, cond, Option, Some, None, Result, Ok, Err}
 use Rattle.std.specs.Ordering.{is_eq}
 use Rattle.std.specs.declared.cmp.Ordering.{Ordering}
 use Rattle.hdt_wire.specs.declared.fault.Fault.{Fault}
 use Rattle.hdt_wire.specs.declared.fault.Reason.TheVariants.{SectionsOverlap}
 use Rattle.hdt_front.specs.StringChecks.{precedes}
+use Rattle.hdt_front.specs.SectionIteration.{located_strings}
+use Rattle.hdt_front.specs.Strings.{strings_of}
+use Rattle.hdt_front.specs.declared.section.Section.{Section}
 use Rattle.hdt_dict.specs.Strings.{has}
 use Rattle.hdt_front.specs.Iteration.{LocatedString, strings, first_order, first_lcp}
+
+-- the strings of a section with their offsets, if there is one
+abbrev pub located_of : Option Section → List LocatedString
+located_of None = []
+located_of (Some s) = located_strings s
+
+-- the strings of a section, and of another one if there is one
+abbrev pub strings_before : Section → Option Section → List (List ℕ)
+strings_before s None = strings_of s
+strings_before s (Some t) = strings_of s ++ strings_of t
 
 abbrev pub contains_string : List LocatedString → List ℕ → Bool
 contains_string items x = has (strings items) x

@@ -1,17 +1,25 @@
-use Rattle.std.proofs.Common.{◌≡◌, ◌-◌, ◌++◌, [], ℕ, List, length, max, slice_index, slice_index_or, append_assoc, ap, sym, ◌∙◌, arith, subst}
+use Rattle.std.proofs.Common.{◌≡◌, ◌-◌, ◌++◌, [], ℕ, List, length, max, slice_index, slice_index_or, Bor, option_copied, append_assoc, ap, sym, ◌∙◌, arith, subst}
 use Rattle.std.proofs.lemmas.List.{append-nil}
 use Rattle.hdt_front.specs.Strings.{strings_of, block_size}
 use Rattle.hdt_front.specs.SeekerState.{SeekerState}
+use Rattle.hdt_front.specs.declared.section.Section.{Section}
 use Rattle.hdt_dict.specs.Inside.Seeking.{AreAtString}
+use Rattle.hdt_dict.specs.RoleSections.{following, following_block_size}
 use Rattle.hdt_dict.specs.StringBatch.{ends_from}
 use Rattle.hdt_dict.proofs.Concatenation.{before_next, before_within, ends_more, left_behind, one_more, texts_more}
+use Rattle.hdt_dict.proofs.SectionCursors.{no_fewer, same_size, same_string}
 use Rattle.hdt_dict.proofs.string_batch.append_batch.Goals as goal
 
 pub loop-at-init : goal.loop-at-init
 unfolding ends_from
 loop-at-init c = record {
   first = ap (λ (w : SeekerState). w.section) c.new-in_first.ensures;
-  second = ap (λ (w : SeekerState). w.section) c.new-in_second.ensures;
+  second = ap (λ (w : SeekerState). w.section) c.new-in_second.ensures ∙ ap (λ (s : Bor Section). s.now) c.unwrap_or.ensures;
+  size =
+      ap (λ (w : SeekerState). max (block_size w.section) (block_size c.new-in_second.result.section)) c.new-in_first.ensures
+      ∙ ap (λ (w : SeekerState). max (block_size c.args.sections.now.first.now) (block_size w.section)) c.new-in_second.ensures
+      ∙ ap (λ (w : Bor Section). max (block_size c.args.sections.now.first.now) (block_size w.now)) c.unwrap_or.ensures
+      ∙ same_size c.args.sections.now.first c.args.sections.now.second;
   texts = sym (append-nil c.args.out.now.items);
   places = sym (append-nil c.args.ends.now.items);
   cost = omega arith;
@@ -21,6 +29,18 @@ loop-at-init c = record {
   );
   more = omega arith;
 }
+
+pub append_next-requires-clause-within : goal.append_next-requires-clause-within
+append_next-requires-clause-within c =
+    let l = c.loop-at in
+    let s = c.args.sections.now in
+    omega (
+      arith,
+      (c.requires l.at c.loop-at-test.true).1,
+      no_fewer s.first s.second,
+      ap (λ w. length (strings_of w ++ strings_of l.in_second.section)) l.invariant.first,
+      ap (λ w. length (strings_of s.first.now ++ strings_of w)) l.invariant.second,
+    )
 
 pub returns-in_err-append_next-clause-err : goal.returns-in_err-append_next-clause-err
 returns-in_err-append_next-clause-err c =
@@ -54,23 +74,27 @@ returns-in_err-push-clause-once c = λ n a.
 pub loop-at-preserved : goal.loop-at-preserved
 loop-at-preserved c =
     let l = c.loop-at in
-    let xs : List (List ℕ) = strings_of c.args.first.now ++ strings_of c.args.second.now in
-    let string = c.in_ok-append_next.ensures.ok ∙ ap (λ (s : List (List ℕ)). l.out.items ++ slice_index_or s (slice_index c.args.numbers.now l.at - 1) [])
-    (ap (λ s. strings_of s ++ strings_of l.in_second.section) l.invariant.first ∙ ap (λ s. strings_of c.args.first.now ++ strings_of s) l.invariant.second) in
+    let first = c.args.sections.now.first in let second = c.args.sections.now.second in
+    let xs : List (List ℕ) = strings_of first.now ++ following (option_copied second) in
+    let id = c.requires l.at c.loop-at-test.true in
+    let string = c.in_ok-append_next.ensures.ok ∙ ap (λ (s : List ℕ). l.out.items ++ s)
+    (ap (λ s. slice_index_or (strings_of s ++ strings_of l.in_second.section) (slice_index c.args.numbers.now l.at - 1) []) l.invariant.first
+    ∙ ap (λ s. slice_index_or (strings_of first.now ++ strings_of s) (slice_index c.args.numbers.now l.at - 1) []) l.invariant.second
+    ∙ same_string first second (slice_index c.args.numbers.now l.at - 1) (omega (arith, id.0, id.1))) in
     let texts = texts_more xs c.args.numbers.now l.at c.args.out.now.items l.out.items c.append_next.new.out.items c.loop-at-test.true l.invariant.texts string in
-    let size : c.len-in-loop-at.result ≡ length c.append_next.new.out.items = omega (arith, c.len-in-loop-at.ensures, c.append_next.new.out.ok.0) in
+    let size : c.len.result ≡ length c.append_next.new.out.items = omega (arith, c.len.ensures, c.append_next.new.out.ok.0) in
     record {
       first = c.append_next.ensures.sections.0 ∙ l.invariant.first;
       second = c.append_next.ensures.sections.1 ∙ l.invariant.second;
+      size = ap (λ s. max (block_size s) (block_size c.append_next.new.second.section)) c.append_next.ensures.sections.0 ∙ ap (λ s. max (block_size l.in_first.section) (block_size s)) c.append_next.ensures.sections.1 ∙ l.invariant.size;
       texts = texts;
-      places = ends_more xs c.args.numbers.now l.at c.len-in-loop-at.result c.args.out.now.items c.append_next.new.out.items c.args.ends.now.items l.ends.items c.push.new.self.items c.loop-at-test.true texts size l.invariant.places c.in_ok-push.ensures.items;
+      places = ends_more xs c.args.numbers.now l.at c.len.result c.args.out.now.items c.append_next.new.out.items c.args.ends.now.items l.ends.items c.push.new.self.items c.loop-at-test.true texts size l.invariant.places c.in_ok-push.ensures.items;
       cost = omega (
         arith,
         l.invariant.cost,
         c.append_next.ensures.cost,
-        one_more l.at (max (block_size c.args.first.now) (block_size c.args.second.now)),
-        ap (λ s. max (block_size s) (block_size l.in_second.section)) l.invariant.first,
-        ap (λ s. max (block_size c.args.first.now) (block_size s)) l.invariant.second,
+        one_more l.at (max (block_size first.now) (following_block_size (option_copied second))),
+        l.invariant.size,
       );
       once = λ n a.
           let here = a l.at c.loop-at-test.true in

@@ -1,10 +1,23 @@
 use Rattle.std.proofs.Common.{◌≡◌, ◌≤◌, ◌++◌, true, false, ap, sym, subst, ◌∙◌, arith}
 use Rattle.hdt_front.specs.Searching.{lcp_len}
 use Rattle.hdt_front.specs.Iteration.{strings}
-use Rattle.hdt_dict.specs.Following.{following}
+use Rattle.hdt_dict.specs.RoleSections.{following}
 use Rattle.hdt_dict.specs.Iteration.{Progress, stepped, next_id}
-use Rattle.hdt_dict.proofs.IterationSteps.{front_kept, ended, empty, no_strings, stays, behind, no_next, unmoved, took}
+use Rattle.hdt_dict.proofs.IterationSteps.{front_kept, ended, empty, no_strings, stays, behind, no_next, unmoved, took, Took}
 use Rattle.hdt_dict.proofs.role_cursor.RoleCursor.next_with_prefix_len.Goals as goal
+use Rattle.hdt_dict.proofs.role_cursor.RoleCursor.next_with_prefix_len.Goals.{After-new-walk, Else-is_none}
+
+abbrev was : After-new-walk → Progress
+was c = record { given = c.self.inside.given; last = c.self.inside.walk.last; ahead = strings c.self.inside.walk.ahead ++ following c.self.inside.then }
+
+-- the first section is at its end, so what remains are the strings of the second one
+rest : (c : After-new-walk) → (was c).ahead ≡ strings c.new-walk.result.ahead
+rest c =
+    let w = c.self.inside.walk in
+    ap (λ t. strings w.ahead ++ following t) c.in-Some.is ∙ behind w c.new-walk.result c.in-Some.section (ended w _ _ c.in_ok-place.ensures.place c.is_some.ensures c.if-is_some.false) c.new-walk.ensures
+
+took_next : (c : Else-is_none) (old : Progress) → old.ahead ≡ strings c.new-walk.result.ahead → Took old c.next.new.self
+took_next c old left = took c.new-walk.result c.next.new.self _ _ old c.in_ok-next-in-Some.ensures.place c.is_none.ensures c.if-is_none.false c.in_ok-next-in-Some.ensures.ok left
 
 pub returns-then-is_some-clause-kept : goal.returns-then-is_some-clause-kept
 returns-then-is_some-clause-kept c =
@@ -13,62 +26,44 @@ returns-then-is_some-clause-kept c =
 
 pub returns-then-is_none-clause-number : goal.returns-then-is_none-clause-number
 returns-then-is_none-clause-number c =
-    let w = c.self.inside.walk in
-    let before : Progress = record { given = c.self.inside.given; last = w.last; ahead = strings w.ahead ++ following c.self.inside.then } in
-    let over = ended w _ _ c.in_ok-place.ensures.place c.is_some.ensures c.if-is_some.false in
-    let rest = ap (λ t. strings w.ahead ++ following t) c.in-Some.is ∙ behind w c.new-walk.result c.in-Some.section over c.new-walk.ensures in
-    let none = rest ∙ ap strings (empty c.new-walk.result _ _ c.in_ok-next-in-Some.ensures.place c.is_none.ensures c.if-is_none.true) in
-    no_next before none ∙ ap (λ (p : Progress). next_id p p.ahead) c.self.view_is
+    let at = (goal.at.returns-then-is_none-clause-number c).After-new-walk in
+    let none = rest at ∙ ap strings (empty c.new-walk.result _ _ c.in_ok-next-in-Some.ensures.place c.is_none.ensures c.if-is_none.true) in
+    no_next (was at) none ∙ ap (λ (p : Progress). next_id p p.ahead) c.self.view_is
 
 pub returns-then-is_none-clause-ok : goal.returns-then-is_none-clause-ok
 returns-then-is_none-clause-ok c =
     let w = c.self.inside.walk in
-    let before : Progress = record { given = c.self.inside.given; last = w.last; ahead = strings w.ahead ++ following c.self.inside.then } in
     let over = ended w _ _ c.in_ok-place.ensures.place c.is_some.ensures c.if-is_some.false in
-    let rest = ap (λ t. strings w.ahead ++ following t) c.in-Some.is ∙ behind w c.new-walk.result c.in-Some.section over c.new-walk.ensures in
-    let none = rest ∙ ap strings (empty c.new-walk.result _ _ c.in_ok-next-in-Some.ensures.place c.is_none.ensures c.if-is_none.true) in
+    let at = (goal.at.returns-then-is_none-clause-ok c).After-new-walk in
+    let none = rest at ∙ ap strings (empty c.new-walk.result _ _ c.in_ok-next-in-Some.ensures.place c.is_none.ensures c.if-is_none.true) in
     let same = stays w c.next_with_prefix_len.new.self over c.in_ok-place.ensures.ok in
-    ap (λ w. (let p : Progress = record { given = c.self.inside.given; last = w.last; ahead = strings w.ahead ++ following c.self.inside.then } in p)) same ∙ unmoved before none ∙ ap stepped c.self.view_is
+    ap (λ w. (let p : Progress = record { given = c.self.inside.given; last = w.last; ahead = strings w.ahead ++ following c.self.inside.then } in p)) same ∙ unmoved (was at) none ∙ ap stepped c.self.view_is
 
 pub overflow_add-self-in-Some : goal.overflow_add-self-in-Some
 overflow_add-self-in-Some c =
-    let w = c.self.inside.walk in
-    let before : Progress = record { given = c.self.inside.given; last = w.last; ahead = strings w.ahead ++ following c.self.inside.then } in
-    let over = ended w _ _ c.in_ok-place.ensures.place c.is_some.ensures c.if-is_some.false in
-    let rest = ap (λ t. strings w.ahead ++ following t) c.in-Some.is ∙ behind w c.new-walk.result c.in-Some.section over c.new-walk.ensures in
-    let t = took c.new-walk.result c.next.new.self _ _ before c.in_ok-next-in-Some.ensures.place c.is_none.ensures c.if-is_none.false c.in_ok-next-in-Some.ensures.ok rest in
+    let at = goal.at.overflow_add-self-in-Some c in
+    let t = took_next at.Else-is_none (was at.After-new-walk) (rest at.After-new-walk) in
     omega (arith, t.fewer, c.self.invariant)
 
 pub invariant_of-self-in-Some : goal.invariant_of-self-in-Some
 invariant_of-self-in-Some c =
-    let w = c.self.inside.walk in
-    let before : Progress = record { given = c.self.inside.given; last = w.last; ahead = strings w.ahead ++ following c.self.inside.then } in
-    let over = ended w _ _ c.in_ok-place.ensures.place c.is_some.ensures c.if-is_some.false in
-    let rest = ap (λ t. strings w.ahead ++ following t) c.in-Some.is ∙ behind w c.new-walk.result c.in-Some.section over c.new-walk.ensures in
-    let t = took c.new-walk.result c.next.new.self _ _ before c.in_ok-next-in-Some.ensures.place c.is_none.ensures c.if-is_none.false c.in_ok-next-in-Some.ensures.ok rest in
+    let at = goal.at.invariant_of-self-in-Some c in
+    let t = took_next at.Else-is_none (was at.After-new-walk) (rest at.After-new-walk) in
     omega (arith, t.fewer, c.self.invariant)
 
 pub returns-else-is_none-clause-number : goal.returns-else-is_none-clause-number
 returns-else-is_none-clause-number c =
-    let w = c.self.inside.walk in
-    let before : Progress = record { given = c.self.inside.given; last = w.last; ahead = strings w.ahead ++ following c.self.inside.then } in
-    let over = ended w _ _ c.in_ok-place.ensures.place c.is_some.ensures c.if-is_some.false in
-    let rest = ap (λ t. strings w.ahead ++ following t) c.in-Some.is ∙ behind w c.new-walk.result c.in-Some.section over c.new-walk.ensures in
-    let t = took c.new-walk.result c.next.new.self _ _ before c.in_ok-next-in-Some.ensures.place c.is_none.ensures c.if-is_none.false c.in_ok-next-in-Some.ensures.ok rest in
+    let at = goal.at.returns-else-is_none-clause-number c in
+    let t = took_next at.Else-is_none (was at.After-new-walk) (rest at.After-new-walk) in
     t.number ∙ ap (λ (p : Progress). next_id p p.ahead) c.self.view_is
 
 pub returns-else-is_none-clause-ok : goal.returns-else-is_none-clause-ok
 returns-else-is_none-clause-ok c =
-    let w = c.self.inside.walk in
-    let before : Progress = record { given = c.self.inside.given; last = w.last; ahead = strings w.ahead ++ following c.self.inside.then } in
-    let over = ended w _ _ c.in_ok-place.ensures.place c.is_some.ensures c.if-is_some.false in
-    let rest = ap (λ t. strings w.ahead ++ following t) c.in-Some.is ∙ behind w c.new-walk.result c.in-Some.section over c.new-walk.ensures in
-    let t = took c.new-walk.result c.next.new.self _ _ before c.in_ok-next-in-Some.ensures.place c.is_none.ensures c.if-is_none.false c.in_ok-next-in-Some.ensures.ok rest in
+    let at = goal.at.returns-else-is_none-clause-ok c in
+    let t = took_next at.Else-is_none (was at.After-new-walk) (rest at.After-new-walk) in
     t.new ∙ ap stepped c.self.view_is
 
 pub returns-in_err-next-in-Some-clause-ended : goal.returns-in_err-next-in-Some-clause-ended
 returns-in_err-next-in-Some-clause-ended c =
-    let w = c.self.inside.walk in
-    let over = ended w _ _ c.in_ok-place.ensures.place c.is_some.ensures c.if-is_some.false in
-    let rest = ap (λ t. strings w.ahead ++ following t) c.in-Some.is ∙ behind w c.new-walk.result c.in-Some.section over c.new-walk.ensures in
-    λ none. let k : false ≡ true = c.in_err-next-in-Some.ensures.ended (no_strings c.new-walk.result.ahead (sym rest ∙ ap (λ (p : Progress). p.ahead) c.self.view_is ∙ none)) in absurd (cc)
+    let left = rest (goal.at.returns-in_err-next-in-Some-clause-ended c).After-new-walk in
+    λ none. let k : false ≡ true = c.in_err-next-in-Some.ensures.ended (no_strings c.new-walk.result.ahead (sym left ∙ ap (λ (p : Progress). p.ahead) c.self.view_is ∙ none)) in absurd (cc)

@@ -1,5 +1,0 @@
-use Rattle.hdt_dict.proofs.Overlaps.{answered}
-use Rattle.hdt_dict.proofs.disjoint.find_overlapping_object.Goals as goal
-
-pub returns : goal.returns
-returns c = answered c.first_common_of_two.result _ _ _ _ _ _ c.first_common_of_two.ensures c.in_ok-list.ensures.is c.in_ok-one.ensures.is c.in_ok-two.ensures.is

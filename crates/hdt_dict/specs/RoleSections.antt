@@ -1,0 +1,20 @@
+-- The sections of a role: one, or a first and a second one, whose IDs continue those of the first.
+use Rattle.std.specs.Prelude.{ℕ, List, [], Option, Some, None}
+use Rattle.hdt_front.specs.Cost.{section_search_cost}
+use Rattle.hdt_front.specs.declared.section.Section.{Section}
+use Rattle.hdt_front.specs.Strings.{strings_of, section_of, block_size}
+
+-- the strings of the second section, if there is one
+abbrev pub following : Option Section → List (List ℕ)
+following None = []
+following (Some section) = strings_of section
+
+-- the most steps of a search in it
+abbrev pub following_search_cost : Option Section → ℕ
+following_search_cost None = 0
+following_search_cost (Some section) = section_search_cost (section_of section)
+
+-- its block size
+abbrev pub following_block_size : Option Section → ℕ
+following_block_size None = 0
+following_block_size (Some section) = block_size section
