@@ -19,13 +19,13 @@ use Rattle.hdt_terms.specs.declared.triple.Triple.{Triple}
 use Rattle.hdt_terms.specs.Faults.{not_utf8_at, unless_not_utf8}
 use Rattle.hdt_terms.specs.LineParsing.{as_line, is_blank_or_comment, line_in, line_triple, line_triple_at, unless_blank, with_column}
 use Rattle.hdt_terms.specs.LinesReader.{IsTripleLineError, LinesState, start}
-use Rattle.hdt_terms.specs.WholeLines.{TakesWholeLine}
+use Rattle.hdt_terms.specs.LinesTexts.{TakesWholeLine}
 use Rattle.hdt_terms.specs.Lint.{DocumentLine, GainsAllBut, GainsPrefix, at_line, fault_of, fault_of_line, faulty_lines}
 use Rattle.hdt_terms.specs.Split.{EachGains, EachGainsAllBut, EachGainsPrefix, IsSplitReadFault, IsReportOf, SplitsUntilFault, Place, has_blank_node, have_blank_nodes, last_number, last_place, last_place_of, line_of_part, no_place, number_if_some, part_lines, part_lines_from, triple_of_line, triples_of_document, whole_line}
 use Rattle.hdt_terms.proofs.Cases.{chosen}
 use Rattle.hdt_terms.proofs.LawsLemmas.{all_valid}
 use Rattle.hdt_terms.proofs.TripleLineReasons.{fault_of_triple}
-use Rattle.hdt_terms.proofs.DocumentLines.{HasReadLines, begins_with, none_read, wrote, wrote_all, wrote_none, wrote_prefix}
+use Rattle.hdt_terms.proofs.DocumentLines.{HasReadLines, begins_with, grown, none_read, wrote, wrote_all, wrote_none, wrote_prefix}
 
 -- ---- one element of a list is replaced
 
@@ -178,9 +178,6 @@ text_on prefix place line pending new others same part = elim (eqb_tells place.p
   | inr e ↦ others part (λ is. e.1 (sym is)) ∙ rw e.0 (sym (append-nil (get_or pending part [])))
 ]
 
-gains_more : (a b : Option (List ℕ)) (text pending more new : List ℕ) → GainsAllBut a b text pending → new ≡ pending ++ more → GainsAllBut a b (text ++ more) new
-gains_more a b text pending more new (gone, is, gained) e = (gone, ap (λ t. t ++ more) is ∙ append_assoc gone pending more ∙ ap (λ t. gone ++ t) (sym e), gained)
-
 pub collected_on : (prefix : List ℕ) (parts : ℕ) (lines : List DocumentLine) (line : DocumentLine) (before after : List (Option (List ℕ))) (pending new : List (List ℕ)) (place new_place : Place) (report new_report : SplitReport) (bytes : List ℕ)
     → Collected prefix parts lines before after pending place report → fault_of_line line ≡ None → new_place ≡ last_place prefix parts place line → length new ≡ length pending
     → ((part : ℕ) → part ≢ new_place.part → get_or new part [] ≡ get_or pending part []) → get_or new new_place.part [] ≡ get_or pending new_place.part [] ++ line_of_part prefix new_place.part new_place line
@@ -196,7 +193,7 @@ collected_on prefix parts lines line before after pending new place new_place re
         len ∙ h.gains.1,
         λ part lt.
             subst (λ text. GainsAllBut (get_or before part None) (get_or after part None) text (get_or new part [])) (ap (λ (p : Place). part_lines prefix parts lines part ++ line_of_part prefix part p line) last ∙ sym (part_on prefix parts lines line part))
-            (gains_more (get_or before part None) (get_or after part None) (part_lines prefix parts lines part) (get_or pending part []) (line_of_part prefix part new_place line) (get_or new part []) (h.gains.2 part lt) (text_on prefix new_place line pending new others same part)),
+            (grown (get_or before part None) (get_or after part None) (part_lines prefix parts lines part) (get_or pending part []) (line_of_part prefix part new_place line) (get_or new part []) (h.gains.2 part lt) (text_on prefix new_place line pending new others same part)),
       );
       place_is = last ∙ sym (place_on prefix parts no_place lines line);
       report_is = report_on lines line report new_report bytes h.report_is bytes_are l t b;
