@@ -18,7 +18,7 @@ use Rattle.hdt_terms.proofs.Bools.{and_first}
 use Rattle.hdt_terms.proofs.LabelSoundness.{blank_found}
 use Rattle.hdt_terms.proofs.TermCompleteness.{skip_whitespace-blanks}
 use Rattle.hdt_terms.proofs.ContentErrorCompleteness.{stops_again}
-use Rattle.hdt_terms.proofs.TermErrorSoundness.{blank_syntax}
+use Rattle.hdt_terms.proofs.TermSoundness.{blank_syntax}
 
 -- ---- IRIs
 

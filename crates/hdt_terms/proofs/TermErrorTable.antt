@@ -23,10 +23,9 @@ use Rattle.hdt_terms.proofs.ContentCompleteness.{pieces_again}
 use Rattle.hdt_terms.proofs.Cases.{chosen, bind_ok, refused, ok_is, err_is, ok_or_err}
 use Rattle.hdt_terms.proofs.LawsLemmas.{all_valid}
 use Rattle.hdt_terms.proofs.TermCompleteness.{datatype_again, tag_behind, term_again}
-use Rattle.hdt_terms.proofs.TermSoundness.{term_found, suffix_found}
+use Rattle.hdt_terms.proofs.TermSoundness.{term_stops, term_found, suffix_found}
 use Rattle.hdt_terms.proofs.Longest.{tag_takes, takes_label}
 use Rattle.hdt_terms.proofs.TermErrorCompleteness.{table_again}
-use Rattle.hdt_terms.proofs.TermErrorSoundness.{term_stops}
 use Rattle.hdt_terms.proofs.CompleteTexts.{checked_ok}
 use Rattle.hdt_terms.proofs.Utf8.{behind_ascii}
 

@@ -18,8 +18,8 @@ use Rattle.hdt_terms.specs.TermErrors.{IriCheckFails, no_iri, in_iri, relative, 
 use Rattle.hdt_terms.specs.LinesReader.{IsTripleLineError}
 use Rattle.hdt_terms.proofs.Cases.{chosen}
 use Rattle.hdt_terms.proofs.LineSoundness.{role_found}
-use Rattle.hdt_terms.proofs.ContentErrorSoundness.{bind_err}
-use Rattle.hdt_terms.proofs.TermErrorSoundness.{term_stops}
+use Rattle.hdt_terms.proofs.Cases.{bind_err}
+use Rattle.hdt_terms.proofs.TermSoundness.{term_stops}
 use Rattle.hdt_terms.proofs.Utf8.{blanks_utf8}
 
 abbrev OfText : LineReason → Type 0
