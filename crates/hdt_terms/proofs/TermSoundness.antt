@@ -1,31 +1,26 @@
 -- Soundness for terms: the text encodes the term that parsing reads, or a check of the table of errors fails.
-use Rattle.std.proofs.Common.{◌≡◌, ◌≢◌, ℕ, Bool, true, false, eqb, List, [], ◌∷◌, ◌++◌, Result, Ok, refl, sym, ap, subst, ◌∙◌, append_assoc, inl, inr, suc, length, take, drop, Option, Some, None, Err, arith}
-use Rattle.std.specs.Prelude.{◌&&◌, IsUtf8, encode_utf8, encode_utf8_all}
+use Rattle.std.proofs.Common.{◌≡◌, ◌≢◌, ℕ, Bool, true, false, eqb, List, [], ◌∷◌, ◌++◌, Result, Ok, refl, sym, ap, subst, ◌∙◌, append_assoc, inl, inr, take, drop, Option, Some, None, Err, arith}
+use Rattle.std.specs.Prelude.{IsUtf8, encode_utf8}
 use Rattle.std.specs.Str.{bytes_eq, chars}
-use Rattle.std.proofs.lemmas.Bool.{eq-eqb}
 use Rattle.std.proofs.lemmas.Bool.Decides.{not_from_Decides, eqb_tells}
 use Rattle.std.proofs.lemmas.Slice.Eq.{bytes_eq-Decides}
 use Rattle.hdt_terms.specs.declared.fault.FailedCheck.{FailedCheck}
-use Rattle.hdt_terms.specs.declared.fault.LineReason.TheVariants.{Syntax}
 use Rattle.hdt_terms.specs.declared.escaped_tokens.Token.TheVariants.{Quoted}
 use Rattle.hdt_terms.specs.declared.triple.Term.{Term}
 use Rattle.hdt_terms.specs.declared.triple.Term.TheVariants as terms
 use Rattle.hdt_terms.specs.declared.triple.Suffix.{Suffix}
-use Rattle.hdt_terms.specs.Chars.{is_whitespace, is_label_start}
+use Rattle.hdt_terms.specs.Chars.{is_whitespace}
 use Rattle.hdt_terms.specs.Terms.{xsd_string}
 use Rattle.hdt_terms.specs.Grammar.{pieces_text, IsWhitespace, EncodesDatatype, EncodesSuffix, Encodes, EncodesContent}
-use Rattle.hdt_terms.specs.TermParsing.{◌>>=◌, stops, token_content, iri_at, blank_at, skip_whitespace, tag_at, datatype_of, as_datatype, datatype_at, suffix_after, suffix_at, as_iri, as_blank, with_suffix, literal_at, term_at, cut_label, cut_tag}
+use Rattle.hdt_terms.specs.TermParsing.{◌>>=◌, token_content, iri_at, blank_at, skip_whitespace, tag_at, datatype_of, as_datatype, datatype_at, suffix_after, suffix_at, as_iri, as_blank, with_suffix, literal_at, term_at, cut_label, cut_tag}
 use Rattle.hdt_terms.proofs.Bools.{and_both}
-use Rattle.hdt_terms.proofs.Cases.{chosen, refused, err_is, ok_or_err}
 use Rattle.hdt_terms.proofs.FrontUtf8.{iri_front, blank_utf8, literal_front}
-use Rattle.hdt_terms.proofs.LabelSoundness.{blank_found}
-use Rattle.hdt_terms.proofs.TagSoundness.{tag_found}
-use Rattle.std.specs.Char.{is_ascii_alphabetic}
-use Rattle.std.proofs.lemmas.Str.{chars_past_char}
-use Rattle.hdt_terms.specs.declared.tag.TagState.TheVariants.{Letters}
-use Rattle.hdt_terms.specs.Labels.{label_rest, label_bytes}
-use Rattle.hdt_terms.specs.Tags.{tag_rest, tag_len}
-use Rattle.hdt_terms.specs.TermErrors.{DoesNotBeginWith, syntax_at, BeginsLabel, SuffixCheckFails, no_tag, no_caret, no_datatype, TermCheckFails, no_term, iri, blank, string, suffix}
+use Rattle.std.proofs.lemmas.List.{take-append-drop}
+use Rattle.hdt_terms.proofs.LabelSoundness.{LabelSays, label_says}
+use Rattle.hdt_terms.proofs.TagSoundness.{TagSays, tag_says}
+use Rattle.hdt_terms.specs.Labels.{label_bytes}
+use Rattle.hdt_terms.specs.Tags.{tag_len}
+use Rattle.hdt_terms.specs.TermErrors.{DoesNotBeginWith, SuffixCheckFails, no_tag, no_caret, no_datatype, TermCheckFails, no_term, iri, blank, string, suffix}
 use Rattle.hdt_terms.proofs.Utf8.{behind_ascii}
 use Rattle.hdt_terms.proofs.ContentSoundness.{IriSays, ContentSays, inside_says, iri_says}
 
@@ -43,38 +38,6 @@ pub passed : (bytes : List ℕ) → Passed bytes
 passed [] = record { blanks = []; are = refl; whole = refl }
 passed (c ∷ cs) = one_more (is_whitespace c) c cs (passed cs) refl
 
--- ---- blank nodes
-
-cut_stops : (o : Option ℕ) (left rest : List ℕ) (s : FailedCheck) → cut_label o left rest ≡ Err s → s ≡ syntax_at left
-cut_stops None left rest s e = err_is (syntax_at left) s e
-cut_stops (Some n) left rest s e = absurd (ok_or_err _ s e)
-
-pub blank_syntax : (bytes : List ℕ) (s : FailedCheck) → blank_at bytes ≡ Err s → s ≡ syntax_at bytes
-unfolding blank_at
-blank_syntax [] s e = err_is (syntax_at []) s e
-blank_syntax (u ∷ []) s e = err_is (syntax_at (u ∷ [])) s e
-blank_syntax (u ∷ v ∷ rest) s e =
-    elim (chosen (eqb u 95 && eqb v 58) (cut_label (label_bytes (chars rest)) (u ∷ v ∷ rest) rest) (stops Syntax (u ∷ v ∷ rest)) (refused s) e) [
-      | inl p ↦ cut_stops (label_bytes (chars rest)) (u ∷ v ∷ rest) rest s p.1
-      | inr p ↦ err_is (syntax_at (u ∷ v ∷ rest)) s p.1
-    ]
-
--- if the first character of a label is there, a label is read
-label_reads : (rest : List ℕ) (c : ℕ) (more : List ℕ) → IsUtf8 rest → is_label_start c ≡ true → rest ≡ encode_utf8 c ++ more → (n : ℕ) × (label_bytes (chars rest) ≡ Some n)
-label_reads rest c more utf8 starts whole =
-    (length (encode_utf8_all (c ∷ label_rest (chars more))), rw (chars_past_char rest more c utf8 whole, starts) refl)
-
-pub blank_reads : (bytes : List ℕ) → IsUtf8 bytes → BeginsLabel bytes → (x : List ℕ × List ℕ) × (blank_at bytes ≡ Ok x)
-unfolding blank_at
-blank_reads bytes utf8 b =
-    let rest : List ℕ = encode_utf8 b.0 ++ b.1 in
-    let behind : IsUtf8 rest = behind_ascii 58 rest (omega arith) (behind_ascii 95 (58 ∷ rest) (omega arith) (subst IsUtf8 b.3 utf8)) in
-    let n = label_reads rest b.0 b.1 behind b.2 refl in
-    ((take n.0 rest, drop n.0 rest), rw (b.3, n.1) refl)
-
-no_label : (bytes : List ℕ) (s : FailedCheck) → IsUtf8 bytes → blank_at bytes ≡ Err s → ¬ (BeginsLabel bytes)
-no_label bytes s utf8 e b = let r = blank_reads bytes utf8 b in ok_or_err r.0 s (sym r.1 ∙ e)
-
 -- ---- suffixes
 
 begins_not : (b : Bool) (c : ℕ) (cs : List ℕ) → is_whitespace c ≡ b → DoesNotBeginWith is_whitespace (skip_whitespace cs) → DoesNotBeginWith is_whitespace (skip_whitespace (c ∷ cs))
@@ -84,14 +47,6 @@ begins_not false c cs h more = simp h refl
 skip_whitespace-begins : (bytes : List ℕ) → DoesNotBeginWith is_whitespace (skip_whitespace bytes)
 skip_whitespace-begins [] = tt
 skip_whitespace-begins (c ∷ cs) = begins_not (is_whitespace c) c cs refl (skip_whitespace-begins cs)
-
-no_letter : (rest : List ℕ) → tag_len rest ≡ None → DoesNotBeginWith is_ascii_alphabetic rest
-no_letter [] e = tt
-no_letter (c ∷ rest) e =
-    elim (chosen (is_ascii_alphabetic c) (Some (suc (length (tag_rest Letters rest)))) None None e) [
-      | inl p ↦ absurd cc
-      | inr p ↦ p.0
-    ]
 
 -- what was read is a prefix, and the rest follows it
 pub record SuffixFound (bytes : List ℕ) (suffix : Suffix) (rest : List ℕ) : Type 0 where
@@ -112,37 +67,22 @@ pick false bytes value rest h f =
     let differs : value ≢ xsd_string = not_from_Decides (bytes_eq value xsd_string) (bytes_eq-Decides value xsd_string) h in
     rw h (record { text = f.text; form = (f.form, differs); whole = f.whole })
 
-tag_behind : (front token rest : List ℕ) (suffix : Suffix) → IsWhitespace front → tag_at token ≡ Ok (suffix, rest) → SuffixFound (front ++ token) suffix rest
-tag_behind front token rest value blanks e =
-    let f = tag_found token rest value e in
-    record {
-      text = front ++ 64 ∷ f.tag;
-      form = subst (λ (s : Suffix). EncodesSuffix (front ++ 64 ∷ f.tag) s) (sym f.is) (record { before = front; blanks = blanks; whole = refl; form = f.form });
-      whole = ap (λ (bs : List ℕ). front ++ bs) f.whole ∙ sym (append_assoc front (64 ∷ f.tag) rest);
-    }
-
-cut_tag_stops : (o : Option ℕ) (left rest : List ℕ) (s : FailedCheck) → tag_len rest ≡ o → cut_tag o left rest ≡ Err s → DoesNotBeginWith is_ascii_alphabetic rest × (s ≡ syntax_at left)
-cut_tag_stops None left rest s h e = (no_letter rest h, err_is (syntax_at left) s e)
-cut_tag_stops (Some n) left rest s h e = absurd (ok_or_err _ s e)
-
-tag_stops : (before : List ℕ) (c : ℕ) (rest : List ℕ) (s : FailedCheck) → IsWhitespace before → c ≡ 64 → tag_at (c ∷ rest) ≡ Err s → SuffixCheckFails (before ++ c ∷ rest) s
-unfolding tag_at
-tag_stops before c rest s blanks is e =
-    elim (chosen (eqb c 64) (cut_tag (tag_len rest) (c ∷ rest) rest) (stops Syntax (c ∷ rest)) (refused s) e) [
-      | inl p ↦
-          let cut = cut_tag_stops (tag_len rest) (c ∷ rest) rest s refl p.1 in
-          no_tag before rest blanks (ap (λ (b : ℕ). before ++ b ∷ rest) is) cut.0 cut.1
-      | inr p ↦ absurd (let both : true ≡ false = sym (eq-eqb c 64 is) ∙ p.0 in cc)
-    ]
-
 -- a suffix and what follows it, or the check that fails
 abbrev SuffixSays : List ℕ → Result (Suffix × List ℕ) FailedCheck → Type 0
 SuffixSays bytes (Ok x) = SuffixFound bytes x.0 x.1
 SuffixSays bytes (Err s) = SuffixCheckFails bytes s
 
-tag_says : (front : List ℕ) (c : ℕ) (behind : List ℕ) (r : Result (Suffix × List ℕ) FailedCheck) → IsWhitespace front → c ≡ 64 → tag_at (c ∷ behind) ≡ r → SuffixSays (front ++ c ∷ behind) r
-tag_says front c behind (Ok x) blanks is e = tag_behind front (c ∷ behind) x.1 x.0 blanks e
-tag_says front c behind (Err s) blanks is e = tag_stops front c behind s blanks is e
+tag_then : (front behind : List ℕ) (o : Option ℕ) → IsWhitespace front → TagSays behind o → SuffixSays (front ++ 64 ∷ behind) (cut_tag o (64 ∷ behind) behind)
+tag_then front behind None blanks h = no_tag front behind blanks refl h refl
+tag_then front behind (Some n) blanks h = record {
+  text = front ++ 64 ∷ take n behind;
+  form = record { before = front; blanks = blanks; whole = refl; form = h };
+  whole = ap (λ (bs : List ℕ). front ++ 64 ∷ bs) (sym (take-append-drop n behind)) ∙ sym (append_assoc front (64 ∷ take n behind) (drop n behind));
+}
+
+tag_behind : (front behind : List ℕ) → IsWhitespace front → SuffixSays (front ++ 64 ∷ behind) (tag_at (64 ∷ behind))
+unfolding tag_at
+tag_behind front behind blanks = tag_then front behind (tag_len behind) blanks (tag_says behind)
 
 -- ^^, whitespace and an IRI
 datatype_then : (front behind : List ℕ) (r : Result (List ℕ × List ℕ) FailedCheck) → IsWhitespace front → IriSays (skip_whitespace behind) r → SuffixSays (front ++ 94 ∷ 94 ∷ behind) (r >>= as_datatype)
@@ -170,7 +110,7 @@ datatype_says front (d ∷ behind) blanks = elim (eqb_tells d 94) [
 after_says : (front token : List ℕ) → IsWhitespace front → SuffixSays (front ++ token) (suffix_after (front ++ token) token)
 after_says front [] blanks = record { text = []; form = inl refl; whole = refl }
 after_says front (c ∷ behind) blanks = elim (eqb_tells c 64) [
-  | inl p ↦ rw p.0 (tag_says front c behind (tag_at (c ∷ behind)) blanks p.1 refl)
+  | inl p ↦ rw p.0 (subst (λ (b : ℕ). SuffixSays (front ++ b ∷ behind) (tag_at (b ∷ behind))) (sym p.1) (tag_behind front behind blanks))
   | inr p ↦
       elim (eqb_tells c 94) [
         | inl q ↦ rw (p.0, q.0) (subst (λ (b : ℕ). SuffixSays (front ++ b ∷ behind) (datatype_at (b ∷ behind))) (sym q.1) (datatype_says front behind blanks))
@@ -230,11 +170,23 @@ iri_then : (c : ℕ) (rest : List ℕ) (r : Result (List ℕ × List ℕ) Failed
 iri_then c rest (Err s) utf8 is h = iri rest (ap (λ (b : ℕ). b ∷ rest) is) h
 iri_then c rest (Ok x) utf8 is f = record { text = f.0; spelled = record { utf8 = iri_front f.0 x.0 x.1 f.1 (subst IsUtf8 f.2 utf8); form = f.1 }; whole = f.2 }
 
-blank_then : (c : ℕ) (rest : List ℕ) (r : Result (List ℕ × List ℕ) FailedCheck) → IsUtf8 (c ∷ rest) → c ≡ 95 → blank_at (c ∷ rest) ≡ r → TermSays (c ∷ rest) (r >>= as_blank)
-blank_then c rest (Err s) utf8 is e = blank rest (ap (λ (b : ℕ). b ∷ rest) is) (no_label (c ∷ rest) s utf8 e) (blank_syntax (c ∷ rest) s e)
-blank_then c rest (Ok x) utf8 is e =
-    let f = blank_found (c ∷ rest) x.0 x.1 utf8 e in
-    record { text = 95 ∷ 58 ∷ x.0; spelled = record { utf8 = blank_utf8 x.0 f.utf8; form = record { whole = refl; form = f.form } }; whole = f.whole }
+label_then : (text : List ℕ) (o : Option ℕ) → LabelSays text o → TermSays (95 ∷ 58 ∷ text) (cut_label o (95 ∷ 58 ∷ text) text >>= as_blank)
+label_then text None h = blank (58 ∷ text) refl (λ b. let same : text ≡ encode_utf8 b.0 ++ b.1 = cc (b.3) in h b.0 b.1 b.2 same) refl
+label_then text (Some n) h = record {
+  text = 95 ∷ 58 ∷ take n text;
+  spelled = record { utf8 = blank_utf8 (take n text) h.utf8; form = record { whole = refl; form = h.form } };
+  whole = ap (λ (bs : List ℕ). 95 ∷ 58 ∷ bs) (sym (take-append-drop n text));
+}
+
+blank_says : (rest : List ℕ) → IsUtf8 (95 ∷ rest) → TermSays (95 ∷ rest) (blank_at (95 ∷ rest) >>= as_blank)
+unfolding blank_at
+blank_says [] utf8 = blank [] refl (λ b. let bad : 95 ∷ [] ≡ 95 ∷ 58 ∷ (encode_utf8 b.0 ++ b.1) = b.3 in cc) refl
+blank_says (v ∷ text) utf8 = elim (eqb_tells v 58) [
+  | inl p ↦
+      let behind = behind_ascii 58 text (omega arith) (subst (λ (b : ℕ). IsUtf8 (b ∷ text)) p.1 (behind_ascii 95 (v ∷ text) (omega arith) utf8)) in
+      rw p.0 (subst (λ (b : ℕ). TermSays (95 ∷ b ∷ text) (cut_label (label_bytes (chars text)) (95 ∷ b ∷ text) text >>= as_blank)) (sym p.1) (label_then text (label_bytes (chars text)) (label_says text behind)))
+  | inr p ↦ rw p.0 (blank (v ∷ text) refl (λ b. let same : v ≡ 58 = cc (b.3) in p.1 same) refl)
+]
 
 term_says : (bytes : List ℕ) → IsUtf8 bytes → TermSays bytes (term_at bytes)
 unfolding term_at
@@ -243,7 +195,7 @@ term_says (c ∷ rest) utf8 = elim (eqb_tells c 60) [
   | inl p ↦ rw p.0 (iri_then c rest (iri_at (c ∷ rest)) utf8 p.1 (iri_says (c ∷ rest)))
   | inr p ↦
       elim (eqb_tells c 95) [
-        | inl q ↦ rw (p.0, q.0) (blank_then c rest (blank_at (c ∷ rest)) utf8 q.1 refl)
+        | inl q ↦ rw (p.0, q.0) (subst (λ (b : ℕ). TermSays (b ∷ rest) (blank_at (b ∷ rest) >>= as_blank)) (sym q.1) (blank_says rest (subst (λ (b : ℕ). IsUtf8 (b ∷ rest)) q.1 utf8)))
         | inr q ↦ rw (p.0, q.0) (literal_says c rest utf8 p.0 q.0)
       ]
 ]
