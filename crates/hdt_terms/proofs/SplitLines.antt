@@ -24,7 +24,7 @@ use Rattle.hdt_terms.specs.Lint.{DocumentLine, GainsAllBut, GainsPrefix, at_line
 use Rattle.hdt_terms.specs.Split.{EachGains, EachGainsAllBut, EachGainsPrefix, IsSplitReadFault, IsReportOf, SplitsUntilFault, Place, has_blank_node, have_blank_nodes, last_number, last_place, last_place_of, line_of_part, no_place, number_if_some, part_lines, part_lines_from, triple_of_line, triples_of_document, whole_line}
 use Rattle.hdt_terms.proofs.Cases.{chosen}
 use Rattle.hdt_terms.proofs.LawsLemmas.{all_valid}
-use Rattle.hdt_terms.proofs.TripleLineReasons.{fault_of_triple}
+use Rattle.hdt_terms.proofs.LineSoundness.{fault_of_triple}
 use Rattle.hdt_terms.proofs.DocumentLines.{HasReadLines, begins_with, grown, none_read, wrote, wrote_all, wrote_none, wrote_prefix}
 
 -- ---- one element of a list is replaced
