@@ -1,9 +1,8 @@
 -- Soundness for lines: a line encodes what parsing reads.
-use Rattle.std.proofs.Common.{◌≡◌, ℕ, true, false, eqb, List, [], ◌∷◌, ◌++◌, Option, Some, Result, Ok, Err, refl, ap, subst, ◌∙◌, inl, inr, sym, ◌⊎◌}
+use Rattle.std.proofs.Common.{◌≡◌, ℕ, true, false, List, [], ◌∷◌, ◌++◌, Option, Some, Result, Ok, Err, refl, ap, subst, ◌∙◌, inl, inr, sym, ◌⊎◌}
 use Rattle.std.specs.Prelude.{IsUtf8}
 use Rattle.std.proofs.lemmas.Bool.{cases_Bool, eqb-true}
 use Rattle.std.proofs.lemmas.Bool.Decides.{eqb_tells}
-use Rattle.hdt_terms.specs.declared.fault.LineReason.TheVariants.{Syntax}
 use Rattle.hdt_terms.specs.declared.fault.FailedCheck.{FailedCheck}
 use Rattle.hdt_terms.specs.declared.fault.TermFault.{TermFault}
 use Rattle.hdt_wire.specs.declared.role.Role.{Role}
@@ -11,11 +10,10 @@ use Rattle.hdt_wire.specs.declared.role.Role.TheVariants.{Subject, Predicate, Ob
 use Rattle.hdt_terms.specs.declared.triple.Term.{Term}
 use Rattle.hdt_terms.specs.declared.triple.Term.TheVariants as terms
 use Rattle.hdt_terms.specs.declared.triple.Triple.{Triple}
-use Rattle.hdt_terms.specs.LineParsing.{begins, role_term_at, role_term_after_whitespace, is_comment_or_end, is_blank_or_comment, comment_or_end_at, full_stop_at, full_stop_after_whitespace, line_triple_at, line_triple, line_in, with_column, unless_blank}
+use Rattle.hdt_terms.specs.LineParsing.{begins, role_term_at, role_term_after_whitespace, is_comment_or_end, is_blank_or_comment, full_stop_at, full_stop_after_whitespace, line_triple_at, line_triple, line_in, with_column, unless_blank}
 use Rattle.hdt_terms.specs.Lines.{IsCommentOrEnd, IsBlankOrComment, IsSubject, IsPredicate, EncodesTriple, Line}
-use Rattle.hdt_terms.specs.TermParsing.{◌>>=◌, stops, skip_whitespace, term_at}
+use Rattle.hdt_terms.specs.TermParsing.{◌>>=◌, skip_whitespace, term_at}
 use Rattle.hdt_terms.specs.Grammar.{IsWhitespace, Encodes}
-use Rattle.hdt_terms.proofs.Cases.{bind_ok, chosen, ok_is}
 use Rattle.hdt_terms.proofs.LineLaws.{line_read}
 use Rattle.hdt_terms.proofs.LineUtf8.{rest_utf8}
 use Rattle.hdt_terms.proofs.TermSoundness.{passed, term_found, term_stops}

@@ -1,21 +1,19 @@
 -- Soundness for requests: a line encodes the request that parsing reads.
-use Rattle.std.proofs.Common.{◌≡◌, ℕ, eqb, List, [], ◌∷◌, ◌++◌, Option, None, Some, Ok, refl, ap, subst, ◌∙◌, inl, inr, sym, Result, Err}
+use Rattle.std.proofs.Common.{◌≡◌, ℕ, eqb, List, [], ◌∷◌, ◌++◌, Option, Ok, refl, ap, subst, ◌∙◌, inl, inr, sym, Result, Err}
 use Rattle.std.specs.Prelude.{IsUtf8}
 use Rattle.std.proofs.lemmas.Bool.{cases_Bool}
 use Rattle.std.proofs.lemmas.Bool.Decides.{eqb_tells}
 use Rattle.hdt_terms.specs.declared.fault.FailedCheck.{FailedCheck}
-use Rattle.std.proofs.lemmas.Option.{same_Some}
-use Rattle.hdt_terms.specs.declared.fault.LineReason.TheVariants.{Syntax}
 use Rattle.hdt_wire.specs.declared.role.Role.{Role}
 use Rattle.hdt_wire.specs.declared.role.Role.TheVariants.{Subject, Predicate, Object}
 use Rattle.hdt_terms.specs.declared.triple.Term.{Term}
-use Rattle.hdt_terms.specs.LineParsing.{role_term_at, is_comment_or_end, is_blank_or_comment, comment_or_end_at}
+use Rattle.hdt_terms.specs.LineParsing.{role_term_at, is_comment_or_end, is_blank_or_comment}
 use Rattle.hdt_terms.specs.Lines.{IsBlankOrComment}
-use Rattle.hdt_terms.specs.TermParsing.{◌>>=◌, stops, skip_whitespace}
+use Rattle.hdt_terms.specs.TermParsing.{◌>>=◌, skip_whitespace}
 use Rattle.hdt_terms.specs.RequestParsing.{as_pattern_term, pattern_term_at, pattern_term_after_whitespace, optional_stop_at, optional_stop_after_whitespace, request_at}
 use Rattle.hdt_terms.specs.Requests.{TermPattern, EncodesPatternTerm, IsOptionalStop, EncodesRequest}
 use Rattle.hdt_terms.specs.Grammar.{IsWhitespace}
-use Rattle.hdt_terms.proofs.Cases.{bind_ok, chosen, ok_is}
+use Rattle.hdt_terms.proofs.Cases.{bind_ok, ok_is}
 use Rattle.hdt_terms.proofs.LineSoundness.{IsOf, RoleSays, bare_found, comment_found, here_says}
 use Rattle.hdt_terms.proofs.TermSoundness.{passed}
 use Rattle.hdt_terms.proofs.PatternTerms.{behind_any}

@@ -1,18 +1,11 @@
 -- The reason of an error in the text of a line is never a failed read or the limit.
-use Rattle.std.proofs.Common.{◌≡◌, ℕ, List, [], ◌∷◌, Result, Ok, Err, sym, refl, ap, subst, inl, inr, ◌⊎◌, eqb}
-use Rattle.std.specs.Prelude.{IsUtf8}
+use Rattle.std.proofs.Common.{◌≡◌, ℕ, List, Err, sym, ap, subst}
 use Rattle.hdt_terms.specs.declared.fault.LineReason.{LineReason}
 use Rattle.hdt_terms.specs.declared.fault.LineReason.TheVariants.{Syntax, NotUtf8, BadEscape, RelativeIri, IriCharacter, ZeroCharacter, Read, OutOfMemory, TooLong}
 use Rattle.hdt_terms.specs.declared.fault.FailedCheck.{FailedCheck}
-use Rattle.hdt_terms.specs.declared.fault.TermFault.{TermFault}
-use Rattle.hdt_wire.specs.declared.role.Role.{Role}
-use Rattle.hdt_wire.specs.declared.role.Role.TheVariants.{Subject, Predicate, Object}
 use Rattle.hdt_terms.specs.declared.escaped_tokens.Token.{Token}
 use Rattle.hdt_terms.specs.declared.escaped_tokens.Token.TheVariants.{Iri, Quoted}
-use Rattle.hdt_terms.specs.declared.triple.Triple.{Triple}
-use Rattle.hdt_terms.specs.Faults.{out_of_memory}
-use Rattle.hdt_terms.specs.LineParsing.{begins, role_term_at, role_term_after_whitespace, is_comment_or_end, comment_or_end_at, full_stop_at, full_stop_after_whitespace, line_triple_at, line_triple, with_column}
-use Rattle.hdt_terms.specs.TermParsing.{◌>>=◌, stops, skip_whitespace, term_at}
+use Rattle.hdt_terms.specs.LineParsing.{begins, line_triple}
 use Rattle.hdt_terms.specs.ContentErrors.{CheckFails, ContentCheckFails}
 use Rattle.hdt_terms.specs.TermErrors.{IriCheckFails, no_iri, in_iri, relative, SuffixCheckFails, no_tag, no_caret, no_datatype, TermCheckFails, no_term, iri, blank, string, suffix}
 use Rattle.hdt_terms.specs.LinesReader.{IsTripleLineError}
