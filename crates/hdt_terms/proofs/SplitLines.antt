@@ -7,6 +7,7 @@ use Rattle.std.specs.List.{filter_map}
 use Rattle.std.proofs.lemmas.Bool.{cases_Bool, cases_lt, eq-eqb}
 use Rattle.std.specs.Prelude.{IsUtf8}
 use Rattle.std.specs.Int.{from_bool}
+use Rattle.std.proofs.Math.Bool.{or-false}
 use Rattle.std.proofs.lemmas.Bool.Decides.{eqb_tells}
 use Rattle.std.proofs.KnownBytes.{Appends-nil}
 use Rattle.std.specs.Str.Lossy.{utf8_valid_len}
@@ -126,12 +127,8 @@ or_assoc : (a b c : Bool) → a || (b || c) ≡ (a || b) || c
 or_assoc true b c = refl
 or_assoc false b c = refl
 
-or_false : (a : Bool) → a || false ≡ a
-or_false true = refl
-or_false false = refl
-
 blank_on : (xs : List DocumentLine) (line : DocumentLine) → have_blank_nodes (xs ++ line ∷ []) ≡ have_blank_nodes xs || has_blank_node (triple_of_line line)
-blank_on [] line = or_false (has_blank_node (triple_of_line line))
+blank_on [] line = or-false (has_blank_node (triple_of_line line))
 blank_on (x ∷ xs) line = ap (λ b. has_blank_node (triple_of_line x) || b) (blank_on xs line) ∙ or_assoc (has_blank_node (triple_of_line x)) (have_blank_nodes xs) (has_blank_node (triple_of_line line))
 
 one_at_most : {X Y : Type 0} (h : X → Option Y) (x : X) (y : Option Y) → h x ≡ y → length (filter_map h (x ∷ [])) ≤ 1
