@@ -1,7 +1,7 @@
 -- Completeness for lines: parsing reads what a line encodes.
-use Rattle.std.proofs.Common.{◌≡◌, ℕ, zero, suc, ◌<◌, Bool, true, false, eqb, ◌||◌, List, [], ◌∷◌, ◌++◌, Option, None, Some, Ok, sym, refl, ap, subst, ◌∙◌, inl, inr, ◌⊎◌, arith}
+use Rattle.std.proofs.Common.{◌≡◌, ℕ, zero, suc, ◌<◌, true, false, eqb, List, [], ◌∷◌, ◌++◌, Option, None, Some, Ok, sym, refl, ap, subst, ◌∙◌, inl, inr, ◌⊎◌, arith}
 use Rattle.std.specs.Str.{chars, IsAscii}
-use Rattle.std.proofs.lemmas.Bool.{eqb-true}
+use Rattle.std.proofs.lemmas.Bool.Decides.{eqb_tells, nat_tests}
 use Rattle.std.proofs.lemmas.Str.{IsUtf8-from_ascii, chars-append, chars-IsAscii, chars-nil}
 use Rattle.hdt_wire.specs.declared.role.Role.{Role}
 use Rattle.hdt_wire.specs.declared.role.Role.TheVariants.{Subject, Predicate, Object}
@@ -84,12 +84,7 @@ label_dot : (rest : List ℕ) → label_rest (chars rest) ≡ [] → label_rest 
 label_dot rest h = ap label_rest (chars_cons 46 rest (omega arith)) ∙ ap dot_if_continued h
 
 blank_is : (c : ℕ) → is_whitespace c ≡ true → (c ≡ 9) ⊎ (c ≡ 32)
-blank_is c e = case (eqb c 9) refl (eqb c 32) refl e
-  where
-    case : (a : Bool) → eqb c 9 ≡ a → (b : Bool) → eqb c 32 ≡ b → (a || b) ≡ true → (c ≡ 9) ⊎ (c ≡ 32)
-    case true p b q h = inl (eqb-true c 9 p)
-    case false p true q h = inr (eqb-true c 32 q)
-    case false p false q h = absurd cc
+blank_is c e = elim (eqb_tells c 9) [ inl p ↦ inl p.1 | inr p ↦ inr (grind (arith, nat_tests, e, p.1)) ]
 
 label_blank : (c : ℕ) (rest : List ℕ) → is_whitespace c ≡ true → label_rest (chars (c ∷ rest)) ≡ []
 label_blank c rest e =

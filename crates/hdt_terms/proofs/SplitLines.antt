@@ -1,5 +1,5 @@
 -- Splitting a document: the pending lines of each part, and what each writer has gained.
-use Rattle.std.proofs.Common.{◌≡◌, ◌≢◌, ◌⊎◌, ◌+◌, ◌<◌, ◌≤◌, ◌||◌, ℕ, Bool, true, false, List, [], ◌∷◌, ◌++◌, length, map, take, drop, get_or, slice_set, replicate, Option, None, Some, Result, Ok, Err, option_map, refl, sym, ap, subst, ◌∙◌, inl, inr, arith, append_assoc, append-nil}
+use Rattle.std.proofs.Common.{◌≡◌, ◌≢◌, ◌⊎◌, ◌+◌, ◌<◌, ◌≤◌, ◌||◌, ℕ, false, List, [], ◌∷◌, ◌++◌, length, map, take, drop, get_or, slice_set, replicate, Option, None, Some, Result, Ok, Err, option_map, refl, sym, ap, subst, ◌∙◌, inl, inr, arith, append_assoc, append-nil}
 use Rattle.std.proofs.lemmas.List.{map-set, get_or-map, get_or-set_same, get_or-set_other, get_or-replicate, length-append, length-map, length-replicate, length-set, take_all}
 use Rattle.std.proofs.Math.Seq.{drop-length}
 use Rattle.std.proofs.lemmas.List.Elements.{filter_map-append}
@@ -7,7 +7,7 @@ use Rattle.std.specs.List.{filter_map}
 use Rattle.std.proofs.lemmas.Bool.{cases_Bool, cases_lt, eq-eqb}
 use Rattle.std.specs.Prelude.{IsUtf8}
 use Rattle.std.specs.Int.{from_bool}
-use Rattle.std.proofs.Math.Bool.{or-false}
+use Rattle.std.proofs.Math.Bool.{or-false, or_assoc}
 use Rattle.std.proofs.lemmas.Bool.Decides.{eqb_tells}
 use Rattle.std.proofs.KnownBytes.{Appends-nil}
 use Rattle.std.specs.Str.Lossy.{utf8_valid_len}
@@ -123,13 +123,9 @@ number_on : (before : ℕ) (xs : List DocumentLine) (line : DocumentLine) → la
 number_on before [] line = refl
 number_on before (x ∷ xs) line = number_on (number_if_some before x.number (x.text ++ x.end)) xs line
 
-or_assoc : (a b c : Bool) → a || (b || c) ≡ (a || b) || c
-or_assoc true b c = refl
-or_assoc false b c = refl
-
 blank_on : (xs : List DocumentLine) (line : DocumentLine) → have_blank_nodes (xs ++ line ∷ []) ≡ have_blank_nodes xs || has_blank_node (triple_of_line line)
 blank_on [] line = or-false (has_blank_node (triple_of_line line))
-blank_on (x ∷ xs) line = ap (λ b. has_blank_node (triple_of_line x) || b) (blank_on xs line) ∙ or_assoc (has_blank_node (triple_of_line x)) (have_blank_nodes xs) (has_blank_node (triple_of_line line))
+blank_on (x ∷ xs) line = ap (λ b. has_blank_node (triple_of_line x) || b) (blank_on xs line) ∙ sym (or_assoc (has_blank_node (triple_of_line x)) (have_blank_nodes xs) (has_blank_node (triple_of_line line)))
 
 one_at_most : {X Y : Type 0} (h : X → Option Y) (x : X) (y : Option Y) → h x ≡ y → length (filter_map h (x ∷ [])) ≤ 1
 one_at_most h x None e = rw e (omega arith)
