@@ -1,6 +1,6 @@
 -- Parsing a complete text: its term or its error.
 use Rattle.std.proofs.Common.{◌≡◌, ℕ, ◌<◌, eqb, List, [], length, Result, Ok, Err, refl, sym, ap, subst, ◌∙◌, inl, inr, ◌⊎◌, arith, ne_eqb}
-use Rattle.std.specs.Prelude.{IsUtf8, IfOk, OnOk}
+use Rattle.std.specs.Prelude.{IsUtf8, IfOk, IfErr, OnOk}
 use Rattle.std.proofs.lemmas.Str.{utf8_valid_len-IsUtf8}
 use Rattle.std.proofs.lemmas.List.{append-nil, nil_from_length}
 use Rattle.std.proofs.lemmas.Bool.{eq-eqb, eqb-true}
@@ -14,7 +14,7 @@ use Rattle.hdt_terms.specs.Faults.{fault_at, out_of_memory, LocatesError, whole,
 use Rattle.hdt_terms.specs.Appending.{AppendsStringOfText}
 use Rattle.hdt_terms.specs.TermParsing.{Fails, term_at}
 use Rattle.hdt_terms.specs.Grammar.{EncodesTermForm, Encodes}
-use Rattle.hdt_terms.specs.Terms.{IsGrammarTerm}
+use Rattle.hdt_terms.specs.Terms.{IsGrammarTerm, dictionary_string}
 use Rattle.hdt_terms.proofs.Cases.{chosen}
 use Rattle.hdt_terms.proofs.TermSoundness.{term_found}
 use Rattle.hdt_terms.proofs.TermCompleteness.{whole_again}
@@ -84,6 +84,12 @@ found text (Err fault) e utf8 = tt
 
 pub only : (text : List ℕ) (r : Result Term TermFault) (term : Term) → EqualsUnlessOom r (term_in text) → Encodes text term → EqualsUnlessOom r (Ok term)
 only text r term reads s = subst (λ (read : Result Term TermFault). EqualsUnlessOom r read) (Encodes-term_in text term s) reads
+
+-- the term of the string that was appended
+pub made : (text string : List ℕ) (r : Result Term TermFault) → AppendsParsedTerm text [] string → IsUtf8 text → ((term : Term) → IsGrammarTerm term → string ≡ dictionary_string term → IfOk r (λ t. t ≡ term))
+    → IfErr r (λ fault. fault ≡ out_of_memory) → EqualsUnlessOom r (term_in text)
+made text string (Ok term) p utf8 ok err = p.reads ∙ ap Ok (sym (ok p.term (Encodes-IsGrammarTerm text p.term (term_in-Encodes text p.term utf8 p.reads)) p.whole))
+made text string (Err fault) p utf8 ok err = inl err
 
 pub puts_found : (text old new : List ℕ) → AppendsParsedTerm text old new → IsUtf8 text → AppendsStringOfText text old new
 puts_found text old new p utf8 =

@@ -13,7 +13,7 @@ use Rattle.hdt_terms.specs.ContentErrors.{IsEscape, EscapeAt, CheckFails, Conten
 use Rattle.hdt_terms.specs.TermParsing.{◌>>=◌, stops, prepend_read, iri_item, string_item, item, goes_on, skip_of, token_content}
 use Rattle.hdt_terms.proofs.ContentReading.{Reading, regroup}
 use Rattle.hdt_terms.proofs.ContentCompleteness.{piece_again}
-use Rattle.hdt_terms.proofs.ContentErrorSoundness.{escape_of, escape_at, at_reads}
+use Rattle.hdt_terms.proofs.ContentEscapes.{escape_of, escape_at, at_reads}
 use Rattle.hdt_terms.proofs.TagSoundness.{not_empty}
 
 none_reads : (o : Option (ℕ × ℕ)) (token : Token) (c : ℕ) (tail : List ℕ) → c ≡ 92 → escape_of token tail ≡ o → ((d : ℕ) → EscapeAt token (c ∷ tail) d → ⊥) → o ≡ None

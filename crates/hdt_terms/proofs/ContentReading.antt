@@ -2,6 +2,7 @@
 use Rattle.std.proofs.Common.{◌≡◌, ℕ, zero, suc, ◌≤◌, List, [], ◌∷◌, ◌++◌, length, drop, Result, Ok, Err, refl, sym, ap, ◌∙◌, append_assoc, arith}
 use Rattle.std.specs.Prelude.{encode_utf8}
 use Rattle.std.proofs.lemmas.List.{append-nil}
+use Rattle.hdt_terms.proofs.Cases.{ok_is}
 use Rattle.hdt_terms.specs.declared.fault.LineReason.TheVariants.{Syntax}
 use Rattle.hdt_terms.specs.declared.fault.FailedCheck.{FailedCheck}
 use Rattle.hdt_terms.specs.declared.fault.ReadError.{ReadError}
@@ -24,6 +25,16 @@ token_content-skip token (suc k) (c ∷ bytes) le = token_content-skip token k b
 pub regroup : (front xs : List ℕ) (read : Reading) → prepend_read front (prepend_read xs read) ≡ prepend_read (front ++ xs) read
 regroup front xs (Ok x) = ap (λ (ys : List ℕ). Ok (ys, x.1)) (sym (append_assoc front xs x.0))
 regroup front xs (Err f) = refl
+
+pub front_ok : (front : List ℕ) (read : Result (List ℕ × List ℕ) FailedCheck) (value rest : List ℕ) → prepend_read front read ≡ Ok (value, rest) → (more : List ℕ) × (read ≡ Ok (more, rest)) × (value ≡ front ++ more)
+front_ok front (Ok y) value rest e =
+    let both : (front ++ y.0, y.1) ≡ (value, rest) = ok_is _ _ e in
+    (y.0, ap (λ (r : List ℕ). Ok (y.0, r)) (ap (λ (p : List ℕ × List ℕ). p.1) both), sym (ap (λ (p : List ℕ × List ℕ). p.0) both))
+front_ok front (Err f) value rest e = absurd cc
+
+pub front_err : (front : List ℕ) (read : Result (List ℕ × List ℕ) FailedCheck) (s : FailedCheck) → prepend_read front read ≡ Err s → read ≡ Err s
+front_err front (Ok x) s e = absurd cc
+front_err front (Err t) s e = let same : t ≡ s = cc in ap Err same
 
 -- the state before an item: what was read, and the remaining bytes
 pub record At (token : Token) (front bytes tail : List ℕ) (c : ℕ) (total : Reading) : Type 0 where

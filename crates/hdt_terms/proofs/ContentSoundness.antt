@@ -1,81 +1,25 @@
--- Soundness for the content of a token: the text encodes what parsing reads.
-use Rattle.std.proofs.Common.{◌≡◌, ℕ, zero, suc, ◌≤◌, true, cond, eqb, leb, List, [], ◌∷◌, ◌++◌, length, take, drop, Option, Some, None, Result, Ok, Err, refl, sym, ap, subst, ◌∙◌, append_assoc, arith, inl, inr}
-use Rattle.std.specs.Prelude.{encode_utf8, option_and_then, not}
+-- Soundness for the content of a token: the text encodes what parsing reads, or a check fails after valid pieces.
+use Rattle.std.proofs.Common.{◌≡◌, ℕ, zero, suc, ◌≤◌, true, List, [], ◌∷◌, ◌++◌, length, drop, Option, Some, None, Result, Ok, Err, refl, sym, ap, subst, ◌∙◌, append_assoc, arith, inl, inr}
+use Rattle.std.specs.Prelude.{encode_utf8, not}
 use Rattle.std.specs.Option.{option_or}
 use Rattle.std.specs.List.{AllByRecursion}
-use lib.Utf8.{scalar}
-use Rattle.std.proofs.lemmas.Bool.{eqb-true, leb-true}
-use Rattle.std.proofs.lemmas.List.{take-append-drop, length-take}
-use Rattle.std.proofs.lemmas.Option.{same_Some}
+use Rattle.std.proofs.lemmas.List.{take-append-drop}
 use Rattle.hdt_terms.specs.declared.fault.FailedCheck.{FailedCheck}
-use Rattle.hdt_terms.specs.declared.fault.LineReason.TheVariants.{Syntax, IriCharacter, ZeroCharacter, RelativeIri}
 use Rattle.hdt_terms.specs.declared.escaped_tokens.TokenItem.{TokenItem}
 use Rattle.hdt_terms.specs.declared.escaped_tokens.TokenItem.TheVariants.{End, Byte, Char}
 use Rattle.hdt_terms.specs.declared.escaped_tokens.Token.{Token}
 use Rattle.hdt_terms.specs.declared.escaped_tokens.Token.TheVariants.{Iri, Quoted}
-use Rattle.hdt_terms.specs.Chars.{is_iri_char, is_string_char, is_absolute, hex_value, echar}
-use Rattle.hdt_terms.specs.Grammar.{Piece, raw, letter, short, long, piece_text, piece_value, pieces_text, pieces_value, WritesHex, closing_byte, is_unescaped, is_escapable, IsTokenPiece, EncodesIri}
-use Rattle.hdt_terms.specs.TermParsing.{◌>>=◌, stops, prepend_read, hex_escape, uchar, echar_at, iri_escape, string_escape, iri_item, string_item, item, goes_on, skip_of, token_content, require_absolute, iri_at}
-use Rattle.hdt_terms.specs.ContentErrors.{IsEscape}
-use Rattle.hdt_terms.proofs.Cases.{bind_ok, chosen, some_then, ok_is}
+use Rattle.hdt_terms.specs.Chars.{is_iri_char, is_string_char, is_absolute}
+use Rattle.hdt_terms.specs.Grammar.{Piece, raw, piece_text, piece_value, pieces_text, pieces_value, closing_byte, is_unescaped, is_escapable, IsTokenPiece, EncodesIri}
+use Rattle.hdt_terms.specs.TermParsing.{◌>>=◌, prepend_read, uchar, echar_at, iri_escape, string_escape, iri_item, string_item, item, goes_on, skip_of, token_content, require_absolute, iri_at}
+use Rattle.hdt_terms.specs.ContentErrors.{EscapeAt, CheckFails, ContentCheckFails}
+use Rattle.std.proofs.lemmas.Bool.{cases_Bool}
+use Rattle.std.proofs.lemmas.Bool.Decides.{eqb_tells}
+use Rattle.hdt_terms.specs.Grammar.{EncodesContent}
+use Rattle.hdt_terms.specs.TermErrors.{IriCheckFails, no_iri, in_iri, relative}
+use Rattle.hdt_terms.proofs.ContentEscapes.{Escapes, escape_at, escape_found, no_escape}
 
-scalar_of : (n : ℕ) → ℕ → Option (ℕ × ℕ)
-scalar_of n c = cond (scalar c) (Some (c, suc n)) None
-
--- n hexadecimal digits are at the front
-pub escaped_writes : (n : ℕ) (ds : List ℕ) (c k : ℕ) → hex_escape n ds ≡ Some (c, k) → WritesHex n (take n ds) c × (k ≡ suc n) × (n ≤ length ds)
-unfolding scalar_of
-escaped_writes n ds c k e =
-    elim (chosen (leb n (length ds)) (option_and_then (scalar_of n) (hex_value (take n ds))) None (Some (c, k)) e) [
-      | inl p ↦
-          let le : n ≤ length ds = leb-true _ _ p.0 in
-          let q = some_then (hex_value (take n ds)) (scalar_of n) (c, k) p.1 in
-          elim (chosen (scalar q.0) (Some (q.0, suc n)) None (Some (c, k)) q.2) [
-            | inl r ↦
-                let both : (q.0, suc n) ≡ (c, k) = same_Some _ _ r.1 in
-                let same : q.0 ≡ c = ap (λ (p : ℕ × ℕ). p.0) both in
-                (record { len = omega (arith, length-take n ds); value = q.1 ∙ ap Some same; scalar = subst (λ (d : ℕ). scalar d ≡ true) same r.0 }, sym (ap (λ (p : ℕ × ℕ). p.1) both), le)
-            | inr r ↦ absurd cc
-          ]
-      | inr p ↦ absurd cc
-    ]
-
--- an escape is a piece
-pub record Escapes (token : Token) (rest : List ℕ) (c k : ℕ) : Type 0 where
-  pub piece : Piece
-  pub len : k ≤ length rest
-  pub whole : 92 ∷ take k rest ≡ piece_text piece
-  pub means : piece_value piece ≡ encode_utf8 c
-  pub escape : IsEscape token piece c
-  pub fits : is_escapable token c ≡ true → IsTokenPiece token piece
-
-pub uchar_escapes : (token : Token) (rest : List ℕ) (c k : ℕ) → uchar rest ≡ Some (c, k) → Escapes token rest c k
-unfolding uchar
-uchar_escapes token [] c k e = absurd cc
-uchar_escapes token (u ∷ ds) c k e =
-    elim (chosen (eqb u 117) (hex_escape 4 ds) (cond (eqb u 85) (hex_escape 8 ds) None) (Some (c, k)) e) [
-      | inl p ↦
-          let w = escaped_writes 4 ds c k p.1 in
-          let is_u : u ≡ 117 = eqb-true _ _ p.0 in
-          record { piece = short (take 4 ds) c; len = omega arith; whole = rw (w.1, is_u) refl; means = refl; escape = (w.0, refl); fits = λ ok. (w.0, ok) }
-      | inr p ↦
-          elim (chosen (eqb u 85) (hex_escape 8 ds) None (Some (c, k)) p.1) [
-            | inl q ↦
-                let w = escaped_writes 8 ds c k q.1 in
-                let is_u : u ≡ 85 = eqb-true _ _ q.0 in
-                record { piece = long (take 8 ds) c; len = omega arith; whole = rw (w.1, is_u) refl; means = refl; escape = (w.0, refl); fits = λ ok. (w.0, ok) }
-            | inr q ↦ absurd cc
-          ]
-    ]
-
-echar_escapes : (rest : List ℕ) (c k : ℕ) → echar_at rest ≡ Some (c, k) → Escapes Quoted rest c k
-echar_escapes [] c k e = absurd cc
-echar_escapes (l ∷ rest) c k e =
-    let q = some_then (echar l) (λ d. Some (d, 1)) (c, k) e in
-    let both : (q.0, 1) ≡ (c, k) = same_Some _ _ q.2 in
-    let same : q.0 ≡ c = ap (λ (p : ℕ × ℕ). p.0) both in
-    let one : k ≡ 1 = sym (ap (λ (p : ℕ × ℕ). p.1) both) in
-    record { piece = letter l c; len = omega arith; whole = rw one refl; means = refl; escape = (q.1 ∙ ap Some same, refl); fits = λ _. q.1 ∙ ap Some same }
+-- ---- one item
 
 -- what an item implies about the bytes that it was parsed from
 abbrev pub ItemFits : Token → ℕ → List ℕ → TokenItem → Type 0
@@ -83,158 +27,146 @@ ItemFits token c rest End = c ≡ closing_byte token
 ItemFits token c rest (Byte b) = (b ≡ c) × (is_unescaped token c ≡ true)
 ItemFits token c rest (Char d k) = (c ≡ 92) × Escapes token rest d k × (is_escapable token d ≡ true)
 
-iri_escape_fits : (o : Option (ℕ × ℕ)) (c : ℕ) (rest left : List ℕ) (x : TokenItem) → uchar rest ≡ o → c ≡ 92 → iri_escape o left ≡ Ok x → ItemFits Iri c rest x
-iri_escape_fits None c rest left x u is e = absurd cc
-iri_escape_fits (Some p) c rest left x u is e =
-    elim (chosen (eqb p.0 0) (stops ZeroCharacter left) (cond (is_iri_char p.0) (Ok (Char p.0 p.1)) (stops IriCharacter left)) (Ok x) e) [
-      | inl q ↦ absurd cc
+-- the same, or the check that fails there
+abbrev pub ItemSays : Token → ℕ → List ℕ → Result TokenItem FailedCheck → Type 0
+ItemSays token c rest (Ok x) = ItemFits token c rest x
+ItemSays token c rest (Err s) = (s.left ≡ length (c ∷ rest)) × CheckFails token s.reason (c ∷ rest)
+
+iri_escape_says : (o : Option (ℕ × ℕ)) (c : ℕ) (rest : List ℕ) → uchar rest ≡ o → c ≡ 92 → ItemSays Iri c rest (iri_escape o (c ∷ rest))
+iri_escape_says None c rest u is = (refl, (is, λ d at. no_escape Iri c rest d u at))
+iri_escape_says (Some p) c rest u is =
+    let at : EscapeAt Iri (c ∷ rest) p.0 = escape_at Iri c rest p.0 p.1 is u in
+    elim (eqb_tells p.0 0) [
+      | inl q ↦ rw q.0 (refl, subst (λ (d : ℕ). EscapeAt Iri (c ∷ rest) d) q.1 at)
       | inr q ↦
-          elim (chosen (is_iri_char p.0) (Ok (Char p.0 p.1)) (stops IriCharacter left) (Ok x) q.1) [
-            | inl r ↦
-                let x-is : Char p.0 p.1 ≡ x = cc in
-                subst (λ (y : TokenItem). ItemFits Iri c rest y) x-is (is, uchar_escapes Iri rest p.0 p.1 u, r.0)
-            | inr r ↦ absurd cc
+          elim (cases_Bool (is_iri_char p.0)) [
+            | inl r ↦ rw (r, q.0) (is, escape_found Iri rest p.0 p.1 u, r)
+            | inr r ↦ rw (r, q.0) (refl, (p.0, at, q.1, r))
           ]
     ]
 
-iri_item_fits : (c : ℕ) (rest : List ℕ) (x : TokenItem) → iri_item c rest ≡ Ok x → ItemFits Iri c rest x
+iri_item_says : (c : ℕ) (rest : List ℕ) → ItemSays Iri c rest (iri_item c rest)
 unfolding iri_item
-iri_item_fits c rest x e =
-    elim (chosen (eqb c 62) (Ok End) (cond (eqb c 92) (iri_escape (uchar rest) (c ∷ rest)) (cond (is_iri_char c) (Ok (Byte c)) (stops Syntax (c ∷ rest)))) (Ok x) e) [
-      | inl p ↦
-          let x-is : End ≡ x = cc in
-          subst (λ (y : TokenItem). ItemFits Iri c rest y) x-is (eqb-true _ _ p.0)
+iri_item_says c rest =
+    elim (eqb_tells c 62) [
+      | inl p ↦ rw p.0 p.1
       | inr p ↦
-          elim (chosen (eqb c 92) (iri_escape (uchar rest) (c ∷ rest)) (cond (is_iri_char c) (Ok (Byte c)) (stops Syntax (c ∷ rest))) (Ok x) p.1) [
-            | inl q ↦ iri_escape_fits (uchar rest) c rest (c ∷ rest) x refl (eqb-true _ _ q.0) q.1
+          elim (eqb_tells c 92) [
+            | inl q ↦ rw (p.0, q.0) (iri_escape_says (uchar rest) c rest refl q.1)
             | inr q ↦
-                elim (chosen (is_iri_char c) (Ok (Byte c)) (stops Syntax (c ∷ rest)) (Ok x) q.1) [
-                  | inl r ↦
-                      let x-is : Byte c ≡ x = cc in
-                      subst (λ (y : TokenItem). ItemFits Iri c rest y) x-is (refl, r.0)
-                  | inr r ↦ absurd cc
+                elim (cases_Bool (is_iri_char c)) [
+                  | inl r ↦ rw (r, p.0, q.0) (refl, r)
+                  | inr r ↦ rw (r, p.0, q.0) (refl, (p.1, q.1, r))
                 ]
           ]
     ]
 
-pub string_escapes : (rest : List ℕ) (c k : ℕ) (o : Option (ℕ × ℕ)) → echar_at rest ≡ o → option_or o (uchar rest) ≡ Some (c, k) → Escapes Quoted rest c k
-string_escapes rest c k None is e = uchar_escapes Quoted rest c k e
-string_escapes rest c k (Some p) is e = echar_escapes rest c k (is ∙ e)
-
-string_escape_fits : (o : Option (ℕ × ℕ)) (c : ℕ) (rest left : List ℕ) (x : TokenItem) → option_or (echar_at rest) (uchar rest) ≡ o → c ≡ 92 → string_escape o left ≡ Ok x → ItemFits Quoted c rest x
-string_escape_fits None c rest left x u is e = absurd cc
-string_escape_fits (Some p) c rest left x u is e =
-    elim (chosen (eqb p.0 0) (stops ZeroCharacter left) (Ok (Char p.0 p.1)) (Ok x) e) [
-      | inl q ↦ absurd cc
-      | inr q ↦
-          let x-is : Char p.0 p.1 ≡ x = cc in
-          subst (λ (y : TokenItem). ItemFits Quoted c rest y) x-is (is, string_escapes rest p.0 p.1 (echar_at rest) refl u, ap not q.0)
+string_escape_says : (o : Option (ℕ × ℕ)) (c : ℕ) (rest : List ℕ) → option_or (echar_at rest) (uchar rest) ≡ o → c ≡ 92 → ItemSays Quoted c rest (string_escape o (c ∷ rest))
+string_escape_says None c rest u is = (refl, (is, λ d at. no_escape Quoted c rest d u at))
+string_escape_says (Some p) c rest u is =
+    elim (eqb_tells p.0 0) [
+      | inl q ↦ rw q.0 (refl, inr (subst (λ (d : ℕ). EscapeAt Quoted (c ∷ rest) d) q.1 (escape_at Quoted c rest p.0 p.1 is u)))
+      | inr q ↦ rw q.0 (is, escape_found Quoted rest p.0 p.1 u, ap not q.0)
     ]
 
-string_item_fits : (c : ℕ) (rest : List ℕ) (x : TokenItem) → string_item c rest ≡ Ok x → ItemFits Quoted c rest x
+string_item_says : (c : ℕ) (rest : List ℕ) → ItemSays Quoted c rest (string_item c rest)
 unfolding string_item
-string_item_fits c rest x e =
-    let escape : Result TokenItem FailedCheck = string_escape (option_or (echar_at rest) (uchar rest)) (c ∷ rest) in
-    let byte : Result TokenItem FailedCheck = cond (is_string_char c) (Ok (Byte c)) (stops Syntax (c ∷ rest)) in
-    let not_escape : Result TokenItem FailedCheck = cond (eqb c 0) (stops ZeroCharacter (c ∷ rest)) byte in
-    elim (chosen (eqb c 34) (Ok End) (cond (eqb c 92) escape not_escape) (Ok x) e) [
-      | inl p ↦
-          let x-is : End ≡ x = cc in
-          subst (λ (y : TokenItem). ItemFits Quoted c rest y) x-is (eqb-true _ _ p.0)
+string_item_says c rest =
+    elim (eqb_tells c 34) [
+      | inl p ↦ rw p.0 p.1
       | inr p ↦
-          elim (chosen (eqb c 92) escape not_escape (Ok x) p.1) [
-            | inl q ↦ string_escape_fits (option_or (echar_at rest) (uchar rest)) c rest (c ∷ rest) x refl (eqb-true _ _ q.0) q.1
+          elim (eqb_tells c 92) [
+            | inl q ↦ rw (p.0, q.0) (string_escape_says (option_or (echar_at rest) (uchar rest)) c rest refl q.1)
             | inr q ↦
-                elim (chosen (eqb c 0) (stops ZeroCharacter (c ∷ rest)) byte (Ok x) q.1) [
-                  | inl r ↦ absurd cc
+                elim (eqb_tells c 0) [
+                  | inl r ↦ rw (p.0, q.0, r.0) (refl, inl r.1)
                   | inr r ↦
-                      elim (chosen (is_string_char c) (Ok (Byte c)) (stops Syntax (c ∷ rest)) (Ok x) r.1) [
-                        | inl t ↦
-                            let x-is : Byte c ≡ x = cc in
-                            subst (λ (y : TokenItem). ItemFits Quoted c rest y) x-is (refl, rw (r.0, t.0) refl)
-                        | inr t ↦ absurd cc
+                      elim (cases_Bool (is_string_char c)) [
+                        | inl t ↦ rw (t, p.0, q.0, r.0) (refl, rw (r.0, t) refl)
+                        | inr t ↦ rw (t, p.0, q.0, r.0) (refl, (p.1, q.1, t))
                       ]
                 ]
           ]
     ]
 
-pub item_fits : (token : Token) (c : ℕ) (rest : List ℕ) (x : TokenItem) → item token c rest ≡ Ok x → ItemFits token c rest x
-item_fits Iri c rest x e = iri_item_fits c rest x e
-item_fits Quoted c rest x e = string_item_fits c rest x e
+item_says : (token : Token) (c : ℕ) (rest : List ℕ) → ItemSays token c rest (item token c rest)
+item_says Iri c rest = iri_item_says c rest
+item_says Quoted c rest = string_item_says c rest
 
--- after the skipped bytes there are pieces and a closing delimiter
+-- ---- the content
+
+-- pieces and a closing delimiter
 pub record Found (token : Token) (bytes value rest : List ℕ) : Type 0 where
   pub pieces : List Piece
   pub each : AllByRecursion (IsTokenPiece token) pieces
   pub whole : bytes ≡ pieces_text pieces ++ (closing_byte token ∷ rest)
   pub means : value ≡ pieces_value pieces
 
-Found-more : (token : Token) (p : Piece) (bytes value rest : List ℕ) → IsTokenPiece token p → Found token bytes value rest → Found token (piece_text p ++ bytes) (piece_value p ++ value) rest
-Found-more token p bytes value rest fits f = record {
+-- the same, or pieces and a failed check
+abbrev pub ContentSays : Token → List ℕ → Result (List ℕ × List ℕ) FailedCheck → Type 0
+ContentSays token bytes (Ok x) = Found token bytes x.0 x.1
+ContentSays token bytes (Err s) = ContentCheckFails token bytes s
+
+piece_then : (token : Token) (p : Piece) (bytes bytes' front : List ℕ) (r : Result (List ℕ × List ℕ) FailedCheck) → IsTokenPiece token p → bytes' ≡ piece_text p ++ bytes → front ≡ piece_value p → ContentSays token bytes r → ContentSays token bytes' (prepend_read front r)
+piece_then token p bytes bytes' front (Ok x) fits e v f = record {
   pieces = p ∷ f.pieces;
   each = (fits, f.each);
-  whole = ap (λ (bs : List ℕ). piece_text p ++ bs) f.whole ∙ sym (append_assoc (piece_text p) (pieces_text f.pieces) (closing_byte token ∷ rest));
-  means = ap (λ (bs : List ℕ). piece_value p ++ bs) f.means;
+  whole = e ∙ ap (λ (bs : List ℕ). piece_text p ++ bs) f.whole ∙ sym (append_assoc (piece_text p) (pieces_text f.pieces) (closing_byte token ∷ x.1));
+  means = ap (λ (bs : List ℕ). bs ++ x.0) v ∙ ap (λ (bs : List ℕ). piece_value p ++ bs) f.means;
+}
+piece_then token p bytes bytes' front (Err s) fits e v f = record {
+  pieces = p ∷ f.pieces;
+  rest = f.rest;
+  each = (fits, f.each);
+  whole = e ∙ ap (λ (bs : List ℕ). piece_text p ++ bs) f.whole ∙ sym (append_assoc (piece_text p) (pieces_text f.pieces) f.rest);
+  left = f.left;
+  row = f.row;
 }
 
-Found-at : (token : Token) (bytes bytes' value value' rest : List ℕ) → Found token bytes value rest → bytes ≡ bytes' → value ≡ value' → Found token bytes' value' rest
-Found-at token bytes bytes' value value' rest f e d = record { pieces = f.pieces; each = f.each; whole = sym e ∙ f.whole; means = sym d ∙ f.means }
+item_then : (token : Token) (c : ℕ) (tail : List ℕ) (r : Result TokenItem FailedCheck) → ItemSays token c tail r → ((k : ℕ) → k ≤ length tail → ContentSays token (drop k tail) (token_content token k tail))
+    → ContentSays token (c ∷ tail) (r >>= λ x. goes_on x tail (token_content token (skip_of x) tail))
+item_then token c tail (Err s) h ih = record { pieces = []; rest = c ∷ tail; each = tt; whole = refl; left = h.0; row = h.1 }
+item_then token c tail (Ok End) h ih = record { pieces = []; each = tt; whole = ap (λ (b : ℕ). b ∷ tail) h; means = refl }
+item_then token c tail (Ok (Byte b)) h ih = piece_then token (raw c) tail (c ∷ tail) (b ∷ []) (token_content token 0 tail) h.1 refl (ap (λ (d : ℕ). d ∷ []) h.0) (ih 0 (omega arith))
+item_then token c tail (Ok (Char d k)) h ih =
+    let x = h.1 in
+    let whole : c ∷ tail ≡ piece_text x.piece ++ drop k tail = rw (h.0, ← x.whole) (ap (λ (bs : List ℕ). 92 ∷ bs) (sym (take-append-drop k tail))) in
+    piece_then token x.piece (drop k tail) (c ∷ tail) (encode_utf8 d) (token_content token k tail) (x.fits h.2) whole (sym x.means) (ih k x.len)
 
-pub front_ok : (front : List ℕ) (read : Result (List ℕ × List ℕ) FailedCheck) (value rest : List ℕ) → prepend_read front read ≡ Ok (value, rest) → (more : List ℕ) × (read ≡ Ok (more, rest)) × (value ≡ front ++ more)
-front_ok front (Ok y) value rest e =
-    let both : (front ++ y.0, y.1) ≡ (value, rest) = ok_is _ _ e in
-    (y.0, ap (λ (r : List ℕ). Ok (y.0, r)) (ap (λ (p : List ℕ × List ℕ). p.1) both), sym (ap (λ (p : List ℕ × List ℕ). p.0) both))
-front_ok front (Err f) value rest e = absurd cc
-
-goes_found : (token : Token) (c : ℕ) (tail : List ℕ) (x : TokenItem) (value rest : List ℕ) → ItemFits token c tail x
-    → ((k : ℕ) (more : List ℕ) → token_content token k tail ≡ Ok (more, rest) → Found token (drop k tail) more rest)
-    → goes_on x tail (token_content token (skip_of x) tail) ≡ Ok (value, rest) → Found token (c ∷ tail) value rest
-goes_found token c tail End value rest fits ih e =
-    let both : ([], tail) ≡ (value, rest) = ok_is _ _ e in
-    let same : tail ≡ rest = ap (λ (p : List ℕ × List ℕ). p.1) both in
-    let none : value ≡ [] = sym (ap (λ (p : List ℕ × List ℕ). p.0) both) in
-    record { pieces = []; each = tt; whole = rw (fits, same) refl; means = none }
-goes_found token c tail (Byte b) value rest fits ih e =
-    let f = front_ok (b ∷ []) (token_content token 0 tail) value rest e in
-    Found-at token _ (c ∷ tail) _ value rest (Found-more token (raw c) tail f.0 rest fits.1 (ih 0 f.0 f.1)) refl (ap (λ (d : ℕ). d ∷ f.0) (sym fits.0) ∙ sym f.2)
-goes_found token c tail (Char d k) value rest fits ih e =
-    let f = front_ok (encode_utf8 d) (token_content token k tail) value rest e in
-    let x = fits.1 in
-    let whole : c ∷ tail ≡ piece_text x.piece ++ drop k tail = rw (fits.0, ← x.whole) (ap (λ (bs : List ℕ). 92 ∷ bs) (sym (take-append-drop k tail))) in
-    Found-at token _ (c ∷ tail) _ value rest (Found-more token x.piece (drop k tail) f.0 rest (x.fits fits.2) (ih k f.0 f.1)) (sym whole) (ap (λ (bs : List ℕ). bs ++ f.0) x.means ∙ sym f.2)
-
-pub inside_found : (token : Token) (k : ℕ) (bytes value rest : List ℕ) → token_content token k bytes ≡ Ok (value, rest) → Found token (drop k bytes) value rest
+pub inside_says : (token : Token) (k : ℕ) (bytes : List ℕ) → k ≤ length bytes → ContentSays token (drop k bytes) (token_content token k bytes)
 unfolding token_content
-inside_found token zero [] value rest e = absurd cc
-inside_found token (suc k) [] value rest e = absurd cc
-inside_found token zero (c ∷ tail) value rest e =
-    let b = bind_ok (item token c tail) (λ x. goes_on x tail (token_content token (skip_of x) tail)) (value, rest) e in
-    goes_found token c tail b.0 value rest (item_fits token c tail b.0 b.1) (λ k more h. inside_found token k tail more rest h) b.2
-inside_found token (suc k) (c ∷ tail) value rest e = inside_found token k tail value rest e
+inside_says token zero [] le = record { pieces = []; rest = []; each = tt; whole = refl; left = refl; row = tt }
+inside_says token (suc k) [] le = absurd (omega arith)
+inside_says token (suc k) (c ∷ tail) le = inside_says token k tail (omega arith)
+inside_says token zero (c ∷ tail) le = item_then token c tail (item token c tail) (item_says token c tail) (λ k short. inside_says token k tail short)
 
 -- ---- IRIs
 
-pub iri_found : (bytes iri rest : List ℕ) → iri_at bytes ≡ Ok (iri, rest) → (text : List ℕ) × EncodesIri text iri × (bytes ≡ text ++ rest)
-unfolding iri_at
-iri_found [] iri rest e = absurd cc
-iri_found (c ∷ tail) iri rest e =
-    elim (chosen (eqb c 60) (token_content Iri 0 tail >>= require_absolute (c ∷ tail)) (stops Syntax (c ∷ tail)) (Ok (iri, rest)) e) [
-      | inl p ↦
-          let b = bind_ok (token_content Iri 0 tail) (require_absolute (c ∷ tail)) (iri, rest) p.1 in
-          elim (chosen (is_absolute b.0.0) (Ok b.0) (stops RelativeIri (c ∷ tail)) (Ok (iri, rest)) b.2) [
-            | inl q ↦
-                let same : b.0 ≡ (iri, rest) = ok_is _ _ q.1 in
-                let f = inside_found Iri 0 tail iri rest (b.1 ∙ ap (λ (x : List ℕ × List ℕ). Ok x) same) in (
-                  60 ∷ (pieces_text f.pieces ++ 62 ∷ []),
-                  record {
-                    inner = pieces_text f.pieces;
-                    token_content = record { pieces = f.pieces; each = f.each; whole = refl; means = f.means };
-                    whole = refl;
-                    absolute = ap (λ (x : List ℕ × List ℕ). is_absolute x.0) (sym same) ∙ q.0;
-                  },
-                  ap (λ (d : ℕ). d ∷ tail) (eqb-true _ _ p.0) ∙ ap (λ (bs : List ℕ). 60 ∷ bs) (f.whole ∙ sym (append_assoc (pieces_text f.pieces) (62 ∷ []) rest)),
-                )
-            | inr q ↦ absurd cc
-          ]
-      | inr p ↦ absurd cc
+-- an IRI and what follows it, or the check that fails
+abbrev pub IriSays : List ℕ → Result (List ℕ × List ℕ) FailedCheck → Type 0
+IriSays bytes (Ok x) = (text : List ℕ) × EncodesIri text x.0 × (bytes ≡ text ++ x.1)
+IriSays bytes (Err s) = IriCheckFails bytes s
+
+iri_then : (c : ℕ) (tail : List ℕ) (r : Result (List ℕ × List ℕ) FailedCheck) → c ≡ 60 → ContentSays Iri tail r → IriSays (c ∷ tail) (r >>= require_absolute (c ∷ tail))
+iri_then c tail (Err s) is h = in_iri tail (ap (λ (b : ℕ). b ∷ tail) is) h
+iri_then c tail (Ok x) is h =
+    let inner = pieces_text h.pieces in
+    let content : EncodesContent Iri inner x.0 = record { pieces = h.pieces; each = h.each; whole = refl; means = h.means } in
+    let whole : c ∷ tail ≡ 60 ∷ (inner ++ 62 ∷ x.1) = ap (λ (b : ℕ). b ∷ tail) is ∙ ap (λ (bs : List ℕ). 60 ∷ bs) h.whole in
+    elim (cases_Bool (is_absolute x.0)) [
+      | inl q ↦
+          rw q (
+            60 ∷ (inner ++ 62 ∷ []),
+            record { inner = inner; token_content = content; whole = refl; absolute = q },
+            whole ∙ ap (λ (bs : List ℕ). 60 ∷ bs) (sym (append_assoc inner (62 ∷ []) x.1)),
+          )
+      | inr q ↦ rw q (relative inner x.0 x.1 content whole q refl)
     ]
+
+pub iri_says : (bytes : List ℕ) → IriSays bytes (iri_at bytes)
+unfolding iri_at
+iri_says [] = no_iri tt refl
+iri_says (c ∷ tail) = elim (eqb_tells c 60) [
+  | inl p ↦ rw p.0 (iri_then c tail (token_content Iri 0 tail) p.1 (inside_says Iri 0 tail (omega arith)))
+  | inr p ↦ rw p.0 (no_iri p.0 refl)
+]

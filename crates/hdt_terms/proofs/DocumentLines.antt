@@ -1,22 +1,22 @@
 -- Reading the lines of a document, and what is written for them.
-use Rattle.std.proofs.Common.{◌≡◌, ◌⊎◌, ◌+◌, ◌-◌, ◌<◌, ◌≤◌, ◌^◌, ℕ, Bool, true, false, List, [], ◌∷◌, ◌++◌, length, take, drop, Option, None, Some, refl, sym, ap, subst, ◌∙◌, inl, inr, arith, append_assoc, append-nil, take-append-drop, zero-add, add-zero}
+use Rattle.std.proofs.Common.{◌≡◌, ◌⊎◌, ◌+◌, ◌<◌, ◌≤◌, ℕ, Bool, true, false, List, [], ◌∷◌, ◌++◌, length, take, drop, Option, None, Some, refl, sym, ap, subst, ◌∙◌, inl, inr, arith, append_assoc, append-nil, zero-add, add-zero}
 use Rattle.std.proofs.lemmas.List.{length-append, length-take-le}
 use Rattle.std.proofs.Math.Seq.{drop-append_seam}
 use Rattle.std.proofs.lemmas.List.Elements.{All-head, All-tail, filter_map-append}
 use Rattle.std.proofs.lemmas.Grind.{flat_map-append}
 use Rattle.std.proofs.KnownBytes.{Appends-nil, Appends-trans}
 use Rattle.std.specs.Int.{from_bool}
-use Rattle.std.specs.Io.KnownBytes.{Appends, Consumes, IsAtEnd, prepend_known}
+use Rattle.std.specs.Io.KnownBytes.{Appends, IsAtEnd}
 use Rattle.hdt_terms.specs.Chars.{is_line_end}
 use Rattle.hdt_terms.specs.Lines.{HasNoLineEnd, count_line_ends, ends_in_cr}
 use Rattle.hdt_terms.specs.LinesReader.{LinesState, Takes, left, line_number, start}
-use Rattle.hdt_terms.specs.LinesTexts.{IsNextLineError}
-use Rattle.hdt_terms.specs.WholeLines.{TakesWholeLine}
+use Rattle.hdt_terms.specs.LinesTexts.{TakesWholeLine, IsNextLineError}
 use Rattle.hdt_terms.specs.Lint.{AreDocumentLines, AreEndedLines, BeginsWithLines, DocumentLine, FaultAfterDocumentLines, GainsAllBut, GainsPrefix, LintsUntilFault, document_lines, fault_of_line, fault_reports, faulty_lines, kept_if, kept_line, kept_lines, last_faulty, last_faulty_of, lines_without_faults, numbered, report_if_faulty}
 use Rattle.hdt_terms.specs.declared.fault.LineFault.{LineFault}
 use Rattle.hdt_terms.specs.declared.lint.LintFault.{LintFault}
-use Rattle.hdt_terms.specs.declared.lint.LintFault.TheVariants.{Line, Write, OutOfMemory}
+use Rattle.hdt_terms.specs.declared.lint.LintFault.TheVariants.{Write, OutOfMemory}
 use Rattle.hdt_terms.proofs.LineEndCounts.{head_no_cr, head_no_lf, ends_in_cr-append, ends_in_cr-ended, count_line_ends-append, count_line_ends-no_end, Takes-trans}
+use Rattle.hdt_terms.proofs.TripleRuns.{nothing_taken}
 
 -- ---- one line at the front
 
@@ -58,15 +58,11 @@ pub record HasReadLines (s : LinesState) (input left : Option (List ℕ)) (lines
   pub takes : Takes (start 9223372036854775807) s input left front
   pub are : ((s.ended ≡ false) × AreEndedLines front lines) ⊎ ((s.ended ≡ true) × (document_lines false 0 front ≡ lines) × IsAtEnd left)
 
-known_front : (input : Option (List ℕ)) → Consumes input (prepend_known [] input) []
-known_front None = tt
-known_front (Some bytes) = refl
-
 pub none_read : (s : LinesState) (input : Option (List ℕ)) → s ≡ start 9223372036854775807 → HasReadLines s input (left s input) []
 none_read s input is =
     subst (λ (t : LinesState). HasReadLines t input (left t input) []) (sym is) (record {
       front = [];
-      takes = record { consumed = known_front input; taken = refl; ends = refl; after_cr = refl; within = omega arith; limit = refl; failed = refl };
+      takes = record { consumed = nothing_taken input; taken = refl; ends = refl; after_cr = refl; within = omega arith; limit = refl; failed = refl };
       are = inl (refl, λ rest. refl);
     })
 
@@ -171,7 +167,7 @@ wrote_all a b text pending h none = subst (Appends a b) (sym (h.1 ∙ ap (λ t. 
 pub wrote_none : (a : Option (List ℕ)) (text : List ℕ) → GainsAllBut a a text text
 wrote_none a text = ([], refl, Appends-nil a)
 
-grown : (a b : Option (List ℕ)) (text pending more new : List ℕ) → GainsAllBut a b text pending → new ≡ pending ++ more → GainsAllBut a b (text ++ more) new
+pub grown : (a b : Option (List ℕ)) (text pending more new : List ℕ) → GainsAllBut a b text pending → new ≡ pending ++ more → GainsAllBut a b (text ++ more) new
 grown a b text pending more new (gone, is, gained) e = (gone, ap (λ t. t ++ more) is ∙ append_assoc gone pending more ∙ ap (λ t. gone ++ t) (sym e), gained)
 
 -- What the writers have gained for these lines, and what is pending.

@@ -1,21 +1,18 @@
 -- A parsed label is a label, and a label is parsed in full.
-use Rattle.std.proofs.Common.{◌≡◌, ℕ, Bool, true, false, cond, eqb, List, [], ◌∷◌, ◌++◌, length, take, drop, Option, Some, None, Ok, refl, sym, ap, subst, ◌∙◌, inl, inr, arith}
-use Rattle.std.specs.Prelude.{◌&&◌, ◌||◌, IsUtf8, encode_utf8_all, option_map}
+use Rattle.std.proofs.Common.{◌≡◌, ℕ, Bool, true, false, cond, eqb, List, [], ◌∷◌, ◌++◌, length, take, drop, Option, Some, None, Ok, refl, sym, ap, subst, ◌∙◌, inl, inr}
+use Rattle.std.specs.Prelude.{◌||◌, IsUtf8, encode_utf8, encode_utf8_all, option_map}
 use Rattle.std.specs.Str.{chars}
 use lib.Utf8.{scalar, scalars}
-use Rattle.std.proofs.lemmas.Bool.{eqb-true}
+use Rattle.std.proofs.lemmas.Bool.{cases_Bool, eqb-true}
 use Rattle.std.proofs.lemmas.List.{take_at, drop_at}
-use Rattle.std.proofs.lemmas.Str.{chars-encodes, encodes-append, encodes-chars, scalars-chars, chars-append}
-use Rattle.hdt_terms.specs.declared.fault.LineReason.TheVariants.{Syntax}
+use Rattle.std.proofs.lemmas.Str.{chars-encodes, encodes-append, encodes-chars, scalars-chars, chars-append, chars_past_char}
 use Rattle.hdt_terms.specs.Chars.{is_pn_chars, is_label_start}
 use Rattle.hdt_terms.specs.Labels.{dot_if_continued, label_rest, is_label_rest, is_label, label_prefix, label_bytes}
-use Rattle.hdt_terms.specs.TermParsing.{stops, cut_label, blank_at}
+use Rattle.hdt_terms.specs.TermParsing.{blank_at}
 use Rattle.hdt_terms.specs.Terms.{IsLabel}
 use Rattle.hdt_terms.specs.Writing.{Extends}
 use Rattle.hdt_terms.proofs.Bools.{and_first, and_second, and_both}
-use Rattle.hdt_terms.proofs.Cases.{chosen, ok_is}
 use Rattle.hdt_terms.proofs.Fronts.{no_front, front_cons}
-use Rattle.hdt_terms.proofs.Utf8.{behind_ascii}
 
 -- ---- the parsed label is a prefix, and a label
 
@@ -73,47 +70,27 @@ cut_at text label utf8 f =
       scalar = scalars_front label f.more (ap scalars (sym f.whole) ∙ scalars-chars text utf8);
     }
 
--- ---- the blank node
+-- the parsed label is a label, or the text doesn't begin with one
+abbrev pub LabelSays : List ℕ → Option ℕ → Type 0
+LabelSays text (Some n) = IsLabel (take n text)
+LabelSays text None = (c : ℕ) (more : List ℕ) → is_label_start c ≡ true → text ≡ encode_utf8 c ++ more → ⊥
 
-pub record BlankFound (bytes label rest : List ℕ) : Type 0 where
-  pub form : is_label (chars label) ≡ true
-  pub utf8 : IsUtf8 label
-  pub whole : bytes ≡ 95 ∷ 58 ∷ (label ++ rest)
+chars_says : (cs text : List ℕ) → IsUtf8 text → chars text ≡ cs → LabelSays text (label_bytes cs)
+chars_says [] text utf8 is = λ c more starts whole. let none : c ∷ chars more ≡ [] = sym (chars_past_char text more c utf8 whole) ∙ is in cc
+chars_says (c ∷ cs) text utf8 is = elim (cases_Bool (is_label_start c)) [
+  | inl p ↦
+      let ds : List ℕ = c ∷ label_rest cs in
+      let cut = cut_at text ds utf8 (subst (λ xs. Extends ds xs) (sym is) (front_cons c (label_rest cs) cs (label_rest-front cs))) in
+      rw p (subst IsLabel (sym cut.front) (record { utf8 = (ds, (cut.scalar, refl)); form = ap is_label (chars-encodes ds cut.scalar) ∙ and_both _ _ p (label_rest-is cs) }))
+  | inr p ↦
+      rw p (λ d more starts whole.
+      let same : d ∷ chars more ≡ c ∷ cs = sym (chars_past_char text more d utf8 whole) ∙ is in
+      let one : d ≡ c = cc in
+      let both : true ≡ false = sym starts ∙ ap is_label_start one ∙ p in cc)
+]
 
-cut_found : (cs left text label rest : List ℕ) → IsUtf8 text → chars text ≡ cs → cut_label (label_bytes cs) left text ≡ Ok (label, rest) → (is_label (chars label) ≡ true) × (text ≡ label ++ rest) × IsUtf8 label
-cut_found [] left text label rest utf8 is e = absurd cc
-cut_found (c ∷ cs) left text label rest utf8 is e =
-    elim (chosen (is_label_start c) (Some (c ∷ label_rest cs)) None (label_prefix (c ∷ cs)) refl) [
-      | inl p ↦
-          let ds : List ℕ = c ∷ label_rest cs in
-          let cut = cut_at text ds utf8 (subst (λ xs. Extends ds xs) (sym is) (front_cons c (label_rest cs) cs (label_rest-front cs))) in
-          let n = length (encode_utf8_all ds) in
-          let read : cut_label (Some n) left text ≡ Ok (label, rest) = ap (λ (o : Option (List ℕ)). cut_label (option_map (λ (xs : List ℕ). length (encode_utf8_all xs)) o) left text) p.1 ∙ e in
-          let both : (take n text, drop n text) ≡ (label, rest) = ok_is _ _ read in
-          let label_is : encode_utf8_all ds ≡ label = sym cut.front ∙ ap (λ (x : List ℕ × List ℕ). x.0) both in (
-            ap (λ (xs : List ℕ). is_label (chars xs)) (sym label_is) ∙ ap is_label (chars-encodes ds cut.scalar) ∙ and_both _ _ p.0 (label_rest-is cs),
-            cut.whole ∙ ap (λ (x : List ℕ × List ℕ). encode_utf8_all ds ++ x.1) both ∙ ap (λ (xs : List ℕ). xs ++ rest) label_is,
-            (ds, (cut.scalar, label_is)),
-          )
-      | inr p ↦
-          let read : cut_label None left text ≡ Ok (label, rest) = ap (λ (o : Option (List ℕ)). cut_label (option_map (λ (xs : List ℕ). length (encode_utf8_all xs)) o) left text) p.1 ∙ e in
-          absurd cc
-    ]
-
-pub blank_found : (bytes label rest : List ℕ) → IsUtf8 bytes → blank_at bytes ≡ Ok (label, rest) → BlankFound bytes label rest
-unfolding blank_at
-blank_found [] label rest utf8 e = absurd cc
-blank_found (u ∷ []) label rest utf8 e = absurd cc
-blank_found (u ∷ v ∷ text) label rest utf8 e =
-    elim (chosen (eqb u 95 && eqb v 58) (cut_label (label_bytes (chars text)) (u ∷ v ∷ text) text) (stops Syntax (u ∷ v ∷ text)) (Ok (label, rest)) e) [
-      | inl p ↦
-          let first : u ≡ 95 = eqb-true _ _ (and_first (eqb u 95) (eqb v 58) p.0) in
-          let second : v ≡ 58 = eqb-true _ _ (and_second (eqb u 95) (eqb v 58) p.0) in
-          let behind = behind_ascii v text (omega arith) (behind_ascii u (v ∷ text) (omega arith) utf8) in
-          let f = cut_found (chars text) (u ∷ v ∷ text) text label rest behind refl p.1 in
-          record { form = f.0; utf8 = f.2; whole = rw (first, second) (ap (λ (bs : List ℕ). 95 ∷ 58 ∷ bs) f.1) }
-      | inr p ↦ absurd cc
-    ]
+pub label_says : (text : List ℕ) → IsUtf8 text → LabelSays text (label_bytes (chars text))
+label_says text utf8 = chars_says (chars text) text utf8 refl
 
 -- ---- a label is parsed in full
 

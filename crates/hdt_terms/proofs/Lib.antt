@@ -21,11 +21,10 @@ pub mod TokenTests
 pub mod WrittenTerms
 pub mod LawsLemmas
 pub mod Longest
-pub mod TermErrorSoundness
 pub mod TermErrorCompleteness
 pub mod FrontUtf8
 pub mod TermErrorTable
-pub mod ContentErrorSoundness
+pub mod ContentEscapes
 pub mod ContentErrorCompleteness
 pub mod UnescapedRuns
 pub mod Loads

@@ -8,9 +8,8 @@ use Rattle.hdt_terms.specs.declared.fault.TermFault.{TermFault}
 use Rattle.hdt_terms.specs.LineParsing.{is_blank_or_comment, line_triple}
 use Rattle.hdt_terms.specs.Faults.{out_of_memory, not_utf8_at}
 use Rattle.hdt_terms.specs.LinesReader.{LinesState, ChecksLine, IsTripleLineError}
-use Rattle.hdt_terms.proofs.LineSoundness.{bare_found}
+use Rattle.hdt_terms.proofs.LineSoundness.{bare_found, fault_of_triple}
 use Rattle.hdt_terms.proofs.LineLaws.{not_utf8_line}
-use Rattle.hdt_terms.proofs.TripleLineReasons.{fault_of_triple}
 
 pub looked : (s : LinesState) (text : List ℕ) (b : Bool) → IsUtf8 text → b ≡ is_blank_or_comment text → ChecksLine (Ok b) s text
 looked s text true utf8 e = (utf8, bare_found text (sym e))

@@ -1,7 +1,7 @@
 -- Completeness for lines: parsing reads what a line encodes.
-use Rattle.std.proofs.Common.{◌≡◌, ℕ, zero, suc, ◌<◌, Bool, true, false, eqb, ◌||◌, List, [], ◌∷◌, ◌++◌, Option, None, Some, Ok, sym, refl, ap, subst, ◌∙◌, inl, inr, ◌⊎◌, arith}
+use Rattle.std.proofs.Common.{◌≡◌, ℕ, zero, suc, ◌<◌, true, false, eqb, List, [], ◌∷◌, ◌++◌, Option, None, Some, Ok, sym, refl, ap, subst, ◌∙◌, inl, inr, ◌⊎◌, arith}
 use Rattle.std.specs.Str.{chars, IsAscii}
-use Rattle.std.proofs.lemmas.Bool.{eqb-true}
+use Rattle.std.proofs.lemmas.Bool.Decides.{eqb_tells, nat_tests}
 use Rattle.std.proofs.lemmas.Str.{IsUtf8-from_ascii, chars-append, chars-IsAscii, chars-nil}
 use Rattle.hdt_wire.specs.declared.role.Role.{Role}
 use Rattle.hdt_wire.specs.declared.role.Role.TheVariants.{Subject, Predicate, Object}
@@ -16,6 +16,7 @@ use Rattle.hdt_terms.specs.LineParsing.{begins, role_term_at, role_term_after_wh
 use Rattle.hdt_terms.specs.Lines.{IsCommentOrEnd, IsBlankOrComment, IsSubject, IsPredicate, EncodesTriple, Line}
 use Rattle.hdt_terms.specs.TermParsing.{skip_whitespace, suffix_after, suffix_at, term_at}
 use Rattle.hdt_terms.specs.Grammar.{IsWhitespace, Encodes, EncodesTermForm}
+use Rattle.hdt_terms.specs.Requests.{EncodesPatternTerm, IsOptionalStop}
 use Rattle.hdt_terms.proofs.Bools.{and_first}
 use Rattle.hdt_terms.proofs.LineSoundness.{IsOf}
 use Rattle.hdt_terms.proofs.TermCompleteness.{skip_whitespace-blanks, Closes, ClosesTerm, term_again}
@@ -76,19 +77,14 @@ one_ascii c h (suc i) = omega arith
 chars_cons : (c : ℕ) (rest : List ℕ) → c < 128 → chars (c ∷ rest) ≡ c ∷ chars rest
 chars_cons c rest h = chars-append (c ∷ []) rest (IsUtf8-from_ascii (c ∷ []) (one_ascii c h)) ∙ ap (λ l. l ++ chars rest) (chars-IsAscii (c ∷ []) (one_ascii c h))
 
-pub label_ends : (c : ℕ) (rest : List ℕ) → c < 128 → is_pn_chars c ≡ false → eqb c 46 ≡ false → label_rest (chars (c ∷ rest)) ≡ []
+label_ends : (c : ℕ) (rest : List ℕ) → c < 128 → is_pn_chars c ≡ false → eqb c 46 ≡ false → label_rest (chars (c ∷ rest)) ≡ []
 label_ends c rest h pn dot = ap label_rest (chars_cons c rest h) ∙ rw (pn, dot) refl
 
-pub label_dot : (rest : List ℕ) → label_rest (chars rest) ≡ [] → label_rest (chars (46 ∷ rest)) ≡ []
+label_dot : (rest : List ℕ) → label_rest (chars rest) ≡ [] → label_rest (chars (46 ∷ rest)) ≡ []
 label_dot rest h = ap label_rest (chars_cons 46 rest (omega arith)) ∙ ap dot_if_continued h
 
 blank_is : (c : ℕ) → is_whitespace c ≡ true → (c ≡ 9) ⊎ (c ≡ 32)
-blank_is c e = case (eqb c 9) refl (eqb c 32) refl e
-  where
-    case : (a : Bool) → eqb c 9 ≡ a → (b : Bool) → eqb c 32 ≡ b → (a || b) ≡ true → (c ≡ 9) ⊎ (c ≡ 32)
-    case true p b q h = inl (eqb-true c 9 p)
-    case false p true q h = inr (eqb-true c 32 q)
-    case false p false q h = absurd cc
+blank_is c e = elim (eqb_tells c 9) [ inl p ↦ inl p.1 | inr p ↦ inr (grind (arith, nat_tests, e, p.1)) ]
 
 label_blank : (c : ℕ) (rest : List ℕ) → is_whitespace c ≡ true → label_rest (chars (c ∷ rest)) ≡ []
 label_blank c rest e =
@@ -105,56 +101,108 @@ comment_label : (comment : List ℕ) → IsCommentOrEnd comment → label_rest (
 comment_label [] h = ap label_rest chars-nil
 comment_label (c ∷ rest) h = subst (λ b. label_rest (chars (b ∷ rest)) ≡ []) (sym h) (label_ends 35 rest (omega arith) refl refl)
 
-pub bare_label : (text : List ℕ) → IsBlankOrComment text → label_rest (chars text) ≡ []
+bare_label : (text : List ℕ) → IsBlankOrComment text → label_rest (chars text) ≡ []
 bare_label text b = ap (λ l. label_rest (chars l)) b.whole ∙ label_behind b.before b.comment b.blanks (comment_label b.comment b.is_comment_or_end)
 
-pub ends_at : (c : ℕ) (rest : List ℕ) → is_whitespace c ≡ true → Ends (c ∷ rest)
+ends_at : (c : ℕ) (rest : List ℕ) → is_whitespace c ≡ true → Ends (c ∷ rest)
 ends_at c rest e =
     elim (blank_is c e) [
       | inl h ↦ subst (λ b. Ends (b ∷ rest)) (sym h) (record { letters = refl; part = refl })
       | inr h ↦ subst (λ b. Ends (b ∷ rest)) (sym h) (record { letters = refl; part = refl })
     ]
 
-pub ends_behind : (before rest : List ℕ) → IsWhitespace before → Ends (before ++ 46 ∷ rest)
+ends_behind : (before rest : List ℕ) → IsWhitespace before → Ends (before ++ 46 ∷ rest)
 ends_behind [] rest are = record { letters = refl; part = refl }
 ends_behind (c ∷ before) rest are = ends_at c (before ++ 46 ∷ rest) (and_first (is_whitespace c) _ are)
 
-pub plain_behind : (before rest : List ℕ) → IsWhitespace before → suffix_at (before ++ 46 ∷ rest) ≡ Ok (Plain, before ++ 46 ∷ rest)
+plain_behind : (before rest : List ℕ) → IsWhitespace before → suffix_at (before ++ 46 ∷ rest) ≡ Ok (Plain, before ++ 46 ∷ rest)
 unfolding suffix_at
 plain_behind before rest are = ap (suffix_after (before ++ 46 ∷ rest)) (skip_whitespace-blanks before (46 ∷ rest) are)
 
-closes_suffix : (suffix : Suffix) (before rest : List ℕ) → IsWhitespace before → Closes suffix (before ++ 46 ∷ rest)
-closes_suffix Plain before rest are = plain_behind before rest are
-closes_suffix (Tag tag) before rest are = ends_behind before rest are
-closes_suffix (Datatype iri) before rest are = tt
+-- what follows does not continue a given term
+abbrev pub ClosesPart : Option Term → List ℕ → Type 0
+ClosesPart None more = Unit {0}
+ClosesPart (Some term) more = ClosesTerm term more
 
-closes_object : (term : Term) (before behind : List ℕ) → IsWhitespace before → IsBlankOrComment behind → ClosesTerm term (before ++ 46 ∷ behind)
-closes_object (terms.Iri iri) before behind are bare = tt
-closes_object (terms.Blank label) before behind are bare = label_behind before (46 ∷ behind) are (label_dot behind (bare_label behind bare))
-closes_object (terms.Literal value suffix) before behind are bare = closes_suffix suffix before behind are
+-- a predicate or ? does not continue a label
+pub predicate_label : (p more : List ℕ) (part : Option Term) → EncodesPatternTerm IsPredicate p part → label_rest (chars (p ++ more)) ≡ []
+predicate_label p more None s = subst (λ l. label_rest (chars (l ++ more)) ≡ []) (sym s) (label_ends 63 more (omega arith) refl refl)
+predicate_label p more (Some (terms.Iri iri)) s =
+    subst (λ l. label_rest (chars (l ++ more)) ≡ []) (sym s.0.form.whole) (label_ends 60 ((s.0.form.inner ++ 62 ∷ []) ++ more) (omega arith) refl refl)
+predicate_label p more (Some (terms.Blank label)) s = absurd s.1
+predicate_label p more (Some (terms.Literal value suffix)) s = absurd s.1
 
-closes_predicate : (term : Term) (more : List ℕ) → IsPredicate term → ClosesTerm term more
-closes_predicate (terms.Iri iri) more h = tt
-closes_predicate (terms.Blank label) more h = absurd h
-closes_predicate (terms.Literal value suffix) more h = absurd h
+pub closes_subject : (text more : List ℕ) (part : Option Term) → EncodesPatternTerm IsSubject text part → label_rest (chars more) ≡ [] → ClosesPart part more
+closes_subject text more None s h = tt
+closes_subject text more (Some (terms.Iri iri)) s h = tt
+closes_subject text more (Some (terms.Blank label)) s h = h
+closes_subject text more (Some (terms.Literal value suffix)) s h = absurd s.1
 
-predicate_first : (p : List ℕ) (term : Term) → EncodesTermForm p term → IsPredicate term → (cs : List ℕ) × (p ≡ 60 ∷ cs)
-predicate_first p (terms.Iri iri) s h = (s.inner ++ 62 ∷ [], s.whole)
-predicate_first p (terms.Blank label) s h = absurd h
-predicate_first p (terms.Literal value suffix) s h = absurd h
+pub closes_predicate : (text more : List ℕ) (part : Option Term) → EncodesPatternTerm IsPredicate text part → ClosesPart part more
+closes_predicate text more None s = tt
+closes_predicate text more (Some (terms.Iri iri)) s = tt
+closes_predicate text more (Some (terms.Blank label)) s = absurd s.1
+closes_predicate text more (Some (terms.Literal value suffix)) s = absurd s.1
 
-closes_subject : (term predicate : Term) (before p more : List ℕ) → IsSubject term → IsWhitespace before → EncodesTermForm p predicate → IsPredicate predicate → ClosesTerm term (before ++ (p ++ more))
-closes_subject (terms.Iri iri) predicate before p more h are s q = tt
-closes_subject (terms.Blank label) predicate before p more h are s q =
-    let f = predicate_first p predicate s q in
-    label_behind before (p ++ more) are (subst (λ l. label_rest (chars (l ++ more)) ≡ []) (sym f.1) (label_ends 60 (f.0 ++ more) (omega arith) refl refl))
-closes_subject (terms.Literal value suffix) predicate before p more h are s q = absurd h
+plain_comment : (bytes comment : List ℕ) → IsCommentOrEnd comment → suffix_after bytes (skip_whitespace comment) ≡ Ok (Plain, bytes)
+plain_comment bytes [] h = refl
+plain_comment bytes (c ∷ rest) h = rw h refl
+
+plain_bare : (before behind : List ℕ) → IsWhitespace before → IsBlankOrComment behind → suffix_at (before ++ behind) ≡ Ok (Plain, before ++ behind)
+unfolding suffix_at
+plain_bare before behind are b =
+    ap (suffix_after (before ++ behind)) (skip_whitespace-blanks before behind are ∙ ap skip_whitespace b.whole ∙ skip_whitespace-blanks b.before b.comment b.blanks)
+    ∙ plain_comment (before ++ behind) b.comment b.is_comment_or_end
+
+ends_comment : (comment : List ℕ) → IsCommentOrEnd comment → Ends comment
+ends_comment [] h = record { letters = refl; part = refl }
+ends_comment (c ∷ rest) h = subst (λ b. Ends (b ∷ rest)) (sym h) (record { letters = refl; part = refl })
+
+ends_blanks : (before more : List ℕ) → IsWhitespace before → Ends more → Ends (before ++ more)
+ends_blanks [] more are h = h
+ends_blanks (c ∷ before) more are h = ends_at c (before ++ more) (and_first (is_whitespace c) _ are)
+
+ends_bare : (before behind : List ℕ) → IsWhitespace before → IsBlankOrComment behind → Ends (before ++ behind)
+ends_bare before behind are b =
+    ends_blanks before behind are (subst Ends (sym b.whole) (ends_blanks b.before b.comment b.blanks (ends_comment b.comment b.is_comment_or_end)))
+
+closes_suffix : (suffix : Suffix) (before stop behind : List ℕ) → IsWhitespace before → IsOptionalStop stop → IsBlankOrComment behind → Closes suffix (before ++ (stop ++ behind))
+closes_suffix Plain before stop behind are is b =
+    elim is [
+      | inl e ↦ subst (λ l. Closes Plain (before ++ (l ++ behind))) (sym e) (plain_bare before behind are b)
+      | inr e ↦ subst (λ l. Closes Plain (before ++ (l ++ behind))) (sym e) (plain_behind before behind are)
+    ]
+closes_suffix (Tag tag) before stop behind are is b =
+    elim is [
+      | inl e ↦ subst (λ l. Ends (before ++ (l ++ behind))) (sym e) (ends_bare before behind are b)
+      | inr e ↦ subst (λ l. Ends (before ++ (l ++ behind))) (sym e) (ends_behind before behind are)
+    ]
+closes_suffix (Datatype iri) before stop behind are is b = tt
+
+stop_label : (stop behind : List ℕ) → IsOptionalStop stop → IsBlankOrComment behind → label_rest (chars (stop ++ behind)) ≡ []
+stop_label stop behind is b =
+    elim is [
+      | inl e ↦ subst (λ l. label_rest (chars (l ++ behind)) ≡ []) (sym e) (bare_label behind b)
+      | inr e ↦ subst (λ l. label_rest (chars (l ++ behind)) ≡ []) (sym e) (label_dot behind (bare_label behind b))
+    ]
+
+pub closes_object : (part : Option Term) (before stop behind : List ℕ) → IsWhitespace before → IsOptionalStop stop → IsBlankOrComment behind → ClosesPart part (before ++ (stop ++ behind))
+closes_object None before stop behind are is b = tt
+closes_object (Some (terms.Iri iri)) before stop behind are is b = tt
+closes_object (Some (terms.Blank label)) before stop behind are is b = label_behind before (stop ++ behind) are (stop_label stop behind is b)
+closes_object (Some (terms.Literal value suffix)) before stop behind are is b = closes_suffix suffix before stop behind are is b
 
 -- ---- the end of a triple
 
 closed_again : (before behind : List ℕ) → IsWhitespace before → IsBlankOrComment behind → full_stop_after_whitespace (before ++ 46 ∷ behind) ≡ Ok tt
 unfolding full_stop_after_whitespace is_blank_or_comment
 closed_again before behind are bare = ap full_stop_at (skip_whitespace-blanks before (46 ∷ behind) are) ∙ rw (bare_again behind bare) refl
+
+pub term_not_bare : (before text more : List ℕ) → IsWhitespace before → (f : First Subject text) → is_blank_or_comment (before ++ (text ++ more)) ≡ false
+unfolding is_blank_or_comment
+term_not_bare before text more are f =
+    let e : text ++ more ≡ f.c ∷ (f.cs ++ more) = ap (λ l. l ++ more) f.whole in
+    ap is_comment_or_end (skip_whitespace-blanks before (text ++ more) are ∙ unblanked (text ++ more) f.c (f.cs ++ more) e f.no_blank ∙ e) ∙ f.no_comment
 
 -- ---- a triple
 
@@ -163,19 +211,13 @@ module _ (text : List ℕ) (triple : Triple) (h : EncodesTriple text triple) whe
   unfolding line_triple_at
   triple_again =
       let s = role_again Subject h.before_s h.s (h.before_p ++ (h.p ++ (h.before_o ++ (h.o ++ (h.before_stop ++ 46 ∷ h.behind))))) triple.s h.blanks.0 h.subject.0 h.subject.1
-      (closes_subject triple.s triple.p h.before_p h.p _ h.subject.1 h.blanks.1 h.predicate.0.form h.predicate.1) in
-      let p = role_again Predicate h.before_p h.p (h.before_o ++ (h.o ++ (h.before_stop ++ 46 ∷ h.behind))) triple.p h.blanks.1 h.predicate.0 h.predicate.1 (closes_predicate triple.p _ h.predicate.1) in
-      let o = role_again Object h.before_o h.o (h.before_stop ++ 46 ∷ h.behind) triple.o h.blanks.2 h.object tt (closes_object triple.o h.before_stop h.behind h.blanks.3 h.bare) in
+      (closes_subject h.s _ (Some triple.s) h.subject (label_behind h.before_p _ h.blanks.1 (predicate_label h.p _ (Some triple.p) h.predicate))) in
+      let p = role_again Predicate h.before_p h.p (h.before_o ++ (h.o ++ (h.before_stop ++ 46 ∷ h.behind))) triple.p h.blanks.1 h.predicate.0 h.predicate.1 (closes_predicate h.p _ (Some triple.p) h.predicate) in
+      let o = role_again Object h.before_o h.o (h.before_stop ++ 46 ∷ h.behind) triple.o h.blanks.2 h.object tt (closes_object (Some triple.o) h.before_stop (46 ∷ []) h.behind h.blanks.3 (inr refl) h.bare) in
       rw (h.whole, s, p, o, closed_again h.before_stop h.behind h.blanks.3 h.bare) refl
 
   pub triple_not_bare : is_blank_or_comment text ≡ false
-  unfolding is_blank_or_comment
-  triple_not_bare =
-      let f = first_of Subject h.s triple.s h.subject.0.form h.subject.1 in
-      let more = h.before_p ++ (h.p ++ (h.before_o ++ (h.o ++ (h.before_stop ++ 46 ∷ h.behind)))) in
-      let e : h.s ++ more ≡ f.c ∷ (f.cs ++ more) = ap (λ l. l ++ more) f.whole in
-      ap (λ l. is_comment_or_end (skip_whitespace l)) h.whole
-      ∙ ap is_comment_or_end (skip_whitespace-blanks h.before_s (h.s ++ more) h.blanks.0 ∙ unblanked (h.s ++ more) f.c (f.cs ++ more) e f.no_blank ∙ e) ∙ f.no_comment
+  triple_not_bare = ap is_blank_or_comment h.whole ∙ term_not_bare h.before_s h.s _ h.blanks.0 (first_of Subject h.s triple.s h.subject.0.form h.subject.1)
 
 -- ---- a line
 

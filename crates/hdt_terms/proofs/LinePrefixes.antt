@@ -1,11 +1,11 @@
 -- A line that is consumed piece by piece, and a prefix of its text.
-use Rattle.std.proofs.Common.{◌≡◌, ℕ, ◌+◌, ◌-◌, ◌≤◌, Bool, true, false, List, [], ◌∷◌, ◌++◌, length, take, drop, get_or, Option, None, Some, Ok, Err, inl, inr, sym, refl, ap, subst, ◌∙◌, arith, append_assoc, append-nil, add-zero}
+use Rattle.std.proofs.Common.{◌≡◌, ℕ, ◌+◌, ◌-◌, ◌≤◌, Bool, true, false, List, [], ◌∷◌, ◌++◌, length, take, drop, get_or, Option, Some, Ok, Err, inl, inr, sym, refl, ap, subst, ◌∙◌, arith, append_assoc, append-nil, add-zero}
 use Rattle.std.proofs.lemmas.Bool.{cases_lt}
 use Rattle.std.proofs.lemmas.List.{length-take-le, take-append-le, take_all}
 use Rattle.std.proofs.lemmas.List.Elements.{All-append, All-get_or, All-nil}
 use Rattle.std.proofs.Math.Seq.{drop-length, take-append-add, take-length}
-use Rattle.std.proofs.KnownBytes.{Consumes-trans, prepend_known-nil}
-use Rattle.std.specs.Io.KnownBytes.{Consumes, Keeps, prepend_known}
+use Rattle.std.proofs.KnownBytes.{Consumes-kept, Consumes-nil, Consumes-trans, prepend_known-nil}
+use Rattle.std.specs.Io.KnownBytes.{Consumes, prepend_known}
 use Rattle.hdt_terms.specs.declared.fault.LineFault.{LineFault}
 use Rattle.hdt_terms.specs.declared.fault.LineReason.{LineReason}
 use Rattle.hdt_terms.specs.declared.fault.LineReason.TheVariants.{Syntax, NotUtf8, BadEscape, RelativeIri, IriCharacter, ZeroCharacter, Read, OutOfMemory, TooLong}
@@ -15,19 +15,11 @@ use Rattle.hdt_terms.specs.Lines.{HasNoLineEnd, ends_in_cr, count_line_ends}
 use Rattle.hdt_terms.specs.LinesReader.{HasBufferedLine, LinesState, Takes, left, take_bytes}
 use Rattle.hdt_terms.specs.LinesTexts.{IsTakenLineText, IsNextLineError, IsUnreadLineError, TakesLinePrefix}
 use Rattle.hdt_terms.proofs.LineEndCounts.{Takes-trans, count_line_ends-no_end}
-use Rattle.hdt_terms.proofs.LineTaking.{AppendsInput-same, ended_taken, left_front, left_kept, nothing_given}
+use Rattle.hdt_terms.proofs.LineTaking.{AppendsInput-same, ended_taken, left_front, left_kept}
 
 -- bytes of a line were consumed, and this is their prefix
 abbrev pub Passing : ℕ → LinesState → LinesState → Option (List ℕ) → Option (List ℕ) → List ℕ → Type 0
 Passing most old new before after front = (gone : List ℕ) × Takes old new before after gone × HasNoLineEnd gone × (front ≡ take most gone)
-
--- ---- what is known of an input
-
-Consumes-Keeps : (a b c : Option (List ℕ)) (bs : List ℕ) → Consumes a b bs → Keeps b c → Consumes a c bs
-Consumes-Keeps None b c bs p q = tt
-Consumes-Keeps (Some x) None c bs p q = absurd p
-Consumes-Keeps (Some x) (Some y) None bs p q = absurd q
-Consumes-Keeps (Some x) (Some y) (Some z) bs p q = p ∙ ap (λ l. bs ++ l) (sym q)
 
 -- ---- the prefix of a text that grows
 
@@ -49,7 +41,7 @@ front_grows most gone piece =
 pub passing_none : (most : ℕ) (s : LinesState) (before : Option (List ℕ)) (front : List ℕ) → s.taken + length s.buffered ≤ s.limit → front ≡ [] → Passing most s s before before front
 passing_none most s before front within e = (
   [],
-  record { consumed = nothing_given before; taken = omega arith; ends = sym (add-zero s.ends); after_cr = refl; within = within; limit = refl; failed = refl },
+  record { consumed = Consumes-nil before; taken = omega arith; ends = sym (add-zero s.ends); after_cr = refl; within = within; limit = refl; failed = refl },
   All-nil (λ c. is_line_end c ≡ false),
   e ∙ sym (take_all most [] (omega arith)),
 )
@@ -94,7 +86,7 @@ none_held s taken is = ap (λ (t : LinesState). t.buffered) is ∙ none_left s
 read_behind : (old taken : LinesState) (before given given' : Option (List ℕ)) (bytes buffered : List ℕ) (b : Bool) → Takes old taken before (left taken given) bytes → AppendsInput taken.buffered buffered given given'
     → taken.taken + length buffered ≤ taken.limit → Takes old (record taken { buffered = buffered; ended = b }) before (prepend_known buffered given') bytes
 read_behind old taken before given given' bytes buffered b t grew within = record {
-  consumed = Consumes-Keeps before (left taken given) (prepend_known buffered given') bytes t.consumed (left_kept taken.buffered buffered given given' grew);
+  consumed = Consumes-kept before (left taken given) (prepend_known buffered given') bytes t.consumed (left_kept taken.buffered buffered given given' grew);
   taken = t.taken;
   ends = t.ends;
   after_cr = t.after_cr;
@@ -130,9 +122,9 @@ front_ended most old s new before given n front more p going found is e =
     let after = left (take_bytes s (n + 1)) given in (
       p.0 ++ text,
       (
-        p.0 ++ line.bytes,
-        Takes-trans old s (take_bytes s (n + 1)) before (left s given) after p.0 line.bytes p.1 line.takes,
-        line_behind p.0 text line.bytes (take_bytes s (n + 1)) after p.2 line.is,
+        p.0 ++ take (n + 1) s.buffered,
+        Takes-trans old s (take_bytes s (n + 1)) before (left s given) after p.0 (take (n + 1) s.buffered) p.1 line.0,
+        line_behind p.0 text (take (n + 1) s.buffered) (take_bytes s (n + 1)) after p.2 line.1,
       ),
       e ∙ ap (λ l. l ++ take (most - length l) text) p.3 ∙ front_grows most p.0 text,
     ))
@@ -169,7 +161,7 @@ module _ (most : ℕ) (old taken : LinesState) (before given given' : Option (Li
   stands_passing IriCharacter h = absurd h
   stands_passing ZeroCharacter h = absurd h
   stands_passing OutOfMemory h = tt
-  stands_passing Read h = (refl, (p.0, p.2, Consumes-Keeps before given given' p.0 given_up_to h.1, within_limit))
+  stands_passing Read h = (refl, (p.0, p.2, Consumes-kept before given given' p.0 given_up_to h.1, within_limit))
   stands_passing TooLong h = (
     refl,
     (

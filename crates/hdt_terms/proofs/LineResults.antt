@@ -7,7 +7,7 @@ use Rattle.hdt_terms.specs.Lines.{HasNoLineEnd, Line, LinesWithoutTriples}
 use Rattle.hdt_terms.specs.LinesReader.{LinesState, left, take_line, Takes, IsTakenLine, TakesTriple, TakesRest, IsNextTripleError, FindsTripleLine, IsTripleLineError}
 use Rattle.hdt_terms.proofs.LineEndCounts.{LinesWithoutTriples-append, Takes-trans}
 use Rattle.hdt_terms.proofs.LineSoundness.{line_found}
-use Rattle.hdt_terms.proofs.LineTaking.{AppendsInput-same, LineTaken, line_taken, one_line, whole_line, stands_in_triple, stands_behind}
+use Rattle.hdt_terms.proofs.LineTaking.{AppendsInput-same, LineTaken, line_taken, whole_line, stands_in_triple, stands_behind}
 
 -- one line without a triple
 one_bare : (bytes : List ℕ) (new : LinesState) (after : Option (List ℕ)) → IsTakenLine bytes None new after → new.ended ≡ false → LinesWithoutTriples bytes
@@ -17,21 +17,20 @@ one_bare bytes new after p going =
       | inr w ↦ absurd (cc (w.1, going))
     ]
 
-module _ (a s new : LinesState) (before mid after : Option (List ℕ)) (front text : List ℕ) (takes : Takes a s before mid front) (bare : LinesWithoutTriples front)
-    (taken : LineTaken s new text mid after) (line : Line text None) where
+module _ (a s new : LinesState) (before mid after : Option (List ℕ)) (front text bytes : List ℕ) (takes : Takes a s before mid front) (bare : LinesWithoutTriples front)
+    (taken : LineTaken s new text bytes mid after) (line : Line text None) where
   -- the last line
   pub rest_taken : new.ended ≡ true → TakesRest a new before after
   rest_taken end =
-      let p = one_line text taken.bytes new after None taken.is line in
-      elim p.3 [
+      elim taken.1.1 [
         | inl w ↦ absurd (cc (w.3, end))
         | inr w ↦ (
           front,
-          taken.bytes,
-          Takes-trans a s new before mid after front taken.bytes takes taken.takes,
+          bytes,
+          Takes-trans a s new before mid after front bytes takes taken.0,
           bare,
-          subst (λ l. Line l None) (sym w.0) p.1,
-          subst HasNoLineEnd (sym w.0) p.2,
+          subst (λ l. Line l None) (sym w.0) line,
+          subst HasNoLineEnd (sym w.0) taken.1.0,
           end,
           w.2,
           w.3,
@@ -39,11 +38,11 @@ module _ (a s new : LinesState) (before mid after : Option (List ℕ)) (front te
       ]
 
   -- one more line
-  pub bare_taken : new.ended ≡ false → (bytes : List ℕ) × Takes a new before after bytes × LinesWithoutTriples bytes
+  pub bare_taken : new.ended ≡ false → (all : List ℕ) × Takes a new before after all × LinesWithoutTriples all
   bare_taken going = (
-    front ++ taken.bytes,
-    Takes-trans a s new before mid after front taken.bytes takes taken.takes,
-    LinesWithoutTriples-append front taken.bytes bare (one_bare taken.bytes new after (one_line text taken.bytes new after None taken.is line) going),
+    front ++ bytes,
+    Takes-trans a s new before mid after front bytes takes taken.0,
+    LinesWithoutTriples-append front bytes bare (one_bare bytes new after (text, line, taken.1.0, taken.1.1) going),
   )
 
 -- ---- a line with a triple is buffered
@@ -59,7 +58,8 @@ module _ (a s : LinesState) (before given : Option (List ℕ)) (n : ℕ) (found 
   pub ready_taken : (new : LinesState) (triple : Triple) → new ≡ take_line s n → line_triple (take n s.buffered) ≡ Ok triple → TakesTriple a new before (left new given) triple
   ready_taken new triple is e =
       let ready = found.3 in
-      let taken : LineTaken s new (take n s.buffered) (left s given) (left new given) =
-      subst (λ (t : LinesState). LineTaken s t (take n s.buffered) (left s given) (left t given)) (sym is)
+      let bytes = take (n + 1) s.buffered in
+      let taken : LineTaken s new (take n s.buffered) bytes (left s given) (left new given) =
+      subst (λ (t : LinesState). LineTaken s t (take n s.buffered) bytes (left s given) (left t given)) (sym is)
       (line_taken s s.buffered n given given (AppendsInput-same s.buffered given) ready.front found.1.within ready.going) in
-      (found.0, taken.bytes, Takes-trans a s new before (left s given) (left new given) found.0 taken.bytes found.1 taken.takes, found.2, one_line (take n s.buffered) taken.bytes new (left new given) (Some triple) taken.is (line_found (take n s.buffered) triple ready.utf8 e))
+      (found.0, bytes, Takes-trans a s new before (left s given) (left new given) found.0 bytes found.1 taken.0, found.2, (take n s.buffered, line_found (take n s.buffered) triple ready.utf8 e, taken.1.0, taken.1.1))

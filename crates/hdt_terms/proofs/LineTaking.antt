@@ -1,21 +1,20 @@
 -- What one line consumes of the remaining input, and the errors of a line.
 use Rattle.std.proofs.Common.{◌≡◌, ℕ, ◌+◌, ◌-◌, ◌<◌, ◌≤◌, Bool, true, false, cond, List, [], ◌∷◌, ◌++◌, length, take, drop, get_or, Option, None, Some, Ok, Err, inl, inr, sym, refl, ap, subst, ◌∙◌, arith, append_assoc, append-nil, take-append-drop}
 use Rattle.std.proofs.lemmas.Bool.{lt-ltb, le-ltb}
-use Rattle.std.proofs.lemmas.List.{length-take-le, length-drop, take_more}
+use Rattle.std.proofs.lemmas.List.{length-take-le, length-drop, take_all, take_more}
 use Rattle.std.proofs.Math.Seq.{drop-length, take-length}
-use Rattle.std.proofs.KnownBytes.{prepend_known-nil}
+use Rattle.std.proofs.KnownBytes.{Consumes-nil, prepend_known-nil}
 use Rattle.std.specs.Prelude.{IsUtf8}
 use Rattle.std.specs.Io.KnownBytes.{Consumes, Keeps, IsAtEnd, prepend_known}
 use Rattle.hdt_terms.specs.declared.fault.LineFault.{LineFault}
 use Rattle.hdt_terms.specs.declared.fault.LineReason.{LineReason}
 use Rattle.hdt_terms.specs.declared.fault.LineReason.TheVariants.{Syntax, NotUtf8, BadEscape, RelativeIri, IriCharacter, ZeroCharacter, Read, OutOfMemory, TooLong}
-use Rattle.hdt_terms.specs.declared.triple.Triple.{Triple}
 use Rattle.hdt_terms.specs.Chars.{is_line_end}
 use Rattle.hdt_terms.specs.Inside.LineBuffer.{AppendsInput, IsFirstLineLength, BuffersLine}
 use Rattle.hdt_terms.specs.LineParsing.{is_blank_or_comment}
-use Rattle.hdt_terms.specs.Lines.{HasNoLineEnd, Line, LinesWithoutTriples}
-use Rattle.hdt_terms.specs.LinesReader.{LinesState, left, take_bytes, take_line, Takes, IsTakenLine, BeginsWithLine, IsLineError, IsNextTripleError, IsTripleLineError, ChecksLine}
-use Rattle.hdt_terms.specs.LinesTexts.{IsTakenLineText, IsUnreadLineError, TakesText}
+use Rattle.hdt_terms.specs.Lines.{HasNoLineEnd, LinesWithoutTriples}
+use Rattle.hdt_terms.specs.LinesReader.{LinesState, left, take_bytes, take_line, Takes, BeginsWithLine, IsLineError, IsNextTripleError, IsTripleLineError, ChecksLine}
+use Rattle.hdt_terms.specs.LinesTexts.{IsTakenLineText}
 use Rattle.hdt_terms.proofs.LineSoundness.{line_fault}
 
 -- ---- the remaining input
@@ -26,35 +25,20 @@ left_grew buffered more None given' p = tt
 left_grew buffered more (Some x) None p = absurd p
 left_grew buffered more (Some x) (Some y) p = ap (λ l. buffered ++ l) p ∙ sym (append_assoc buffered more y)
 
--- the buffer comes first
-left_takes : (front rest : List ℕ) (given : Option (List ℕ)) → Consumes (prepend_known (front ++ rest) given) (prepend_known rest given) front
-left_takes front rest None = tt
-left_takes front rest (Some x) = append_assoc front rest x
-
 -- reading into the buffer keeps the remaining input
 pub left_kept : (buffered new : List ℕ) (given given' : Option (List ℕ)) → AppendsInput buffered new given given' → Keeps (prepend_known buffered given) (prepend_known new given')
 left_kept buffered new None given' p = tt
 left_kept buffered new (Some x) None p = absurd p.2
 left_kept buffered new (Some x) (Some y) p = ap (λ l. l ++ y) p.1 ∙ append_assoc buffered p.0 y ∙ ap (λ l. buffered ++ l) (sym p.2)
 
-Keeps-Consumes : (a b c : Option (List ℕ)) (bs : List ℕ) → Keeps a b → Consumes b c bs → Consumes a c bs
-Keeps-Consumes None b c bs p q = tt
-Keeps-Consumes (Some x) None c bs p q = absurd p
-Keeps-Consumes (Some x) (Some y) None bs p q = absurd q
-Keeps-Consumes (Some x) (Some y) (Some z) bs p q = sym p ∙ q
-
 -- consuming the front of the buffer after a read
 pub left_front : (buffered new front rest : List ℕ) (given given' : Option (List ℕ)) → AppendsInput buffered new given given' → new ≡ front ++ rest → Consumes (prepend_known buffered given) (prepend_known rest given') front
-left_front buffered new front rest given given' p e =
-    Keeps-Consumes _ (prepend_known new given') _ front (left_kept buffered new given given' p)
-    (subst (λ l. Consumes (prepend_known l given') (prepend_known rest given') front) (sym e) (left_takes front rest given'))
-
-pub nothing_given : (given : Option (List ℕ)) → Consumes given given []
-nothing_given None = tt
-nothing_given (Some x) = refl
+left_front buffered new front rest None given' p e = tt
+left_front buffered new front rest (Some x) None p e = absurd p.2
+left_front buffered new front rest (Some x) (Some y) p e = sym (left_kept buffered new (Some x) (Some y) p) ∙ ap (λ l. l ++ y) e ∙ append_assoc front rest y
 
 pub AppendsInput-same : (buffered : List ℕ) (given : Option (List ℕ)) → AppendsInput buffered buffered given given
-AppendsInput-same buffered given = ([], sym (append-nil buffered), nothing_given given)
+AppendsInput-same buffered given = ([], sym (append-nil buffered), Consumes-nil given)
 
 -- ---- a complete line
 
@@ -75,14 +59,9 @@ module _ (buffered h : List ℕ) (given given' : Option (List ℕ)) (n taken lim
 
 -- ---- a line is consumed
 
--- the line of this text is consumed, with its end or as the last one
-pub record LineTaken (old new : LinesState) (text : List ℕ) (before after : Option (List ℕ)) : Type 0 where
-  pub bytes : List ℕ
-  pub takes : Takes old new before after bytes
-  pub is : IsTakenLineText text bytes new after
-
-pub one_line : (text bytes : List ℕ) (new : LinesState) (after : Option (List ℕ)) (x : Option Triple) → IsTakenLineText text bytes new after → Line text x → IsTakenLine bytes x new after
-one_line text bytes new after x is line = (text, line, is.0, is.1)
+-- the line of this text and these bytes is consumed, with its end or as the last one
+abbrev pub LineTaken : LinesState → LinesState → List ℕ → List ℕ → Option (List ℕ) → Option (List ℕ) → Type 0
+LineTaken old new text bytes before after = Takes old new before after bytes × IsTakenLineText text bytes new after
 
 module _ (old : LinesState) (h : List ℕ) (n : ℕ) (given given' : Option (List ℕ)) (grew : AppendsInput old.buffered h given given') (no_end : HasNoLineEnd (take n h)) (within : old.taken + length h ≤ old.limit)
     (going : old.ended ≡ false) where
@@ -98,31 +77,24 @@ module _ (old : LinesState) (h : List ℕ) (n : ℕ) (given given' : Option (Lis
     failed = refl;
   }
 
-  pub ended_taken : n < length h → is_line_end (get_or h n 0) ≡ true → LineTaken old (take_bytes (record old { buffered = h }) (n + 1)) (take n h) (left old given) (prepend_known (drop (n + 1) h) given')
-  ended_taken lt end = record {
-    bytes = take (n + 1) h;
-    takes = takes_front (n + 1) old.ended (omega (arith, lt));
-    is = (no_end, inl (get_or h n 0, end, take_more h n 0 lt, going));
-  }
+  pub ended_taken : n < length h → is_line_end (get_or h n 0) ≡ true → LineTaken old (take_bytes (record old { buffered = h }) (n + 1)) (take n h) (take (n + 1) h) (left old given) (prepend_known (drop (n + 1) h) given')
+  ended_taken lt end = (takes_front (n + 1) old.ended (omega (arith, lt)), (no_end, inl (get_or h n 0, end, take_more h n 0 lt, going)))
 
-  last_taken : n ≡ length h → IsAtEnd given' → LineTaken old (record (take_bytes (record old { buffered = h }) n) { ended = true }) (take n h) (left old given) (prepend_known (drop n h) given')
+  last_taken : n ≡ length h → IsAtEnd given' → LineTaken old (record (take_bytes (record old { buffered = h }) n) { ended = true }) (take n h) (take (n + 1) h) (left old given) (prepend_known (drop n h) given')
   last_taken all end =
       let none : drop n h ≡ [] = ap (λ k. drop k h) all ∙ drop-length h in
-      record {
-        bytes = take n h;
-        takes = takes_front n true (omega (arith, all));
-        is = (no_end, inr (refl, refl, none, rw none (rw prepend_known-nil end)));
-      }
+      let same : take (n + 1) h ≡ take n h = take_all (n + 1) h (omega (arith, all)) ∙ sym (take_all n h (omega (arith, all))) in
+      (rw same (takes_front n true (omega (arith, all))), (no_end, inr (same, refl, none, rw none (rw prepend_known-nil end))))
 
 pub line_taken : (old : LinesState) (h : List ℕ) (n : ℕ) (given given' : Option (List ℕ)) → AppendsInput old.buffered h given given' → IsFirstLineLength n h given' → old.taken + length h ≤ old.limit → old.ended ≡ false
-    → LineTaken old (take_line (record old { buffered = h }) n) (take n h) (left old given) (left (take_line (record old { buffered = h }) n) given')
+    → LineTaken old (take_line (record old { buffered = h }) n) (take n h) (take (n + 1) h) (left old given) (left (take_line (record old { buffered = h }) n) given')
 line_taken old h n given given' grew front within going =
     elim front.end [
       | inl p ↦
-          subst (λ (new : LinesState). LineTaken old new (take n h) (left old given) (left new given')) (sym (ap (λ b. cond b (take_bytes (record old { buffered = h }) (n + 1)) (record (take_bytes (record old { buffered = h }) n) { ended = true })) (lt-ltb n (length h) p.0)))
+          subst (λ (new : LinesState). LineTaken old new (take n h) (take (n + 1) h) (left old given) (left new given')) (sym (ap (λ b. cond b (take_bytes (record old { buffered = h }) (n + 1)) (record (take_bytes (record old { buffered = h }) n) { ended = true })) (lt-ltb n (length h) p.0)))
           (ended_taken old h n given given' grew front.no_end within going p.0 p.1)
       | inr p ↦
-          subst (λ (new : LinesState). LineTaken old new (take n h) (left old given) (left new given')) (sym (ap (λ b. cond b (take_bytes (record old { buffered = h }) (n + 1)) (record (take_bytes (record old { buffered = h }) n) { ended = true })) (le-ltb n (length h) (omega (arith, p.0)))))
+          subst (λ (new : LinesState). LineTaken old new (take n h) (take (n + 1) h) (left old given) (left new given')) (sym (ap (λ b. cond b (take_bytes (record old { buffered = h }) (n + 1)) (record (take_bytes (record old { buffered = h }) n) { ended = true })) (le-ltb n (length h) (omega (arith, p.0)))))
           (last_taken old h n given given' grew front.no_end within going p.0 p.1)
     ]
 
@@ -186,10 +158,10 @@ stands_behind fault old s before mid given front t bare line h = record {
 
 -- ---- a line that was buffered and consumed
 
-line_held : (s buffered new : LinesState) (given given' : Option (List ℕ)) (n most : ℕ) → BuffersLine (Ok n) s.buffered buffered.buffered given given' most → buffered ≡ record s { buffered = buffered.buffered } → s.taken + length buffered.buffered ≤ s.limit
-    → s.ended ≡ false → new ≡ take_line buffered n → LineTaken s new (take n buffered.buffered) (left s given) (left new given')
+pub line_held : (s buffered new : LinesState) (given given' : Option (List ℕ)) (n most : ℕ) → BuffersLine (Ok n) s.buffered buffered.buffered given given' most → buffered ≡ record s { buffered = buffered.buffered } → s.taken + length buffered.buffered ≤ s.limit
+    → s.ended ≡ false → new ≡ take_line buffered n → LineTaken s new (take n buffered.buffered) (take (n + 1) buffered.buffered) (left s given) (left new given')
 line_held s buffered new given given' n most filled others within going is =
-    subst (λ (t : LinesState). LineTaken s t (take n buffered.buffered) (left s given) (left t given')) (sym (is ∙ ap (λ (x : LinesState). take_line x n) others))
+    subst (λ (t : LinesState). LineTaken s t (take n buffered.buffered) (take (n + 1) buffered.buffered) (left s given) (left t given')) (sym (is ∙ ap (λ (x : LinesState). take_line x n) others))
     (line_taken s buffered.buffered n given given' filled.0 filled.1 within going)
 
 module _ (a s buffered new : LinesState) (before given given' : Option (List ℕ)) (n most : ℕ) (front : List ℕ) (takes : Takes a s before (left s given) front) (bare : LinesWithoutTriples front)
@@ -200,5 +172,5 @@ module _ (a s buffered new : LinesState) (before given given' : Option (List ℕ
       (subst (λ r. IsLineError r fault.column s.taken s.limit (left s given) given') (sym h.1)
       (take n buffered.buffered, filled.1.no_end, h.2, whole_line s.buffered buffered.buffered given given' n s.taken s.limit filled.0 filled.1 within))
 
-  pub held_taken : s.ended ≡ false → new ≡ take_line buffered n → LineTaken s new (take n buffered.buffered) (left s given) (left new given')
+  pub held_taken : s.ended ≡ false → new ≡ take_line buffered n → LineTaken s new (take n buffered.buffered) (take (n + 1) buffered.buffered) (left s given) (left new given')
   held_taken going is = line_held s buffered new given given' n most filled others within going is

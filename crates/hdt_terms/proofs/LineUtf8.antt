@@ -4,7 +4,7 @@ use Rattle.std.specs.Prelude.{IsUtf8, IfOk}
 use Rattle.hdt_terms.specs.declared.fault.ReadError.{ReadError}
 use Rattle.hdt_terms.specs.declared.triple.Term.{Term}
 use Rattle.hdt_terms.specs.Appending.{AppendsRead}
-use Rattle.hdt_terms.specs.TermParsing.{ReturnsUnlessOom, term_at}
+use Rattle.hdt_terms.specs.TermParsing.{term_at}
 use Rattle.hdt_terms.specs.Terms.{dictionary_string}
 use Rattle.hdt_terms.proofs.TermSoundness.{term_found}
 use Rattle.hdt_terms.proofs.Utf8.{behind_text}
@@ -13,11 +13,6 @@ pub rest_utf8 : (bytes rest : List ℕ) (term : Term) → IsUtf8 bytes → term_
 rest_utf8 bytes rest term utf8 e =
     let f = term_found bytes rest term utf8 e in
     behind_text f.text rest (subst IsUtf8 f.whole utf8) f.spelled.utf8
-
-pub given_utf8 : {X : Type 0} (term : X → Term) (left : X → List ℕ) (bytes : List ℕ) (r : Result X ReadError) → IsUtf8 bytes
-    → ReturnsUnlessOom (λ x. (term x, left x)) r (term_at bytes) → IfOk r (λ x. IsUtf8 (left x))
-given_utf8 term left bytes (Ok x) utf8 e = rest_utf8 bytes (left x) (term x) utf8 e
-given_utf8 term left bytes (Err e) utf8 h = tt
 
 pub appended_utf8 : {X : Type 0} (left : X → List ℕ) (old new bytes : List ℕ) (r : Result X ReadError) → IsUtf8 bytes
     → AppendsRead dictionary_string old new left r (term_at bytes) → IfOk r (λ x. IsUtf8 (left x))

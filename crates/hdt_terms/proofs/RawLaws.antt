@@ -1,7 +1,9 @@
 -- Parsing a request by dictionary strings is sound and complete.
-use Rattle.std.proofs.Common.{◌≡◌, ◌≢◌, ℕ, true, false, eqb, ne_eqb, List, [], ◌∷◌, ◌++◌, Option, Some, None, Ok, refl, sym, ap, subst, ◌∙◌, append_assoc, append-nil, inl, inr}
-use Rattle.std.proofs.lemmas.Bool.{eq-eqb, eqb-true, cases_Bool, false_from_ne_true}
+use Rattle.std.proofs.Common.{◌≡◌, ℕ, true, false, eqb, ne_eqb, List, [], ◌∷◌, ◌++◌, Option, Some, None, Result, Ok, Err, refl, sym, ap, subst, ◌∙◌, append_assoc, append-nil, inl, inr}
+use Rattle.std.proofs.lemmas.Bool.{eqb-true, false_from_ne_true}
 use Rattle.hdt_terms.specs.declared.fault.LineReason.TheVariants.{Syntax}
+use Rattle.std.proofs.lemmas.Bool.Decides.{eqb_tells}
+use Rattle.hdt_terms.specs.declared.fault.FailedCheck.{FailedCheck}
 use Rattle.hdt_terms.specs.LineParsing.{is_blank_or_comment}
 use Rattle.hdt_terms.specs.RawRequestParsing.{StringPattern, raw_escape_byte, raw_string_at, tab_at, end_at, raw_request_at, raw_request_in}
 use Rattle.hdt_terms.specs.RawRequests.{EncodesByte, EncodesRawString, EncodesRawRequest, RawRequestLine}
@@ -26,46 +28,39 @@ record RawFound (bytes : List ℕ) (read : List ℕ × List ℕ) : Type 0 where
   pub spelled : EncodesRawString text read.0
   pub ends : Ends read.1
 
-found_behind : (first bytes more : List ℕ) (b : ℕ) (read : List ℕ × List ℕ) → bytes ≡ first ++ more → EncodesByte first b → ((x : List ℕ × List ℕ) → raw_string_at more ≡ Ok x → RawFound more x)
-    → prepend_read (b ∷ []) (raw_string_at more) ≡ Ok read → RawFound bytes read
-found_behind first bytes more b read cut is found e =
-    let y = bind_ok (raw_string_at more) (λ x. Ok ((b ∷ []) ++ x.0, x.1)) read e in
-    let f = found y.0 y.1 in
-    subst (RawFound bytes) (ok_is (b ∷ y.0.0, y.0.1) read y.2)
-    (record { text = first ++ f.text; whole = cut ∙ ap (λ l. first ++ l) f.whole ∙ sym (append_assoc first f.text y.0.1); spelled = (first, f.text, refl, is, f.spelled); ends = f.ends })
+abbrev RawSays : List ℕ → Result (List ℕ × List ℕ) FailedCheck → Type 0
+RawSays bytes (Ok x) = RawFound bytes x
+RawSays bytes (Err s) = Unit {0}
 
-not_eqb : (c d : ℕ) → eqb c d ≡ false → c ≢ d
-not_eqb c d e is = let both : true ≡ false = sym (eq-eqb c d is) ∙ e in cc
+byte_then : (first bytes more : List ℕ) (b : ℕ) (r : Result (List ℕ × List ℕ) FailedCheck) → bytes ≡ first ++ more → EncodesByte first b → RawSays more r → RawSays bytes (prepend_read (b ∷ []) r)
+byte_then first bytes more b (Err s) cut is h = tt
+byte_then first bytes more b (Ok x) cut is f =
+    record { text = first ++ f.text; whole = cut ∙ ap (λ l. first ++ l) f.whole ∙ sym (append_assoc first f.text x.1); spelled = (first, f.text, refl, is, f.spelled); ends = f.ends }
 
-found_at : (c : ℕ) (rest : List ℕ) (read : List ℕ × List ℕ) → ((x : List ℕ × List ℕ) → raw_string_at rest ≡ Ok x → RawFound rest x) → (raw_string_at (92 ∷ rest) ≡ Ok read → RawFound (92 ∷ rest) read)
-    → raw_string_at (c ∷ rest) ≡ Ok read → RawFound (c ∷ rest) read
-found_at c rest read behind escaped e =
-    elim (cases_Bool (eqb c 9)) [
-      | inl t ↦
-          let tab = eqb-true c 9 t in
-          subst (RawFound (c ∷ rest)) (ok_is ([], c ∷ rest) read (ap (λ l. Ok ([], l ∷ rest)) tab ∙ sym (at_tab rest) ∙ ap (λ l. raw_string_at (l ∷ rest)) (sym tab) ∙ e))
-          (record { text = []; whole = refl; spelled = refl; ends = tab })
-      | inr t ↦
-          elim (cases_Bool (eqb c 92)) [
-            | inl s ↦
-                let slash = eqb-true c 92 s in
-                subst (λ l. RawFound (l ∷ rest) read) (sym slash) (escaped (ap (λ l. raw_string_at (l ∷ rest)) (sym slash) ∙ e))
-            | inr s ↦ found_behind (c ∷ []) (c ∷ rest) rest c read refl (inl (refl, not_eqb c 9 t, not_eqb c 92 s)) behind (sym (at_byte c rest t s) ∙ e)
-          ]
-    ]
+says_at : (c : ℕ) (rest : List ℕ) → RawSays rest (raw_string_at rest) → RawSays (92 ∷ rest) (raw_string_at (92 ∷ rest)) → RawSays (c ∷ rest) (raw_string_at (c ∷ rest))
+says_at c rest behind escaped = elim (eqb_tells c 9) [
+  | inl t ↦
+      subst (λ (b : ℕ). RawSays (b ∷ rest) (raw_string_at (b ∷ rest))) (sym t.1)
+      (subst (RawSays (9 ∷ rest)) (sym (at_tab rest)) (record { text = []; whole = refl; spelled = refl; ends = refl }))
+  | inr t ↦
+      elim (eqb_tells c 92) [
+        | inl s ↦ subst (λ (b : ℕ). RawSays (b ∷ rest) (raw_string_at (b ∷ rest))) (sym s.1) escaped
+        | inr s ↦ subst (RawSays (c ∷ rest)) (sym (at_byte c rest t.0 s.0)) (byte_then (c ∷ []) (c ∷ rest) rest c (raw_string_at rest) refl (inl (refl, t.1, s.1)) behind)
+      ]
+]
 
-found_letter : (d : ℕ) (more : List ℕ) (read : List ℕ × List ℕ) (letter : Option ℕ) → raw_escape_byte d ≡ letter → ((x : List ℕ × List ℕ) → raw_string_at more ≡ Ok x → RawFound more x)
-    → raw_string_at (92 ∷ d ∷ more) ≡ Ok read → RawFound (92 ∷ d ∷ more) read
-found_letter d more read None p behind e = absurd (let bad = sym (at_bad (d ∷ more) (rw p refl)) ∙ e in cc)
-found_letter d more read (Some b) p behind e = found_behind (92 ∷ d ∷ []) (92 ∷ d ∷ more) more b read refl (inr (d, refl, p)) behind (sym (at_escape d b more p) ∙ e)
+says_letter : (d : ℕ) (more : List ℕ) (letter : Option ℕ) → raw_escape_byte d ≡ letter → RawSays more (raw_string_at more) → RawSays (92 ∷ d ∷ more) (raw_string_at (92 ∷ d ∷ more))
+says_letter d more None p behind = subst (RawSays (92 ∷ d ∷ more)) (sym (at_bad (d ∷ more) (rw p refl))) tt
+says_letter d more (Some b) p behind =
+    subst (RawSays (92 ∷ d ∷ more)) (sym (at_escape d b more p)) (byte_then (92 ∷ d ∷ []) (92 ∷ d ∷ more) more b (raw_string_at more) refl (inr (d, refl, p)) behind)
 
-found_no_letter : (read : List ℕ × List ℕ) → raw_string_at (92 ∷ []) ≡ Ok read → RawFound (92 ∷ []) read
-found_no_letter read e = absurd (let bad = sym (at_bad [] refl) ∙ e in cc)
+raw_says : (bytes : List ℕ) → RawSays bytes (raw_string_at bytes)
+raw_says [] = subst (RawSays []) (sym (nothing_there [] refl)) (record { text = []; whole = refl; spelled = refl; ends = tt })
+raw_says (c ∷ []) = says_at c [] (raw_says []) (subst (RawSays (92 ∷ [])) (sym (at_bad [] refl)) tt)
+raw_says (c ∷ d ∷ more) = says_at c (d ∷ more) (raw_says (d ∷ more)) (says_letter d more (raw_escape_byte d) refl (raw_says more))
 
 raw_found : (bytes : List ℕ) (read : List ℕ × List ℕ) → raw_string_at bytes ≡ Ok read → RawFound bytes read
-raw_found [] read e = subst (RawFound []) (ok_is ([], []) read (sym (nothing_there [] refl) ∙ e)) (record { text = []; whole = refl; spelled = refl; ends = tt })
-raw_found (c ∷ []) read e = found_at c [] read (raw_found []) (found_no_letter read) e
-raw_found (c ∷ d ∷ more) read e = found_at c (d ∷ more) read (raw_found (d ∷ more)) (found_letter d more read (raw_escape_byte d) refl (raw_found more)) e
+raw_found bytes read e = subst (RawSays bytes) e (raw_says bytes)
 
 ends_again : (rest : List ℕ) → Ends rest → raw_string_at rest ≡ Ok ([], rest)
 ends_again [] e = nothing_there [] refl

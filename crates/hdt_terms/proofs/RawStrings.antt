@@ -6,7 +6,7 @@ use Rattle.hdt_terms.specs.Appending.{Appended, identity_bytes}
 use Rattle.hdt_terms.specs.RawRequestParsing.{raw_escape_byte, raw_escape, raw_string_from, raw_string_at}
 use Rattle.hdt_terms.specs.TermParsing.{stops, prepend_read}
 use Rattle.hdt_terms.proofs.Appends.{appended}
-use Rattle.hdt_terms.proofs.ContentErrorSoundness.{front_err}
+use Rattle.hdt_terms.proofs.ContentReading.{front_err}
 use Rattle.hdt_terms.proofs.ContentReading.{regroup}
 
 -- what was read before and what is read here, joined

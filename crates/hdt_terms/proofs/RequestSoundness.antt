@@ -1,31 +1,25 @@
 -- Soundness for requests: a line encodes the request that parsing reads.
-use Rattle.std.proofs.Common.{◌≡◌, ℕ, eqb, List, [], ◌∷◌, ◌++◌, Option, None, Some, Ok, refl, ap, subst, ◌∙◌, inl, inr}
+use Rattle.std.proofs.Common.{◌≡◌, ℕ, eqb, List, [], ◌∷◌, ◌++◌, Option, Ok, refl, ap, subst, ◌∙◌, inl, inr, sym, Result, Err}
 use Rattle.std.specs.Prelude.{IsUtf8}
-use Rattle.std.proofs.lemmas.Bool.{eqb-true}
-use Rattle.std.proofs.lemmas.Option.{same_Some}
-use Rattle.hdt_terms.specs.declared.fault.LineReason.TheVariants.{Syntax}
+use Rattle.std.proofs.lemmas.Bool.{cases_Bool}
+use Rattle.std.proofs.lemmas.Bool.Decides.{eqb_tells}
+use Rattle.hdt_terms.specs.declared.fault.FailedCheck.{FailedCheck}
 use Rattle.hdt_wire.specs.declared.role.Role.{Role}
 use Rattle.hdt_wire.specs.declared.role.Role.TheVariants.{Subject, Predicate, Object}
 use Rattle.hdt_terms.specs.declared.triple.Term.{Term}
-use Rattle.hdt_terms.specs.LineParsing.{role_term_at, is_comment_or_end, is_blank_or_comment, comment_or_end_at}
+use Rattle.hdt_terms.specs.LineParsing.{role_term_at, is_comment_or_end, is_blank_or_comment}
 use Rattle.hdt_terms.specs.Lines.{IsBlankOrComment}
-use Rattle.hdt_terms.specs.TermParsing.{◌>>=◌, stops, skip_whitespace}
+use Rattle.hdt_terms.specs.TermParsing.{◌>>=◌, skip_whitespace}
 use Rattle.hdt_terms.specs.RequestParsing.{as_pattern_term, pattern_term_at, pattern_term_after_whitespace, optional_stop_at, optional_stop_after_whitespace, request_at}
 use Rattle.hdt_terms.specs.Requests.{TermPattern, EncodesPatternTerm, IsOptionalStop, EncodesRequest}
 use Rattle.hdt_terms.specs.Grammar.{IsWhitespace}
-use Rattle.hdt_terms.proofs.Cases.{bind_ok, chosen, ok_is}
-use Rattle.hdt_terms.proofs.LineSoundness.{IsOf, bare_found, comment_found, here_found}
+use Rattle.hdt_terms.proofs.Cases.{bind_ok, ok_is}
+use Rattle.hdt_terms.proofs.LineSoundness.{IsOf, RoleSays, bare_found, comment_found, here_says}
 use Rattle.hdt_terms.proofs.TermSoundness.{passed}
 use Rattle.hdt_terms.proofs.PatternTerms.{behind_any}
 use Rattle.hdt_terms.proofs.Utf8.{blanks_utf8}
 
 -- ---- a term or ?
-
-abbrev nothing : Option Term
-nothing = None
-
-abbrev given : Term → Option Term
-given term = Some term
 
 -- ? or a term of the role was read after whitespace, and the rest follows it
 record PartFound (role : Role) (bytes : List ℕ) (part : Option Term) (rest : List ℕ) : Type 0 where
@@ -36,42 +30,27 @@ record PartFound (role : Role) (bytes : List ℕ) (part : Option Term) (rest : L
   pub whole : bytes ≡ before ++ (text ++ rest)
   pub utf8 : IsUtf8 rest
 
-part_here_found : (role : Role) (bytes here : List ℕ) (part : Option Term) (rest before : List ℕ) → IsUtf8 here → IsWhitespace before → bytes ≡ before ++ here → pattern_term_at role here ≡ Ok (part, rest)
-    → PartFound role bytes part rest
+abbrev PartSays : Role → List ℕ → Result (Option Term × List ℕ) FailedCheck → Type 0
+PartSays role bytes (Ok x) = PartFound role bytes x.0 x.1
+PartSays role bytes (Err s) = Unit {0}
+
+term_part : (role : Role) (bytes : List ℕ) (r : Result (Term × List ℕ) FailedCheck) → RoleSays role bytes r → PartSays role bytes (r >>= as_pattern_term)
+term_part role bytes (Err s) h = tt
+term_part role bytes (Ok x) f = record { before = f.before; text = f.text; blanks = f.blanks; spelled = (f.spelled, f.is_of); whole = f.whole; utf8 = f.utf8 }
+
+part_here : (role : Role) (here before : List ℕ) → IsUtf8 here → IsWhitespace before → PartSays role (before ++ here) (pattern_term_at role here)
 unfolding pattern_term_at
-part_here_found role bytes [] part rest before utf8 are whole e = absurd cc
-part_here_found role bytes (c ∷ cs) None rest before utf8 are whole e =
-    elim (chosen (eqb c 63) (Ok (None, cs)) (role_term_at role (c ∷ cs) >>= as_pattern_term) (Ok (None, rest)) e) [
-      | inl p ↦
-          let same : cs ≡ rest = ap (λ x. x.1) (ok_is (nothing, cs) (nothing, rest) p.1) in
-          record {
-            before = before;
-            text = 63 ∷ [];
-            blanks = are;
-            spelled = refl;
-            whole = whole ∙ ap (λ b. before ++ b ∷ cs) (eqb-true c 63 p.0) ∙ ap (λ l. before ++ 63 ∷ l) same;
-            utf8 = subst IsUtf8 same (behind_any (c ∷ cs) cs c refl (eqb-true c 63 p.0) utf8);
-          }
-      | inr p ↦
-          let b = bind_ok (role_term_at role (c ∷ cs)) as_pattern_term (None, rest) p.1 in
-          let same : given b.0.0 ≡ nothing = ap (λ x. x.0) (ok_is (given b.0.0, b.0.1) (nothing, rest) b.2) in absurd cc
-    ]
-part_here_found role bytes (c ∷ cs) (Some term) rest before utf8 are whole e =
-    elim (chosen (eqb c 63) (Ok (None, cs)) (role_term_at role (c ∷ cs) >>= as_pattern_term) (Ok (Some term, rest)) e) [
-      | inl p ↦ let same : nothing ≡ given term = ap (λ x. x.0) (ok_is (nothing, cs) (given term, rest) p.1) in absurd cc
-      | inr p ↦
-          let b = bind_ok (role_term_at role (c ∷ cs)) as_pattern_term (Some term, rest) p.1 in
-          let same = ok_is (given b.0.0, b.0.1) (given term, rest) b.2 in
-          let read : role_term_at role (c ∷ cs) ≡ Ok (term, rest) = b.1 ∙ ap (λ t. Ok (t, b.0.1)) (same_Some b.0.0 term (ap (λ x. x.0) same)) ∙ ap (λ l. Ok (term, l)) (ap (λ x. x.1) same) in
-          let f = here_found role bytes (c ∷ cs) term rest before utf8 are whole read in
-          record { before = f.before; text = f.text; blanks = f.blanks; spelled = (f.spelled, f.is_of); whole = f.whole; utf8 = f.utf8 }
-    ]
+part_here role [] before utf8 are = tt
+part_here role (c ∷ cs) before utf8 are = elim (eqb_tells c 63) [
+  | inl p ↦ rw p.0 (record { before = before; text = 63 ∷ []; blanks = are; spelled = refl; whole = ap (λ (b : ℕ). before ++ b ∷ cs) p.1; utf8 = behind_any (c ∷ cs) cs c refl p.1 utf8 })
+  | inr p ↦ rw p.0 (term_part role (before ++ c ∷ cs) (role_term_at role (c ∷ cs)) (here_says role (c ∷ cs) before utf8 are))
+]
 
 part_found : (role : Role) (bytes : List ℕ) (part : Option Term) (rest : List ℕ) → IsUtf8 bytes → pattern_term_after_whitespace role bytes ≡ Ok (part, rest) → PartFound role bytes part rest
 unfolding pattern_term_after_whitespace
 part_found role bytes part rest utf8 e =
     let p = passed bytes in
-    part_here_found role bytes (skip_whitespace bytes) part rest p.blanks (blanks_utf8 bytes utf8) p.are p.whole e
+    subst (λ (bs : List ℕ). PartFound role bs part rest) (sym p.whole) (subst (PartSays role (p.blanks ++ skip_whitespace bytes)) e (part_here role (skip_whitespace bytes) p.blanks (blanks_utf8 bytes utf8) p.are))
 
 -- ---- the end
 
@@ -84,36 +63,41 @@ record StopFound (bytes : List ℕ) : Type 0 where
   pub bare : IsBlankOrComment behind
   pub whole : bytes ≡ before ++ (stop ++ behind)
 
-stop_here_found : (bytes here before : List ℕ) (done : Unit {0}) → IsWhitespace before → bytes ≡ before ++ here → optional_stop_at here ≡ Ok done → StopFound bytes
+abbrev StopSays : List ℕ → Result (Unit {0}) FailedCheck → Type 0
+StopSays bytes (Ok done) = StopFound bytes
+StopSays bytes (Err s) = Unit {0}
+
+stop_here : (here before : List ℕ) → IsWhitespace before → StopSays (before ++ here) (optional_stop_at here)
 unfolding is_blank_or_comment
-stop_here_found bytes [] before done are whole e =
-    record { before = before; stop = []; behind = []; blanks = are; is_stop = inl refl; bare = record { before = []; comment = []; blanks = refl; is_comment_or_end = tt; whole = refl }; whole = whole }
-stop_here_found bytes (c ∷ cs) before done are whole e =
-    elim (chosen (eqb c 46) (comment_or_end_at (skip_whitespace cs)) (comment_or_end_at (c ∷ cs)) (Ok done) e) [
-      | inl p ↦
-          elim (chosen (is_comment_or_end (skip_whitespace cs)) (Ok tt) (stops Syntax (skip_whitespace cs)) (Ok done) p.1) [
-            | inl q ↦ record { before = before; stop = 46 ∷ []; behind = cs; blanks = are; is_stop = inr refl; bare = bare_found cs q.0; whole = whole ∙ ap (λ b. before ++ b ∷ cs) (eqb-true c 46 p.0) }
-            | inr q ↦ absurd cc
-          ]
-      | inr p ↦
-          elim (chosen (is_comment_or_end (c ∷ cs)) (Ok tt) (stops Syntax (c ∷ cs)) (Ok done) p.1) [
-            | inl q ↦
-                record {
-                  before = before;
-                  stop = [];
-                  behind = c ∷ cs;
-                  blanks = are;
-                  is_stop = inl refl;
-                  bare = record { before = []; comment = c ∷ cs; blanks = refl; is_comment_or_end = comment_found (c ∷ cs) q.0; whole = refl };
-                  whole = whole;
-                }
-            | inr q ↦ absurd cc
-          ]
-    ]
+stop_here [] before are =
+    record { before = before; stop = []; behind = []; blanks = are; is_stop = inl refl; bare = record { before = []; comment = []; blanks = refl; is_comment_or_end = tt; whole = refl }; whole = refl }
+stop_here (c ∷ cs) before are = elim (eqb_tells c 46) [
+  | inl p ↦
+      elim (cases_Bool (is_comment_or_end (skip_whitespace cs))) [
+        | inl q ↦ rw (p.0, q) (record { before = before; stop = 46 ∷ []; behind = cs; blanks = are; is_stop = inr refl; bare = bare_found cs q; whole = ap (λ (b : ℕ). before ++ b ∷ cs) p.1 })
+        | inr q ↦ rw (p.0, q) tt
+      ]
+  | inr p ↦
+      elim (cases_Bool (eqb c 35)) [
+        | inl q ↦
+            rw (p.0, q) (record {
+              before = before;
+              stop = [];
+              behind = c ∷ cs;
+              blanks = are;
+              is_stop = inl refl;
+              bare = record { before = []; comment = c ∷ cs; blanks = refl; is_comment_or_end = comment_found (c ∷ cs) q; whole = refl };
+              whole = refl;
+            })
+        | inr q ↦ rw (p.0, q) tt
+      ]
+]
 
 stop_found : (bytes : List ℕ) (done : Unit {0}) → optional_stop_after_whitespace bytes ≡ Ok done → StopFound bytes
 unfolding optional_stop_after_whitespace
-stop_found bytes done e = let p = passed bytes in stop_here_found bytes (skip_whitespace bytes) p.blanks done p.are p.whole e
+stop_found bytes done e =
+    let p = passed bytes in
+    subst StopFound (sym p.whole) (subst (StopSays (p.blanks ++ skip_whitespace bytes)) e (stop_here (skip_whitespace bytes) p.blanks p.are))
 
 -- ---- a request
 

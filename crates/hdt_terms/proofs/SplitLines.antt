@@ -1,11 +1,13 @@
 -- Splitting a document: the pending lines of each part, and what each writer has gained.
-use Rattle.std.proofs.Common.{◌≡◌, ◌≢◌, ◌⊎◌, ◌+◌, ◌<◌, ◌≤◌, ◌||◌, ℕ, Bool, true, false, eqb, List, [], ◌∷◌, ◌++◌, length, map, take, drop, get_or, slice_set, replicate, Option, None, Some, Result, Ok, Err, cond, option_map, refl, sym, ap, subst, ◌∙◌, inl, inr, arith, append_assoc, append-nil}
+use Rattle.std.proofs.Common.{◌≡◌, ◌≢◌, ◌⊎◌, ◌+◌, ◌<◌, ◌≤◌, ◌||◌, ℕ, false, List, [], ◌∷◌, ◌++◌, length, map, take, drop, get_or, slice_set, replicate, Option, None, Some, Result, Ok, Err, option_map, refl, sym, ap, subst, ◌∙◌, inl, inr, arith, append_assoc, append-nil}
 use Rattle.std.proofs.lemmas.List.{map-set, get_or-map, get_or-set_same, get_or-set_other, get_or-replicate, length-append, length-map, length-replicate, length-set, take_all}
 use Rattle.std.proofs.Math.Seq.{drop-length}
 use Rattle.std.proofs.lemmas.List.Elements.{filter_map-append}
 use Rattle.std.specs.List.{filter_map}
-use Rattle.std.proofs.lemmas.Bool.{cases_lt, eq-eqb, eqb-true}
+use Rattle.std.proofs.lemmas.Bool.{cases_Bool, cases_lt, eq-eqb}
+use Rattle.std.specs.Prelude.{IsUtf8}
 use Rattle.std.specs.Int.{from_bool}
+use Rattle.std.proofs.Math.Bool.{or-false, or_assoc}
 use Rattle.std.proofs.lemmas.Bool.Decides.{eqb_tells}
 use Rattle.std.proofs.KnownBytes.{Appends-nil}
 use Rattle.std.specs.Str.Lossy.{utf8_valid_len}
@@ -16,16 +18,15 @@ use Rattle.hdt_terms.specs.declared.split.SplitFault.{SplitFault}
 use Rattle.hdt_terms.specs.declared.split.SplitFault.TheVariants.{Line, Write, OutOfMemory}
 use Rattle.hdt_terms.specs.declared.split.SplitReport.{SplitReport}
 use Rattle.hdt_terms.specs.declared.triple.Triple.{Triple}
-use Rattle.hdt_terms.specs.Faults.{not_utf8_at, unless_not_utf8}
+use Rattle.hdt_terms.specs.Faults.{unless_not_utf8}
 use Rattle.hdt_terms.specs.LineParsing.{as_line, is_blank_or_comment, line_in, line_triple, line_triple_at, unless_blank, with_column}
 use Rattle.hdt_terms.specs.LinesReader.{IsTripleLineError, LinesState, start}
-use Rattle.hdt_terms.specs.WholeLines.{TakesWholeLine}
+use Rattle.hdt_terms.specs.LinesTexts.{TakesWholeLine}
 use Rattle.hdt_terms.specs.Lint.{DocumentLine, GainsAllBut, GainsPrefix, at_line, fault_of, fault_of_line, faulty_lines}
 use Rattle.hdt_terms.specs.Split.{EachGains, EachGainsAllBut, EachGainsPrefix, IsSplitReadFault, IsReportOf, SplitsUntilFault, Place, has_blank_node, have_blank_nodes, last_number, last_place, last_place_of, line_of_part, no_place, number_if_some, part_lines, part_lines_from, triple_of_line, triples_of_document, whole_line}
-use Rattle.hdt_terms.proofs.Cases.{chosen}
 use Rattle.hdt_terms.proofs.LawsLemmas.{all_valid}
-use Rattle.hdt_terms.proofs.TripleLineReasons.{fault_of_triple}
-use Rattle.hdt_terms.proofs.DocumentLines.{HasReadLines, begins_with, none_read, wrote, wrote_all, wrote_none, wrote_prefix}
+use Rattle.hdt_terms.proofs.LineSoundness.{fault_of_triple}
+use Rattle.hdt_terms.proofs.DocumentLines.{HasReadLines, begins_with, grown, none_read, wrote, wrote_all, wrote_none, wrote_prefix}
 
 -- ---- one element of a list is replaced
 
@@ -122,17 +123,9 @@ number_on : (before : ℕ) (xs : List DocumentLine) (line : DocumentLine) → la
 number_on before [] line = refl
 number_on before (x ∷ xs) line = number_on (number_if_some before x.number (x.text ++ x.end)) xs line
 
-or_assoc : (a b c : Bool) → a || (b || c) ≡ (a || b) || c
-or_assoc true b c = refl
-or_assoc false b c = refl
-
-or_false : (a : Bool) → a || false ≡ a
-or_false true = refl
-or_false false = refl
-
 blank_on : (xs : List DocumentLine) (line : DocumentLine) → have_blank_nodes (xs ++ line ∷ []) ≡ have_blank_nodes xs || has_blank_node (triple_of_line line)
-blank_on [] line = or_false (has_blank_node (triple_of_line line))
-blank_on (x ∷ xs) line = ap (λ b. has_blank_node (triple_of_line x) || b) (blank_on xs line) ∙ or_assoc (has_blank_node (triple_of_line x)) (have_blank_nodes xs) (has_blank_node (triple_of_line line))
+blank_on [] line = or-false (has_blank_node (triple_of_line line))
+blank_on (x ∷ xs) line = ap (λ b. has_blank_node (triple_of_line x) || b) (blank_on xs line) ∙ sym (or_assoc (has_blank_node (triple_of_line x)) (have_blank_nodes xs) (has_blank_node (triple_of_line line)))
 
 one_at_most : {X Y : Type 0} (h : X → Option Y) (x : X) (y : Option Y) → h x ≡ y → length (filter_map h (x ∷ [])) ≤ 1
 one_at_most h x None e = rw e (omega arith)
@@ -178,9 +171,6 @@ text_on prefix place line pending new others same part = elim (eqb_tells place.p
   | inr e ↦ others part (λ is. e.1 (sym is)) ∙ rw e.0 (sym (append-nil (get_or pending part [])))
 ]
 
-gains_more : (a b : Option (List ℕ)) (text pending more new : List ℕ) → GainsAllBut a b text pending → new ≡ pending ++ more → GainsAllBut a b (text ++ more) new
-gains_more a b text pending more new (gone, is, gained) e = (gone, ap (λ t. t ++ more) is ∙ append_assoc gone pending more ∙ ap (λ t. gone ++ t) (sym e), gained)
-
 pub collected_on : (prefix : List ℕ) (parts : ℕ) (lines : List DocumentLine) (line : DocumentLine) (before after : List (Option (List ℕ))) (pending new : List (List ℕ)) (place new_place : Place) (report new_report : SplitReport) (bytes : List ℕ)
     → Collected prefix parts lines before after pending place report → fault_of_line line ≡ None → new_place ≡ last_place prefix parts place line → length new ≡ length pending
     → ((part : ℕ) → part ≢ new_place.part → get_or new part [] ≡ get_or pending part []) → get_or new new_place.part [] ≡ get_or pending new_place.part [] ++ line_of_part prefix new_place.part new_place line
@@ -196,7 +186,7 @@ collected_on prefix parts lines line before after pending new place new_place re
         len ∙ h.gains.1,
         λ part lt.
             subst (λ text. GainsAllBut (get_or before part None) (get_or after part None) text (get_or new part [])) (ap (λ (p : Place). part_lines prefix parts lines part ++ line_of_part prefix part p line) last ∙ sym (part_on prefix parts lines line part))
-            (gains_more (get_or before part None) (get_or after part None) (part_lines prefix parts lines part) (get_or pending part []) (line_of_part prefix part new_place line) (get_or new part []) (h.gains.2 part lt) (text_on prefix new_place line pending new others same part)),
+            (grown (get_or before part None) (get_or after part None) (part_lines prefix parts lines part) (get_or pending part []) (line_of_part prefix part new_place line) (get_or new part []) (h.gains.2 part lt) (text_on prefix new_place line pending new others same part)),
       );
       place_is = last ∙ sym (place_on prefix parts no_place lines line);
       report_is = report_on lines line report new_report bytes h.report_is bytes_are l t b;
@@ -208,30 +198,30 @@ own_line prefix part placed number line is e = rw (is, eq-eqb part part refl, eq
 
 -- ---- the reasons of faulty lines
 
-as_line_err : (r : Result Triple TermFault) (f : TermFault) → as_line r ≡ Err f → r ≡ Err f
-as_line_err (Ok triple) f e = absurd cc
-as_line_err (Err g) f e =
-    let is : g ≡ f = cc in
-    ap (λ (x : TermFault). Err x) is
+abbrev NeverRead : Result (Option Triple) TermFault → Type 0
+NeverRead (Ok x) = Unit {0}
+NeverRead (Err f) = f.reason ≡ Read → ⊥
 
-never_read : (text : List ℕ) (f : TermFault) → line_in text ≡ Err f → f.reason ≡ Read → ⊥
+triple_then : (text : List ℕ) (r : Result Triple TermFault) → IsUtf8 text → line_triple text ≡ r → NeverRead (as_line r)
+triple_then text (Ok triple) utf8 e = tt
+triple_then text (Err f) utf8 e = λ is. subst (λ r. IsTripleLineError r f.column text) is (fault_of_triple text f utf8 (inr e))
+
+never_read : (text : List ℕ) → NeverRead (line_in text)
 unfolding unless_blank unless_not_utf8 line_triple
-never_read text f e is =
-    elim (chosen (eqb (utf8_valid_len text) (length text)) (cond (is_blank_or_comment text) (Ok None) (as_line (with_column text (line_triple_at text)))) (Err (not_utf8_at (utf8_valid_len text))) (Err f) e) [
-      | inl p ↦
-          elim (chosen (is_blank_or_comment text) (Ok None) (as_line (with_column text (line_triple_at text))) (Err f) p.1) [
-            | inl q ↦ absurd cc
-            | inr q ↦
-                subst (λ r. IsTripleLineError r f.column text) is (fault_of_triple text f (all_valid text (eqb-true _ _ p.0)) (inr (as_line_err (with_column text (line_triple_at text)) f q.1)))
-          ]
-      | inr p ↦ absurd cc
-    ]
+never_read text = elim (eqb_tells (utf8_valid_len text) (length text)) [
+  | inl p ↦
+      elim (cases_Bool (is_blank_or_comment text)) [
+        | inl q ↦ rw (p.0, q) tt
+        | inr q ↦ rw (p.0, q) (triple_then text (with_column text (line_triple_at text)) (all_valid text p.1) refl)
+      ]
+  | inr p ↦ rw p.0 (λ e. absurd cc)
+]
 
 fault_reason : (line : DocumentLine) (fault : LineFault) (r : Result (Option Triple) TermFault) → line_in line.text ≡ r → option_map (at_line line.number) (fault_of r) ≡ Some fault → fault.reason ≡ Read → ⊥
 fault_reason line fault (Ok x) e is read = absurd cc
 fault_reason line fault (Err f) e is read =
     let same : f.reason ≡ Read = cc in
-    never_read line.text f e same
+    subst NeverRead e (never_read line.text) same
 
 -- The error of a faulty line is not that the reader failed.
 pub fault_never_read : (line : DocumentLine) (fault : LineFault) → fault_of_line line ≡ Some fault → fault.reason ≡ Read → ⊥

@@ -1,20 +1,18 @@
 -- A parsed tag is a tag, and a tag is parsed in full.
-use Rattle.std.proofs.Common.{◌≡◌, ◌≢◌, ℕ, suc, Bool, true, false, eqb, List, [], ◌∷◌, ◌++◌, length, take, drop, Option, Some, None, Ok, refl, sym, ap, ◌∙◌, append_assoc, inl, inr}
+use Rattle.std.proofs.Common.{◌≡◌, ◌≢◌, ℕ, suc, Bool, true, false, eqb, List, [], ◌∷◌, ◌++◌, length, take, Option, Some, None, Ok, refl, sym, ap, subst, ◌∙◌, append_assoc, inl, inr}
 use Rattle.std.specs.List.{list_all, flat_map, AllByRecursion}
 use Rattle.std.specs.Char.{is_ascii_alphabetic, is_ascii_alphanumeric}
-use Rattle.std.proofs.lemmas.Bool.{eqb-true}
-use Rattle.std.proofs.lemmas.List.{take_at, drop_at}
-use Rattle.hdt_terms.specs.declared.fault.LineReason.TheVariants.{Syntax}
+use Rattle.std.proofs.lemmas.Bool.{cases_Bool, eqb-true}
+use Rattle.hdt_terms.specs.TermErrors.{DoesNotBeginWith}
+use Rattle.std.proofs.lemmas.List.{append-nil, take_at, drop_at}
 use Rattle.hdt_terms.specs.declared.tag.TagState.{TagState}
 use Rattle.hdt_terms.specs.declared.tag.TagState.TheVariants.{Letters, Dash, Part}
-use Rattle.hdt_terms.specs.declared.triple.Suffix.{Suffix}
 use Rattle.hdt_terms.specs.declared.triple.Suffix.TheVariants.{Tag}
 use Rattle.hdt_terms.specs.Tags.{next_tag_state, unless_last_dash, tag_rest, tag_len}
 use Rattle.hdt_terms.specs.Terms.{IsSubtag, IsTag}
-use Rattle.hdt_terms.specs.TermParsing.{stops, cut_tag, tag_at}
+use Rattle.hdt_terms.specs.TermParsing.{tag_at}
 use Rattle.hdt_terms.specs.Writing.{Extends}
 use Rattle.hdt_terms.proofs.Bools.{and_first, and_second, and_both}
-use Rattle.hdt_terms.proofs.Cases.{chosen, ok_is}
 use Rattle.hdt_terms.proofs.Fronts.{no_front, front_cons}
 
 abbrev pub dashed : List ℕ → List ℕ
@@ -102,12 +100,6 @@ pub tag_rest-front : (place : TagState) (cs : List ℕ) → Extends (tag_rest pl
 tag_rest-front place [] = no_front []
 tag_rest-front place (c ∷ cs) = next_prefix (next_tag_state place c) place c cs (λ q. tag_rest-front q cs) refl
 
-pub record TagFound (bytes : List ℕ) (suffix : Suffix) (rest : List ℕ) : Type 0 where
-  pub tag : List ℕ
-  pub is : suffix ≡ Tag tag
-  pub form : IsTag tag
-  pub whole : bytes ≡ 64 ∷ (tag ++ rest)
-
 letter_then : (c : ℕ) (run : List ℕ) → is_ascii_alphabetic c ≡ true → Run is_ascii_alphabetic run → IsTag (c ∷ run)
 letter_then c run h r = record {
   head = c ∷ r.first;
@@ -118,37 +110,21 @@ letter_then c run h r = record {
   whole = ap (λ (cs : List ℕ). c ∷ cs) r.whole;
 }
 
-cut_found : (bytes rest : List ℕ) (suffix : Suffix) (b : ℕ) (cs : List ℕ) → b ≡ 64 → cut_tag (tag_len cs) (b ∷ cs) cs ≡ Ok (suffix, rest) → TagFound (b ∷ cs) suffix rest
-cut_found bytes rest suffix b [] is e = absurd cc
-cut_found bytes rest suffix b (c ∷ cs) is e =
-    elim (chosen (is_ascii_alphabetic c) (Some (suc (length (tag_rest Letters cs)))) None (tag_len (c ∷ cs)) refl) [
-      | inl p ↦
-          let f = tag_rest-front Letters cs in
-          let n = suc (length (tag_rest Letters cs)) in
-          let cut : c ∷ cs ≡ (c ∷ tag_rest Letters cs) ++ f.more = ap (λ (bs : List ℕ). c ∷ bs) f.whole in
-          let front : take n (c ∷ cs) ≡ c ∷ tag_rest Letters cs = ap (take n) cut ∙ take_at (c ∷ tag_rest Letters cs) f.more n refl in
-          let back : drop n (c ∷ cs) ≡ f.more = ap (drop n) cut ∙ drop_at (c ∷ tag_rest Letters cs) f.more n refl in
-          let read : cut_tag (Some n) (b ∷ c ∷ cs) (c ∷ cs) ≡ Ok (suffix, rest) = ap (λ (o : Option ℕ). cut_tag o (b ∷ c ∷ cs) (c ∷ cs)) p.1 ∙ e in
-          let both : (Tag (take n (c ∷ cs)), drop n (c ∷ cs)) ≡ (suffix, rest) = ok_is _ _ read in
-          record {
-            tag = c ∷ tag_rest Letters cs;
-            is = sym (ap (λ (x : Suffix × List ℕ). x.0) both) ∙ ap Tag front;
-            form = letter_then c (tag_rest Letters cs) p.0 (tag_rest-Taken Letters cs);
-            whole = rw is (ap (λ (bs : List ℕ). 64 ∷ bs) (cut ∙ ap (λ (bs : List ℕ). (c ∷ tag_rest Letters cs) ++ bs) (sym back ∙ ap (λ (x : Suffix × List ℕ). x.1) both)));
-          }
-      | inr p ↦
-          let read : cut_tag None (b ∷ c ∷ cs) (c ∷ cs) ≡ Ok (suffix, rest) = ap (λ (o : Option ℕ). cut_tag o (b ∷ c ∷ cs) (c ∷ cs)) p.1 ∙ e in
-          absurd cc
-    ]
+-- the parsed tag is a tag, or the text doesn't begin with one
+abbrev pub TagSays : List ℕ → Option ℕ → Type 0
+TagSays text (Some n) = IsTag (take n text)
+TagSays text None = DoesNotBeginWith is_ascii_alphabetic text
 
-pub tag_found : (bytes rest : List ℕ) (suffix : Suffix) → tag_at bytes ≡ Ok (suffix, rest) → TagFound bytes suffix rest
-unfolding tag_at
-tag_found [] rest suffix e = absurd cc
-tag_found (b ∷ cs) rest suffix e =
-    elim (chosen (eqb b 64) (cut_tag (tag_len cs) (b ∷ cs) cs) (stops Syntax (b ∷ cs)) (Ok (suffix, rest)) e) [
-      | inl p ↦ cut_found (b ∷ cs) rest suffix b cs (eqb-true _ _ p.0) p.1
-      | inr p ↦ absurd cc
-    ]
+pub tag_says : (text : List ℕ) → TagSays text (tag_len text)
+tag_says [] = tt
+tag_says (c ∷ cs) = elim (cases_Bool (is_ascii_alphabetic c)) [
+  | inl p ↦
+      let f = tag_rest-front Letters cs in
+      let run = c ∷ tag_rest Letters cs in
+      let front : take (length run) (c ∷ cs) ≡ run = ap (λ (bs : List ℕ). take (length run) (c ∷ bs)) f.whole ∙ take_at run f.more (length run) refl in
+      rw p (subst IsTag (sym front) (letter_then c (tag_rest Letters cs) p (tag_rest-Taken Letters cs)))
+  | inr p ↦ rw p p
+]
 
 -- ---- a tag is parsed in full
 
@@ -157,7 +133,7 @@ pub record Ends (more : List ℕ) : Type 0 where
   pub letters : tag_rest Letters more ≡ []
   pub part : tag_rest Part more ≡ []
 
-pub letters_again : (head more : List ℕ) → list_all is_ascii_alphabetic head ≡ true → tag_rest Letters (head ++ more) ≡ head ++ tag_rest Letters more
+letters_again : (head more : List ℕ) → list_all is_ascii_alphabetic head ≡ true → tag_rest Letters (head ++ more) ≡ head ++ tag_rest Letters more
 letters_again [] more h = refl
 letters_again (c ∷ head) more h = rw (and_first (is_ascii_alphabetic c) (list_all is_ascii_alphabetic head) h) (ap (λ (bs : List ℕ). c ∷ bs) (letters_again head more (and_second _ _ h)))
 
@@ -165,36 +141,51 @@ part_again : (part more : List ℕ) → list_all is_ascii_alphanumeric part ≡ 
 part_again [] more h = refl
 part_again (c ∷ part) more h = rw (and_first (is_ascii_alphanumeric c) (list_all is_ascii_alphanumeric part) h) (ap (λ (bs : List ℕ). c ∷ bs) (part_again part more (and_second _ _ h)))
 
-pub dash_again : (part more : List ℕ) → IsSubtag part → unless_last_dash Dash 45 (tag_rest Dash (part ++ more)) ≡ 45 ∷ (part ++ tag_rest Part more)
+dash_again : (part more : List ℕ) → IsSubtag part → unless_last_dash Dash 45 (tag_rest Dash (part ++ more)) ≡ 45 ∷ (part ++ tag_rest Part more)
 dash_again [] more h = absurd (h.some refl)
 dash_again (c ∷ part) more h =
     rw (and_first (is_ascii_alphanumeric c) (list_all is_ascii_alphanumeric part) h.each) (ap (λ (bs : List ℕ). 45 ∷ c ∷ bs) (part_again part more (and_second _ _ h.each)))
 
-parts_again : (parts : List (List ℕ)) (more : List ℕ) → AllByRecursion IsSubtag parts → Ends more → tag_rest Part (flat_map dashed parts ++ more) ≡ flat_map dashed parts
-parts_again [] more each ends = ends.part
-parts_again (part ∷ parts) more each ends =
+parts_more : (parts : List (List ℕ)) (more : List ℕ) → AllByRecursion IsSubtag parts → tag_rest Part (flat_map dashed parts ++ more) ≡ flat_map dashed parts ++ tag_rest Part more
+parts_more [] more each = refl
+parts_more (part ∷ parts) more each =
     ap (tag_rest Part) (append_assoc (45 ∷ part) (flat_map dashed parts) more)
     ∙ dash_again part (flat_map dashed parts ++ more) each.0
-    ∙ ap (λ (bs : List ℕ). 45 ∷ (part ++ bs)) (parts_again parts more each.1 ends)
+    ∙ ap (λ (bs : List ℕ). 45 ∷ (part ++ bs)) (parts_more parts more each.1)
+    ∙ sym (append_assoc (45 ∷ part) (flat_map dashed parts) (tag_rest Part more))
 
-tail_again : (parts : List (List ℕ)) (more : List ℕ) → AllByRecursion IsSubtag parts → Ends more → tag_rest Letters (flat_map dashed parts ++ more) ≡ flat_map dashed parts
-tail_again [] more each ends = ends.letters
-tail_again (part ∷ parts) more each ends =
+-- what the tag takes of the bytes behind its parts
+abbrev pub behind_parts : List (List ℕ) → List ℕ → List ℕ
+behind_parts [] more = tag_rest Letters more
+behind_parts (part ∷ parts) more = tag_rest Part more
+
+tail_more : (parts : List (List ℕ)) (more : List ℕ) → AllByRecursion IsSubtag parts → tag_rest Letters (flat_map dashed parts ++ more) ≡ flat_map dashed parts ++ behind_parts parts more
+tail_more [] more each = refl
+tail_more (part ∷ parts) more each =
     ap (tag_rest Letters) (append_assoc (45 ∷ part) (flat_map dashed parts) more)
     ∙ dash_again part (flat_map dashed parts ++ more) each.0
-    ∙ ap (λ (bs : List ℕ). 45 ∷ (part ++ bs)) (parts_again parts more each.1 ends)
+    ∙ ap (λ (bs : List ℕ). 45 ∷ (part ++ bs)) (parts_more parts more each.1)
+    ∙ sym (append_assoc (45 ∷ part) (flat_map dashed parts) (tag_rest Part more))
 
-whole_again : (head : List ℕ) (parts : List (List ℕ)) (more : List ℕ) → head ≢ [] → list_all is_ascii_alphabetic head ≡ true → AllByRecursion IsSubtag parts → Ends more
-    → tag_len ((head ++ flat_map dashed parts) ++ more) ≡ Some (length (head ++ flat_map dashed parts))
-whole_again [] parts more some letters each ends = absurd (some refl)
-whole_again (c ∷ head) parts more some letters each ends =
+head_more : (head : List ℕ) (parts : List (List ℕ)) (more : List ℕ) → head ≢ [] → list_all is_ascii_alphabetic head ≡ true → AllByRecursion IsSubtag parts
+    → tag_len ((head ++ flat_map dashed parts) ++ more) ≡ Some (length ((head ++ flat_map dashed parts) ++ behind_parts parts more))
+head_more [] parts more some letters each = absurd (some refl)
+head_more (c ∷ head) parts more some letters each =
     rw (and_first (is_ascii_alphabetic c) (list_all is_ascii_alphabetic head) letters) (ap (λ (bs : List ℕ). Some (suc (length bs)))
     (ap (tag_rest Letters) (append_assoc head (flat_map dashed parts) more)
     ∙ letters_again head (flat_map dashed parts ++ more) (and_second _ _ letters)
-    ∙ ap (λ (bs : List ℕ). head ++ bs) (tail_again parts more each ends)))
+    ∙ ap (λ (bs : List ℕ). head ++ bs) (tail_more parts more each)
+    ∙ sym (append_assoc head (flat_map dashed parts) (behind_parts parts more))))
+
+pub tag_len-more : (tag more : List ℕ) (h : IsTag tag) → tag_len (tag ++ more) ≡ Some (length (tag ++ behind_parts h.parts more))
+tag_len-more tag more h = rw h.whole (head_more h.head h.parts more h.some h.letters h.each)
+
+nothing_behind : (parts : List (List ℕ)) (more : List ℕ) → Ends more → behind_parts parts more ≡ []
+nothing_behind [] more ends = ends.letters
+nothing_behind (part ∷ parts) more ends = ends.part
 
 pub tag_len-again : (tag more : List ℕ) → IsTag tag → Ends more → tag_len (tag ++ more) ≡ Some (length tag)
-tag_len-again tag more h ends = rw h.whole (whole_again h.head h.parts more h.some h.letters h.each ends)
+tag_len-again tag more h ends = tag_len-more tag more h ∙ ap (λ (bs : List ℕ). Some (length (tag ++ bs))) (nothing_behind h.parts more ends) ∙ ap (λ (bs : List ℕ). Some (length bs)) (append-nil tag)
 
 pub tag_again : (tag more : List ℕ) → IsTag tag → Ends more → tag_at (64 ∷ (tag ++ more)) ≡ Ok (Tag tag, more)
 unfolding tag_at

@@ -1,24 +1,24 @@
 -- Completeness of term errors: if a check of the table fails, parsing fails there.
-use Rattle.std.proofs.Common.{◌≡◌, ℕ, Bool, true, false, eqb, List, [], ◌∷◌, ◌++◌, None, Result, Ok, Err, refl, sym, ap, subst, ◌∙◌, append_assoc}
-use Rattle.std.specs.Prelude.{◌||◌, IsUtf8, encode_utf8, encode_utf8_all}
+use Rattle.std.proofs.Common.{inl, inr, arith, ◌≡◌, ℕ, Bool, true, false, eqb, List, [], ◌∷◌, ◌++◌, None, Result, Ok, Err, refl, sym, ap, subst, ◌∙◌}
+use Rattle.std.specs.Prelude.{◌||◌, IsUtf8, encode_utf8_all}
 use Rattle.std.specs.Char.{is_ascii_alphabetic}
 use Rattle.std.specs.Str.{chars}
 use Rattle.std.proofs.lemmas.Str.{encodes-chars}
 use Rattle.hdt_terms.specs.declared.fault.FailedCheck.{FailedCheck}
 use Rattle.hdt_terms.specs.declared.escaped_tokens.Token.TheVariants.{Iri, Quoted}
 use Rattle.hdt_terms.specs.Chars.{is_absolute, is_label_start, is_whitespace}
-use Rattle.hdt_terms.specs.Labels.{is_label, is_label_rest}
+use Rattle.hdt_terms.specs.Labels.{label_bytes}
 use Rattle.hdt_terms.specs.Tags.{tag_len}
 use Rattle.hdt_terms.specs.Grammar.{EncodesContent, IsWhitespace}
 use Rattle.hdt_terms.specs.ContentErrors.{ContentCheckFails}
 use Rattle.hdt_terms.specs.TermErrors.{DoesNotBeginWith, syntax_at, relative_at, IriCheckFails, no_iri, in_iri, relative, BeginsLabel, SuffixCheckFails, no_tag, no_caret, no_datatype, is_term_start, TermCheckFails, no_term, iri, blank, string, suffix}
 use Rattle.hdt_terms.specs.TermParsing.{◌>>=◌, token_content, iri_at, blank_at, skip_whitespace, tag_at, datatype_at, suffix_at, with_suffix, literal_at, term_at}
+use Rattle.std.proofs.lemmas.Bool.{cases_Bool}
+use Rattle.std.proofs.lemmas.Bool.Decides.{eqb_tells}
+use Rattle.hdt_terms.proofs.Utf8.{behind_ascii}
 use Rattle.hdt_terms.proofs.ContentCompleteness.{pieces_again}
-use Rattle.hdt_terms.proofs.Bools.{and_first}
-use Rattle.hdt_terms.proofs.LabelSoundness.{blank_found}
 use Rattle.hdt_terms.proofs.TermCompleteness.{skip_whitespace-blanks}
 use Rattle.hdt_terms.proofs.ContentErrorCompleteness.{stops_again}
-use Rattle.hdt_terms.proofs.TermErrorSoundness.{blank_syntax}
 
 -- ---- IRIs
 
@@ -45,22 +45,22 @@ iri_again bytes s (relative inner value more i whole h is) =
 
 -- ---- blank nodes
 
--- a label starts with its first character
-label_begins : (cs label rest : List ℕ) → IsUtf8 label → chars label ≡ cs → is_label cs ≡ true → BeginsLabel (95 ∷ 58 ∷ (label ++ rest))
-label_begins [] label rest utf8 are h = absurd cc
-label_begins (c ∷ cs) label rest utf8 are h =
-    let whole : label ≡ encode_utf8 c ++ encode_utf8_all cs = sym (encodes-chars label utf8) ∙ ap encode_utf8_all are in (
-      c,
-      encode_utf8_all cs ++ rest,
-      and_first (is_label_start c) (is_label_rest cs) h,
-      ap (λ (bs : List ℕ). 95 ∷ 58 ∷ bs) (ap (λ (bs : List ℕ). bs ++ rest) whole ∙ append_assoc (encode_utf8 c) (encode_utf8_all cs) rest),
-    )
+label_none : (cs text : List ℕ) → IsUtf8 text → chars text ≡ cs → ¬ (BeginsLabel (95 ∷ 58 ∷ text)) → label_bytes cs ≡ None
+label_none [] text utf8 is none = refl
+label_none (c ∷ cs) text utf8 is none = elim (cases_Bool (is_label_start c)) [
+  | inl p ↦ absurd (none (c, encode_utf8_all cs, p, ap (λ (bs : List ℕ). 95 ∷ 58 ∷ bs) (sym (encodes-chars text utf8) ∙ ap encode_utf8_all is)))
+  | inr p ↦ rw p refl
+]
 
-blank_none : (r : Result (List ℕ × List ℕ) FailedCheck) (bytes : List ℕ) → IsUtf8 bytes → blank_at bytes ≡ r → ¬ (BeginsLabel bytes) → blank_at bytes ≡ Err (syntax_at bytes)
-blank_none (Ok x) bytes utf8 e none =
-    let f = blank_found bytes x.0 x.1 utf8 e in
-    absurd (none (subst BeginsLabel (sym f.whole) (label_begins (chars x.0) x.0 x.1 f.utf8 refl f.form)))
-blank_none (Err s) bytes utf8 e none = e ∙ ap (λ (t : FailedCheck). Err t) (blank_syntax bytes s e)
+blank_none : (rest : List ℕ) → IsUtf8 (95 ∷ rest) → ¬ (BeginsLabel (95 ∷ rest)) → blank_at (95 ∷ rest) ≡ Err (syntax_at (95 ∷ rest))
+unfolding blank_at
+blank_none [] utf8 none = refl
+blank_none (v ∷ text) utf8 none = elim (eqb_tells v 58) [
+  | inl p ↦
+      let behind = behind_ascii 58 text (omega arith) (subst (λ (b : ℕ). IsUtf8 (b ∷ text)) p.1 (behind_ascii 95 (v ∷ text) (omega arith) utf8)) in
+      rw (p.0, label_none (chars text) text behind refl (subst (λ (b : ℕ). ¬ (BeginsLabel (95 ∷ b ∷ text))) p.1 none)) refl
+  | inr p ↦ rw p.0 refl
+]
 
 -- ---- suffixes
 
@@ -129,7 +129,7 @@ pub table_again : (bytes : List ℕ) (s : FailedCheck) → IsUtf8 bytes → Term
 table_again bytes s utf8 (no_term h is) = no_term_again bytes h ∙ ap (λ (t : FailedCheck). Err t) (sym is)
 table_again bytes s utf8 (iri rest whole h) = ap term_at whole ∙ at_iri rest s (ap iri_at (sym whole) ∙ iri_again bytes s h)
 table_again bytes s utf8 (blank rest whole none is) =
-    ap term_at whole ∙ at_blank rest s (ap blank_at (sym whole) ∙ blank_none (blank_at bytes) bytes utf8 refl none ∙ ap (λ (t : FailedCheck). Err t) (sym is))
+    ap term_at whole ∙ at_blank rest s (blank_none rest (subst IsUtf8 whole utf8) (subst (λ (bs : List ℕ). ¬ (BeginsLabel bs)) whole none) ∙ ap (λ (bs : List ℕ). Err (syntax_at bs)) (sym whole) ∙ ap (λ (t : FailedCheck). Err t) (sym is))
 table_again bytes s utf8 (string rest whole h) =
     ap term_at whole ∙ at_string rest s (ap (λ (r : Result (List ℕ × List ℕ) FailedCheck). r >>= with_suffix) (stops_again Quoted rest s h))
 table_again bytes s utf8 (suffix inner value behind i whole h) = ap term_at whole ∙ at_string (inner ++ 34 ∷ behind) s (suffix_fails inner value behind s i h)

@@ -23,10 +23,10 @@ use Rattle.hdt_terms.proofs.ContentCompleteness.{pieces_again}
 use Rattle.hdt_terms.proofs.Cases.{chosen, bind_ok, refused, ok_is, err_is, ok_or_err}
 use Rattle.hdt_terms.proofs.LawsLemmas.{all_valid}
 use Rattle.hdt_terms.proofs.TermCompleteness.{datatype_again, tag_behind, term_again}
-use Rattle.hdt_terms.proofs.TermSoundness.{term_found, suffix_found}
-use Rattle.hdt_terms.proofs.Longest.{tag_takes, takes_label}
+use Rattle.hdt_terms.proofs.TermSoundness.{term_stops, term_found, suffix_found}
+use Rattle.hdt_terms.proofs.Longest.{takes_label}
+use Rattle.hdt_terms.proofs.TagSoundness.{behind_parts, tag_len-more}
 use Rattle.hdt_terms.proofs.TermErrorCompleteness.{table_again}
-use Rattle.hdt_terms.proofs.TermErrorSoundness.{term_stops}
 use Rattle.hdt_terms.proofs.CompleteTexts.{checked_ok}
 use Rattle.hdt_terms.proofs.Utf8.{behind_ascii}
 
@@ -44,10 +44,10 @@ suffix_rest s t r q read e f = let both : (s, r) ≡ (t, q) = ok_is _ _ (sym e �
 tag_least : (tag rest r : List ℕ) (s : Suffix) → IsTag tag → tag_at (64 ∷ (tag ++ rest)) ≡ Ok (s, r) → length r ≤ length rest
 unfolding tag_at
 tag_least tag rest r s h e =
-    let t = tag_takes tag rest h in
-    let read : tag_at (64 ∷ (tag ++ rest)) ≡ Ok (Tag (take t.len (tag ++ rest)), drop t.len (tag ++ rest)) = rw t.is refl in
-    let is = suffix_rest (Tag (take t.len (tag ++ rest))) s (drop t.len (tag ++ rest)) r (tag_at (64 ∷ (tag ++ rest))) read e in
-    omega (arith, ap length is, length-drop t.len (tag ++ rest), length-append tag rest, t.least)
+    let n = length (tag ++ behind_parts h.parts rest) in
+    let read : tag_at (64 ∷ (tag ++ rest)) ≡ Ok (Tag (take n (tag ++ rest)), drop n (tag ++ rest)) = rw (tag_len-more tag rest h) refl in
+    let is = suffix_rest (Tag (take n (tag ++ rest))) s (drop n (tag ++ rest)) r (tag_at (64 ∷ (tag ++ rest))) read e in
+    omega (arith, ap length is, length-drop n (tag ++ rest), length-append tag rest, length-append tag (behind_parts h.parts rest))
 
 datatype_least : (text iri rest r : List ℕ) (s : Suffix) → EncodesDatatype text iri → suffix_at (text ++ rest) ≡ Ok (s, r) → length r ≤ length rest
 datatype_least text iri rest r s h e = omega (arith, ap length (suffix_rest _ s rest r (suffix_at (text ++ rest)) (datatype_again text iri rest h) e))

@@ -1,27 +1,28 @@
--- Soundness for terms: the text encodes the term that parsing reads.
-use Rattle.std.proofs.Common.{◌≡◌, ◌≢◌, ℕ, Bool, true, false, cond, eqb, List, [], ◌∷◌, ◌++◌, Result, Ok, refl, sym, ap, subst, ◌∙◌, append_assoc, inl, inr}
-use Rattle.std.specs.Prelude.{◌&&◌, IsUtf8}
-use Rattle.std.specs.Str.{bytes_eq}
-use Rattle.std.proofs.lemmas.Bool.{eqb-true}
-use Rattle.std.proofs.lemmas.Bool.Decides.{not_from_Decides}
+-- Soundness for terms: the text encodes the term that parsing reads, or a check of the table of errors fails.
+use Rattle.std.proofs.Common.{◌≡◌, ◌≢◌, ℕ, Bool, true, false, eqb, List, [], ◌∷◌, ◌++◌, Result, Ok, refl, sym, ap, subst, ◌∙◌, append_assoc, inl, inr, take, drop, Option, Some, None, Err, arith}
+use Rattle.std.specs.Prelude.{IsUtf8, encode_utf8}
+use Rattle.std.specs.Str.{bytes_eq, chars}
+use Rattle.std.proofs.lemmas.Bool.Decides.{not_from_Decides, eqb_tells}
 use Rattle.std.proofs.lemmas.Slice.Eq.{bytes_eq-Decides}
 use Rattle.hdt_terms.specs.declared.fault.FailedCheck.{FailedCheck}
-use Rattle.hdt_terms.specs.declared.fault.LineReason.TheVariants.{Syntax}
 use Rattle.hdt_terms.specs.declared.escaped_tokens.Token.TheVariants.{Quoted}
 use Rattle.hdt_terms.specs.declared.triple.Term.{Term}
 use Rattle.hdt_terms.specs.declared.triple.Term.TheVariants as terms
 use Rattle.hdt_terms.specs.declared.triple.Suffix.{Suffix}
-use Rattle.hdt_terms.specs.declared.triple.Suffix.TheVariants.{Plain}
 use Rattle.hdt_terms.specs.Chars.{is_whitespace}
 use Rattle.hdt_terms.specs.Terms.{xsd_string}
-use Rattle.hdt_terms.specs.Grammar.{pieces_text, IsWhitespace, EncodesDatatype, EncodesSuffix, Encodes}
-use Rattle.hdt_terms.specs.TermParsing.{◌>>=◌, stops, token_content, iri_at, blank_at, skip_whitespace, tag_at, datatype_of, as_datatype, datatype_at, suffix_after, suffix_at, as_iri, as_blank, with_suffix, literal_at, term_at}
-use Rattle.hdt_terms.proofs.Bools.{and_first, and_second, and_both}
-use Rattle.hdt_terms.proofs.Cases.{bind_ok, chosen, ok_is}
-use Rattle.hdt_terms.proofs.ContentSoundness.{inside_found, iri_found}
+use Rattle.hdt_terms.specs.Grammar.{pieces_text, IsWhitespace, EncodesDatatype, EncodesSuffix, Encodes, EncodesContent}
+use Rattle.hdt_terms.specs.TermParsing.{◌>>=◌, token_content, iri_at, blank_at, skip_whitespace, tag_at, datatype_of, as_datatype, datatype_at, suffix_after, suffix_at, as_iri, as_blank, with_suffix, literal_at, term_at, cut_label, cut_tag}
+use Rattle.hdt_terms.proofs.Bools.{and_both}
 use Rattle.hdt_terms.proofs.FrontUtf8.{iri_front, blank_utf8, literal_front}
-use Rattle.hdt_terms.proofs.LabelSoundness.{blank_found}
-use Rattle.hdt_terms.proofs.TagSoundness.{tag_found}
+use Rattle.std.proofs.lemmas.List.{take-append-drop}
+use Rattle.hdt_terms.proofs.LabelSoundness.{LabelSays, label_says}
+use Rattle.hdt_terms.proofs.TagSoundness.{TagSays, tag_says}
+use Rattle.hdt_terms.specs.Labels.{label_bytes}
+use Rattle.hdt_terms.specs.Tags.{tag_len}
+use Rattle.hdt_terms.specs.TermErrors.{DoesNotBeginWith, SuffixCheckFails, no_tag, no_caret, no_datatype, TermCheckFails, no_term, iri, blank, string, suffix}
+use Rattle.hdt_terms.proofs.Utf8.{behind_ascii}
+use Rattle.hdt_terms.proofs.ContentSoundness.{IriSays, ContentSays, inside_says, iri_says}
 
 -- the leading whitespace
 pub record Passed (bytes : List ℕ) : Type 0 where
@@ -37,6 +38,16 @@ pub passed : (bytes : List ℕ) → Passed bytes
 passed [] = record { blanks = []; are = refl; whole = refl }
 passed (c ∷ cs) = one_more (is_whitespace c) c cs (passed cs) refl
 
+-- ---- suffixes
+
+begins_not : (b : Bool) (c : ℕ) (cs : List ℕ) → is_whitespace c ≡ b → DoesNotBeginWith is_whitespace (skip_whitespace cs) → DoesNotBeginWith is_whitespace (skip_whitespace (c ∷ cs))
+begins_not true c cs h more = simp h more
+begins_not false c cs h more = simp h refl
+
+skip_whitespace-begins : (bytes : List ℕ) → DoesNotBeginWith is_whitespace (skip_whitespace bytes)
+skip_whitespace-begins [] = tt
+skip_whitespace-begins (c ∷ cs) = begins_not (is_whitespace c) c cs refl (skip_whitespace-begins cs)
+
 -- what was read is a prefix, and the rest follows it
 pub record SuffixFound (bytes : List ℕ) (suffix : Suffix) (rest : List ℕ) : Type 0 where
   pub text : List ℕ
@@ -48,73 +59,73 @@ pub record DatatypeFound (bytes iri rest : List ℕ) : Type 0 where
   pub form : EncodesDatatype text iri
   pub whole : bytes ≡ text ++ rest
 
-pick : (b : Bool) (bytes iri rest : List ℕ) → bytes_eq iri xsd_string ≡ b → DatatypeFound bytes iri rest → SuffixFound bytes (datatype_of iri) rest
-pick true bytes iri rest h f =
-    let is : iri ≡ xsd_string = (bytes_eq-Decides iri xsd_string).0 h in
+pick : (b : Bool) (bytes value rest : List ℕ) → bytes_eq value xsd_string ≡ b → DatatypeFound bytes value rest → SuffixFound bytes (datatype_of value) rest
+pick true bytes value rest h f =
+    let is : value ≡ xsd_string = (bytes_eq-Decides value xsd_string).0 h in
     rw h (record { text = f.text; form = inr (subst (λ (d : List ℕ). EncodesDatatype f.text d) is f.form); whole = f.whole })
-pick false bytes iri rest h f =
-    let differs : iri ≢ xsd_string = not_from_Decides (bytes_eq iri xsd_string) (bytes_eq-Decides iri xsd_string) h in
+pick false bytes value rest h f =
+    let differs : value ≢ xsd_string = not_from_Decides (bytes_eq value xsd_string) (bytes_eq-Decides value xsd_string) h in
     rw h (record { text = f.text; form = (f.form, differs); whole = f.whole })
 
+-- a suffix and what follows it, or the check that fails
+abbrev SuffixSays : List ℕ → Result (Suffix × List ℕ) FailedCheck → Type 0
+SuffixSays bytes (Ok x) = SuffixFound bytes x.0 x.1
+SuffixSays bytes (Err s) = SuffixCheckFails bytes s
+
+tag_then : (front behind : List ℕ) (o : Option ℕ) → IsWhitespace front → TagSays behind o → SuffixSays (front ++ 64 ∷ behind) (cut_tag o (64 ∷ behind) behind)
+tag_then front behind None blanks h = no_tag front behind blanks refl h refl
+tag_then front behind (Some n) blanks h = record {
+  text = front ++ 64 ∷ take n behind;
+  form = record { before = front; blanks = blanks; whole = refl; form = h };
+  whole = ap (λ (bs : List ℕ). front ++ 64 ∷ bs) (sym (take-append-drop n behind)) ∙ sym (append_assoc front (64 ∷ take n behind) (drop n behind));
+}
+
+tag_behind : (front behind : List ℕ) → IsWhitespace front → SuffixSays (front ++ 64 ∷ behind) (tag_at (64 ∷ behind))
+unfolding tag_at
+tag_behind front behind blanks = tag_then front behind (tag_len behind) blanks (tag_says behind)
+
 -- ^^, whitespace and an IRI
-datatype_read : (front : List ℕ) (iri rest behind : List ℕ) → IsWhitespace front → iri_at (skip_whitespace behind) ≡ Ok (iri, rest) → DatatypeFound (front ++ 94 ∷ 94 ∷ behind) iri rest
-datatype_read front iri rest behind blanks e =
+datatype_then : (front behind : List ℕ) (r : Result (List ℕ × List ℕ) FailedCheck) → IsWhitespace front → IriSays (skip_whitespace behind) r → SuffixSays (front ++ 94 ∷ 94 ∷ behind) (r >>= as_datatype)
+datatype_then front behind (Ok x) blanks f =
     let p = passed behind in
-    let f = iri_found (skip_whitespace behind) iri rest e in
-    record {
+    pick (bytes_eq x.0 xsd_string) (front ++ 94 ∷ 94 ∷ behind) x.0 x.1 refl (record {
       text = front ++ 94 ∷ 94 ∷ (p.blanks ++ f.0);
       form = record { before = front; behind = p.blanks; blanks = (blanks, p.are); spelled = f.0; whole = refl; datatype = f.1 };
       whole =
-          ap (λ (bs : List ℕ). front ++ 94 ∷ 94 ∷ bs) (p.whole ∙ ap (λ (bs : List ℕ). p.blanks ++ bs) f.2 ∙ sym (append_assoc p.blanks f.0 rest))
-          ∙ sym (append_assoc front (94 ∷ 94 ∷ (p.blanks ++ f.0)) rest);
-    }
+          ap (λ (bs : List ℕ). front ++ 94 ∷ 94 ∷ bs) (p.whole ∙ ap (λ (bs : List ℕ). p.blanks ++ bs) f.2 ∙ sym (append_assoc p.blanks f.0 x.1))
+          ∙ sym (append_assoc front (94 ∷ 94 ∷ (p.blanks ++ f.0)) x.1);
+    })
+datatype_then front behind (Err s) blanks h =
+    let p = passed behind in
+    no_datatype front p.blanks (skip_whitespace behind) blanks p.are (ap (λ (bs : List ℕ). front ++ 94 ∷ 94 ∷ bs) p.whole) (skip_whitespace-begins behind) h
 
-datatype_found : (front token rest : List ℕ) (suffix : Suffix) → IsWhitespace front → datatype_at token ≡ Ok (suffix, rest) → SuffixFound (front ++ token) suffix rest
+datatype_says : (front behind : List ℕ) → IsWhitespace front → SuffixSays (front ++ 94 ∷ behind) (datatype_at (94 ∷ behind))
 unfolding datatype_at
-datatype_found front [] rest suffix blanks e = absurd cc
-datatype_found front (c ∷ []) rest suffix blanks e = absurd cc
-datatype_found front (c ∷ d ∷ behind) rest suffix blanks e =
-    elim (chosen (eqb c 94 && eqb d 94) (iri_at (skip_whitespace behind) >>= as_datatype) (stops Syntax (c ∷ d ∷ behind)) (Ok (suffix, rest)) e) [
-      | inl p ↦
-          let first : c ≡ 94 = eqb-true _ _ (and_first (eqb c 94) (eqb d 94) p.0) in
-          let second : d ≡ 94 = eqb-true _ _ (and_second (eqb c 94) (eqb d 94) p.0) in
-          let b = bind_ok (iri_at (skip_whitespace behind)) as_datatype (suffix, rest) p.1 in
-          let both : (datatype_of b.0.0, b.0.1) ≡ (suffix, rest) = ok_is _ _ b.2 in
-          let f = pick (bytes_eq b.0.0 xsd_string) (front ++ 94 ∷ 94 ∷ behind) b.0.0 b.0.1 refl (datatype_read front b.0.0 b.0.1 behind blanks b.1) in
-          rw (first, second) (subst (λ (x : Suffix × List ℕ). SuffixFound (front ++ 94 ∷ 94 ∷ behind) x.0 x.1) both f)
-      | inr p ↦ absurd cc
-    ]
+datatype_says front [] blanks = no_caret front [] blanks refl tt refl
+datatype_says front (d ∷ behind) blanks = elim (eqb_tells d 94) [
+  | inl p ↦ rw p.0 (subst (λ (b : ℕ). SuffixSays (front ++ 94 ∷ b ∷ behind) (iri_at (skip_whitespace behind) >>= as_datatype)) (sym p.1) (datatype_then front behind (iri_at (skip_whitespace behind)) blanks (iri_says (skip_whitespace behind))))
+  | inr p ↦ rw p.0 (no_caret front (d ∷ behind) blanks refl p.0 refl)
+]
 
-tag_behind : (front token rest : List ℕ) (suffix : Suffix) → IsWhitespace front → tag_at token ≡ Ok (suffix, rest) → SuffixFound (front ++ token) suffix rest
-tag_behind front token rest suffix blanks e =
-    let f = tag_found token rest suffix e in
-    record {
-      text = front ++ 64 ∷ f.tag;
-      form = subst (λ (s : Suffix). EncodesSuffix (front ++ 64 ∷ f.tag) s) (sym f.is) (record { before = front; blanks = blanks; whole = refl; form = f.form });
-      whole = ap (λ (bs : List ℕ). front ++ bs) f.whole ∙ sym (append_assoc front (64 ∷ f.tag) rest);
-    }
+after_says : (front token : List ℕ) → IsWhitespace front → SuffixSays (front ++ token) (suffix_after (front ++ token) token)
+after_says front [] blanks = record { text = []; form = inl refl; whole = refl }
+after_says front (c ∷ behind) blanks = elim (eqb_tells c 64) [
+  | inl p ↦ rw p.0 (subst (λ (b : ℕ). SuffixSays (front ++ b ∷ behind) (tag_at (b ∷ behind))) (sym p.1) (tag_behind front behind blanks))
+  | inr p ↦
+      elim (eqb_tells c 94) [
+        | inl q ↦ rw (p.0, q.0) (subst (λ (b : ℕ). SuffixSays (front ++ b ∷ behind) (datatype_at (b ∷ behind))) (sym q.1) (datatype_says front behind blanks))
+        | inr q ↦ rw (p.0, q.0) (record { text = []; form = inl refl; whole = refl })
+      ]
+]
 
-abbrev nothing_behind : List ℕ → Result (Suffix × List ℕ) FailedCheck
-nothing_behind bytes = Ok (Plain, bytes)
-
-no_suffix : (bytes rest : List ℕ) (suffix : Suffix) → nothing_behind bytes ≡ Ok (suffix, rest) → SuffixFound bytes suffix rest
-no_suffix bytes rest suffix e = subst (λ (x : Suffix × List ℕ). SuffixFound bytes x.0 x.1) (ok_is _ _ e) (record { text = []; form = inl refl; whole = refl })
-
-after_found : (bytes front token rest : List ℕ) (suffix : Suffix) → IsWhitespace front → bytes ≡ front ++ token → suffix_after bytes token ≡ Ok (suffix, rest) → SuffixFound bytes suffix rest
-after_found bytes front [] rest suffix blanks cut e = no_suffix bytes rest suffix e
-after_found bytes front (c ∷ behind) rest suffix blanks cut e =
-    elim (chosen (eqb c 64) (tag_at (c ∷ behind)) (cond (eqb c 94) (datatype_at (c ∷ behind)) (Ok (Plain, bytes))) (Ok (suffix, rest)) e) [
-      | inl p ↦ subst (λ (bs : List ℕ). SuffixFound bs suffix rest) (sym cut) (tag_behind front (c ∷ behind) rest suffix blanks p.1)
-      | inr p ↦
-          elim (chosen (eqb c 94) (datatype_at (c ∷ behind)) (Ok (Plain, bytes)) (Ok (suffix, rest)) p.1) [
-            | inl q ↦ subst (λ (bs : List ℕ). SuffixFound bs suffix rest) (sym cut) (datatype_found front (c ∷ behind) rest suffix blanks q.1)
-            | inr q ↦ no_suffix bytes rest suffix q.1
-          ]
-    ]
+suffix_says : (bytes : List ℕ) → SuffixSays bytes (suffix_at bytes)
+unfolding suffix_at
+suffix_says bytes =
+    let p = passed bytes in
+    subst (λ (bs : List ℕ). SuffixSays bs (suffix_after bs (skip_whitespace bytes))) (sym p.whole) (after_says p.blanks (skip_whitespace bytes) p.are)
 
 pub suffix_found : (bytes rest : List ℕ) (suffix : Suffix) → suffix_at bytes ≡ Ok (suffix, rest) → SuffixFound bytes suffix rest
-unfolding suffix_at
-suffix_found bytes rest suffix e = let p = passed bytes in after_found bytes p.blanks (skip_whitespace bytes) rest suffix p.are p.whole e
+suffix_found bytes rest value e = subst (SuffixSays bytes) e (suffix_says bytes)
 
 -- ---- a term
 
@@ -123,48 +134,74 @@ pub record TermFound (bytes : List ℕ) (term : Term) (rest : List ℕ) : Type 0
   pub spelled : Encodes text term
   pub whole : bytes ≡ text ++ rest
 
-literal_found : (bytes rest : List ℕ) (term : Term) → IsUtf8 bytes → literal_at bytes ≡ Ok (term, rest) → TermFound bytes term rest
+-- a term and what follows it, or the check that fails
+abbrev TermSays : List ℕ → Result (Term × List ℕ) FailedCheck → Type 0
+TermSays bytes (Ok x) = TermFound bytes x.0 x.1
+TermSays bytes (Err s) = TermCheckFails bytes s
+
+suffix_then : (bytes inner value behind : List ℕ) (r : Result (Suffix × List ℕ) FailedCheck) → IsUtf8 bytes → EncodesContent Quoted inner value → bytes ≡ 34 ∷ (inner ++ 34 ∷ behind) → SuffixSays behind r
+    → TermSays bytes (r >>= λ s. Ok (terms.Literal value s.0, s.1))
+suffix_then bytes inner value behind (Err s) utf8 content whole h = suffix inner value behind content whole h
+suffix_then bytes inner value behind (Ok x) utf8 content whole s =
+    let all : bytes ≡ 34 ∷ (inner ++ 34 ∷ (s.text ++ x.1)) = whole ∙ ap (λ (bs : List ℕ). 34 ∷ (inner ++ 34 ∷ bs)) s.whole in
+    record {
+      text = 34 ∷ (inner ++ 34 ∷ s.text);
+      spelled = record {
+        utf8 = literal_front inner s.text x.1 x.0 s.form (subst IsUtf8 all utf8);
+        form = record { inner = inner; tail = s.text; token_content = content; whole = refl; behind = s.form };
+      };
+      whole = all ∙ ap (λ (bs : List ℕ). 34 ∷ bs) (sym (append_assoc inner (34 ∷ s.text) x.1));
+    }
+
+string_then : (c : ℕ) (rest : List ℕ) (r : Result (List ℕ × List ℕ) FailedCheck) → IsUtf8 (c ∷ rest) → c ≡ 34 → ContentSays Quoted rest r → TermSays (c ∷ rest) (r >>= with_suffix)
+string_then c rest (Err s) utf8 is h = string rest (ap (λ (b : ℕ). b ∷ rest) is) h
+string_then c rest (Ok x) utf8 is h =
+    suffix_then (c ∷ rest) (pieces_text h.pieces) x.0 x.1 (suffix_at x.1) utf8 (record { pieces = h.pieces; each = h.each; whole = refl; means = h.means })
+    (ap (λ (b : ℕ). b ∷ rest) is ∙ ap (λ (bs : List ℕ). 34 ∷ bs) h.whole) (suffix_says x.1)
+
+literal_says : (c : ℕ) (rest : List ℕ) → IsUtf8 (c ∷ rest) → eqb c 60 ≡ false → eqb c 95 ≡ false → TermSays (c ∷ rest) (literal_at (c ∷ rest))
 unfolding literal_at
-literal_found [] rest term utf8 e = absurd cc
-literal_found (c ∷ behind) rest term utf8 e =
-    elim (chosen (eqb c 34) (token_content Quoted 0 behind >>= with_suffix) (stops Syntax (c ∷ behind)) (Ok (term, rest)) e) [
-      | inl p ↦
-          let b = bind_ok (token_content Quoted 0 behind) with_suffix (term, rest) p.1 in
-          let d = bind_ok (suffix_at b.0.1) (λ s. Ok (terms.Literal b.0.0 s.0, s.1)) (term, rest) b.2 in
-          let both : (terms.Literal b.0.0 d.0.0, d.0.1) ≡ (term, rest) = ok_is _ _ d.2 in
-          let f = inside_found Quoted 0 behind b.0.0 b.0.1 b.1 in
-          let s = suffix_found b.0.1 d.0.1 d.0.0 d.1 in
-          let inner = pieces_text f.pieces in
-          let whole : c ∷ behind ≡ 34 ∷ (inner ++ 34 ∷ (s.text ++ d.0.1)) =
-          ap (λ (q : ℕ). q ∷ behind) (eqb-true _ _ p.0) ∙ ap (λ (bs : List ℕ). 34 ∷ bs) (f.whole ∙ ap (λ (bs : List ℕ). inner ++ 34 ∷ bs) s.whole) in
-          let made : TermFound (c ∷ behind) (terms.Literal b.0.0 d.0.0) d.0.1 = record {
-            text = 34 ∷ (inner ++ 34 ∷ s.text);
-            spelled = record {
-              utf8 = literal_front inner s.text d.0.1 d.0.0 s.form (subst IsUtf8 whole utf8);
-              form = record { inner = inner; tail = s.text; token_content = record { pieces = f.pieces; each = f.each; whole = refl; means = f.means }; whole = refl; behind = s.form };
-            };
-            whole = whole ∙ ap (λ (bs : List ℕ). 34 ∷ bs) (sym (append_assoc inner (34 ∷ s.text) d.0.1));
-          } in
-          subst (λ (x : Term × List ℕ). TermFound (c ∷ behind) x.0 x.1) both made
-      | inr p ↦ absurd cc
-    ]
+literal_says c rest utf8 not_iri not_blank = elim (eqb_tells c 34) [
+  | inl p ↦ rw p.0 (string_then c rest (token_content Quoted 0 rest) utf8 p.1 (inside_says Quoted 0 rest (omega arith)))
+  | inr p ↦ rw p.0 (no_term (rw (not_iri, not_blank, p.0) refl) refl)
+]
+
+iri_then : (c : ℕ) (rest : List ℕ) (r : Result (List ℕ × List ℕ) FailedCheck) → IsUtf8 (c ∷ rest) → c ≡ 60 → IriSays (c ∷ rest) r → TermSays (c ∷ rest) (r >>= as_iri)
+iri_then c rest (Err s) utf8 is h = iri rest (ap (λ (b : ℕ). b ∷ rest) is) h
+iri_then c rest (Ok x) utf8 is f = record { text = f.0; spelled = record { utf8 = iri_front f.0 x.0 x.1 f.1 (subst IsUtf8 f.2 utf8); form = f.1 }; whole = f.2 }
+
+label_then : (text : List ℕ) (o : Option ℕ) → LabelSays text o → TermSays (95 ∷ 58 ∷ text) (cut_label o (95 ∷ 58 ∷ text) text >>= as_blank)
+label_then text None h = blank (58 ∷ text) refl (λ b. let same : text ≡ encode_utf8 b.0 ++ b.1 = cc (b.3) in h b.0 b.1 b.2 same) refl
+label_then text (Some n) h = record {
+  text = 95 ∷ 58 ∷ take n text;
+  spelled = record { utf8 = blank_utf8 (take n text) h.utf8; form = record { whole = refl; form = h.form } };
+  whole = ap (λ (bs : List ℕ). 95 ∷ 58 ∷ bs) (sym (take-append-drop n text));
+}
+
+blank_says : (rest : List ℕ) → IsUtf8 (95 ∷ rest) → TermSays (95 ∷ rest) (blank_at (95 ∷ rest) >>= as_blank)
+unfolding blank_at
+blank_says [] utf8 = blank [] refl (λ b. let bad : 95 ∷ [] ≡ 95 ∷ 58 ∷ (encode_utf8 b.0 ++ b.1) = b.3 in cc) refl
+blank_says (v ∷ text) utf8 = elim (eqb_tells v 58) [
+  | inl p ↦
+      let behind = behind_ascii 58 text (omega arith) (subst (λ (b : ℕ). IsUtf8 (b ∷ text)) p.1 (behind_ascii 95 (v ∷ text) (omega arith) utf8)) in
+      rw p.0 (subst (λ (b : ℕ). TermSays (95 ∷ b ∷ text) (cut_label (label_bytes (chars text)) (95 ∷ b ∷ text) text >>= as_blank)) (sym p.1) (label_then text (label_bytes (chars text)) (label_says text behind)))
+  | inr p ↦ rw p.0 (blank (v ∷ text) refl (λ b. let same : v ≡ 58 = cc (b.3) in p.1 same) refl)
+]
+
+term_says : (bytes : List ℕ) → IsUtf8 bytes → TermSays bytes (term_at bytes)
+unfolding term_at
+term_says [] utf8 = no_term tt refl
+term_says (c ∷ rest) utf8 = elim (eqb_tells c 60) [
+  | inl p ↦ rw p.0 (iri_then c rest (iri_at (c ∷ rest)) utf8 p.1 (iri_says (c ∷ rest)))
+  | inr p ↦
+      elim (eqb_tells c 95) [
+        | inl q ↦ rw (p.0, q.0) (subst (λ (b : ℕ). TermSays (b ∷ rest) (blank_at (b ∷ rest) >>= as_blank)) (sym q.1) (blank_says rest (subst (λ (b : ℕ). IsUtf8 (b ∷ rest)) q.1 utf8)))
+        | inr q ↦ rw (p.0, q.0) (literal_says c rest utf8 p.0 q.0)
+      ]
+]
 
 pub term_found : (bytes rest : List ℕ) (term : Term) → IsUtf8 bytes → term_at bytes ≡ Ok (term, rest) → TermFound bytes term rest
-unfolding term_at
-term_found [] rest term utf8 e = absurd cc
-term_found (c ∷ behind) rest term utf8 e =
-    let bytes : List ℕ = c ∷ behind in
-    elim (chosen (eqb c 60) (iri_at bytes >>= as_iri) (cond (eqb c 95) (blank_at bytes >>= as_blank) (literal_at bytes)) (Ok (term, rest)) e) [
-      | inl p ↦
-          let b = bind_ok (iri_at bytes) as_iri (term, rest) p.1 in
-          let f = iri_found bytes b.0.0 b.0.1 b.1 in
-          subst (λ (x : Term × List ℕ). TermFound bytes x.0 x.1) (ok_is _ _ b.2) (record { text = f.0; spelled = record { utf8 = iri_front f.0 b.0.0 b.0.1 f.1 (subst IsUtf8 f.2 utf8); form = f.1 }; whole = f.2 })
-      | inr p ↦
-          elim (chosen (eqb c 95) (blank_at bytes >>= as_blank) (literal_at bytes) (Ok (term, rest)) p.1) [
-            | inl q ↦
-                let b = bind_ok (blank_at bytes) as_blank (term, rest) q.1 in
-                let f = blank_found bytes b.0.0 b.0.1 utf8 b.1 in
-                subst (λ (x : Term × List ℕ). TermFound bytes x.0 x.1) (ok_is _ _ b.2) (record { text = 95 ∷ 58 ∷ b.0.0; spelled = record { utf8 = blank_utf8 b.0.0 f.utf8; form = record { whole = refl; form = f.form } }; whole = f.whole })
-            | inr q ↦ literal_found bytes rest term utf8 q.1
-          ]
-    ]
+term_found bytes rest term utf8 e = subst (TermSays bytes) e (term_says bytes utf8)
+
+pub term_stops : (bytes : List ℕ) (s : FailedCheck) → IsUtf8 bytes → term_at bytes ≡ Err s → TermCheckFails bytes s
+term_stops bytes s utf8 e = subst (TermSays bytes) e (term_says bytes utf8)

@@ -1,5 +1,5 @@
 -- Tests of complete texts: a tag, a label, a UTF-8 text.
-use Rattle.std.proofs.Common.{◌≡◌, ◌<◌, ◌≤◌, ℕ, Bool, true, false, eqb, inl, inr, List, [], ◌∷◌, length, take, drop, Option, Some, None, Ok, refl, sym, ap, subst, ◌∙◌, arith}
+use Rattle.std.proofs.Common.{◌≡◌, ◌<◌, ◌≤◌, ℕ, Bool, true, false, eqb, inl, inr, List, [], length, take, Option, Some, None, refl, sym, ap, subst, ◌∙◌, arith}
 use Rattle.std.specs.Prelude.{IsUtf8, nat_eq, not, is_some, slice_index}
 use Rattle.std.specs.Char.{is_ascii}
 use Rattle.std.specs.List.{list_all}
@@ -12,21 +12,18 @@ use Rattle.std.proofs.lemmas.List.Sums.{list_all-from_AllPass}
 use Rattle.memchr.specs.Find.{IsFirstByte, is_byte}
 use Rattle.std.specs.Str.{chars}
 use Rattle.std.proofs.lemmas.List.{append-nil, take_all, get_or-take, length-take-le}
-use Rattle.std.proofs.lemmas.Str.{chars-nil, IsUtf8-append, IsUtf8-from_ascii}
-use Rattle.std.proofs.lemmas.Str.Ascii.{IsAscii-nil, IsAscii-cons}
-use Rattle.hdt_terms.specs.declared.triple.Suffix.TheVariants.{Tag}
-use Rattle.hdt_terms.specs.Labels.{label_rest, is_label, label_bytes}
+use Rattle.std.proofs.lemmas.Str.{chars-nil, IsUtf8-from_ascii}
+use Rattle.hdt_terms.specs.Labels.{label_rest, label_bytes}
 use Rattle.hdt_terms.specs.Tags.{tag_len}
 use Rattle.hdt_terms.specs.Terms.{IsTag, IsLabel, IsText}
 use Rattle.hdt_terms.specs.Inside.ByteRuns.{PassBetween, passes}
 use Rattle.hdt_terms.specs.declared.byte_runs.ByteClass.TheVariants.{AsciiText, AsciiLine}
 use Rattle.hdt_terms.specs.Chars.{is_line_end}
-use Rattle.hdt_terms.specs.TermParsing.{blank_at, tag_at}
-use Rattle.hdt_terms.proofs.LabelSoundness.{blank_found, label_bytes-again}
+use Rattle.hdt_terms.proofs.LabelSoundness.{LabelSays, label_says, label_bytes-again}
 use Rattle.hdt_terms.proofs.Bools.{and_second}
 use Rattle.hdt_terms.proofs.LastQuotes.{class_other, is_other, none_there}
 use Rattle.hdt_terms.proofs.StringTerms.{class_ascii}
-use Rattle.hdt_terms.proofs.TagSoundness.{tag_found, tag_len-again}
+use Rattle.hdt_terms.proofs.TagSoundness.{TagSays, tag_says, tag_len-again}
 
 pub takes_all : (o : Option ℕ) (n : ℕ) → option_eq nat_eq o (Some n) ≡ true → o ≡ Some n
 takes_all None n h = absurd cc
@@ -37,26 +34,14 @@ taken_all o n e = rw e (eq-eqb n n refl)
 
 -- a tag that has all bytes
 pub tag_whole : (bytes : List ℕ) → tag_len bytes ≡ Some (length bytes) → IsTag bytes
-unfolding tag_at
-tag_whole bytes h =
-    let n = length bytes in
-    let read : tag_at (64 ∷ bytes) ≡ Ok (Tag (take n bytes), drop n bytes) = rw h refl in
-    let f = tag_found (64 ∷ bytes) (drop n bytes) (Tag (take n bytes)) read in
-    let same : take n bytes ≡ f.tag = cc (f.is) in
-    subst IsTag (sym same ∙ take_all n bytes (omega arith)) f.form
+tag_whole bytes h = subst IsTag (take_all (length bytes) bytes (omega arith)) (subst (TagSays bytes) h (tag_says bytes))
 
 pub tag_taken : (bytes : List ℕ) → IsTag bytes → tag_len bytes ≡ Some (length bytes)
 tag_taken bytes h = ap tag_len (sym (append-nil bytes)) ∙ tag_len-again bytes [] h (record { letters = refl; part = refl })
 
 -- a label that has all bytes
 pub label_whole : (bytes : List ℕ) → IsUtf8 bytes → label_bytes (chars bytes) ≡ Some (length bytes) → IsLabel bytes
-unfolding blank_at
-label_whole bytes utf8 h =
-    let n = length bytes in
-    let read : blank_at (95 ∷ 58 ∷ bytes) ≡ Ok (take n bytes, drop n bytes) = rw h refl in
-    let front : IsUtf8 (95 ∷ 58 ∷ []) = IsUtf8-from_ascii (95 ∷ 58 ∷ []) (IsAscii-cons 95 (58 ∷ []) (omega arith) (IsAscii-cons 58 [] (omega arith) IsAscii-nil)) in
-    let f = blank_found (95 ∷ 58 ∷ bytes) (take n bytes) (drop n bytes) (IsUtf8-append (95 ∷ 58 ∷ []) bytes front utf8) read in
-    record { utf8 = utf8; form = ap (λ (bs : List ℕ). is_label (chars bs)) (sym (take_all n bytes (omega arith))) ∙ f.form }
+label_whole bytes utf8 h = subst IsLabel (take_all (length bytes) bytes (omega arith)) (subst (LabelSays bytes) h (label_says bytes utf8))
 
 pub label_taken : (bytes : List ℕ) → IsLabel bytes → label_bytes (chars bytes) ≡ Some (length bytes)
 label_taken bytes h = ap (λ (bs : List ℕ). label_bytes (chars bs)) (sym (append-nil bytes)) ∙ label_bytes-again bytes [] h (ap label_rest chars-nil)

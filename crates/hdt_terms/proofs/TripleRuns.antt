@@ -1,19 +1,15 @@
 -- Collecting the triples of an input, line by line, up to its end or its first error.
-use Rattle.std.proofs.Common.{◌≡◌, ℕ, Bool, true, false, List, [], ◌∷◌, ◌++◌, length, ◌+◌, ◌<◌, arith, Option, None, Some, eqb, inl, inr, sym, refl, ap, subst, ◌∙◌, append_assoc, append-nil, zero-add}
-use Rattle.std.proofs.lemmas.Bool.{ne_eqb}
+use Rattle.std.proofs.Common.{◌≡◌, ℕ, true, false, List, [], ◌∷◌, ◌++◌, length, ◌+◌, arith, Option, None, Some, inl, inr, sym, refl, ap, subst, ◌∙◌, append_assoc, append-nil, zero-add}
 use Rattle.std.proofs.lemmas.List.Elements.{filter_map-append}
 use Rattle.std.proofs.lemmas.List.{length-append}
 use Rattle.std.proofs.KnownBytes.{Consumes-trans}
 use Rattle.std.specs.Io.KnownBytes.{Consumes, IsAtEnd, prepend_known}
 use Rattle.hdt_terms.specs.declared.fault.LineFault.{LineFault}
-use Rattle.hdt_terms.specs.declared.fault.LineReason.TheVariants.{OutOfMemory}
 use Rattle.hdt_terms.specs.declared.triple.Triple.{Triple}
-use Rattle.hdt_terms.specs.Chars.{is_line_end}
 use Rattle.hdt_terms.specs.Documents.{IsDocumentInput, FaultInDocument, TriplesSoFar}
-use Rattle.hdt_terms.specs.Lines.{HasNoLineEnd, Line, EncodesTriple, TerminatedLines, triples_of_lines, count_line_ends, ends_in_cr}
-use Rattle.hdt_terms.specs.LinesReader.{LinesState, start, left, line_number, Takes, TakesTriple, TakesRest, BeginsWithLine, IsNextTripleError, IsLineError}
-use Rattle.hdt_terms.proofs.LineEndCounts.{TerminatedLines-append, Takes-trans, count_line_ends-append, count_line_ends-no_end, count_line_ends-ended, none_after}
-use Rattle.hdt_terms.proofs.LineCompleteness.{triple_not_bare}
+use Rattle.hdt_terms.specs.Lines.{HasNoLineEnd, Line, TerminatedLines, triples_of_lines, count_line_ends, ends_in_cr}
+use Rattle.hdt_terms.specs.LinesReader.{LinesState, start, left, Takes, TakesTriple, TakesRest, IsNextTripleError, IsLineError}
+use Rattle.hdt_terms.proofs.LineEndCounts.{TerminatedLines-append, Takes-trans, count_line_ends-append}
 
 pub nothing_taken : (all : Option (List ℕ)) → Consumes all (prepend_known [] all) []
 nothing_taken None = tt
@@ -101,63 +97,3 @@ fault_behind fault limit s all mid given triples r st =
           subst (λ k. IsLineError fault.reason fault.column k limit st.rest given) (ap (λ k. k + length st.front) taken ∙ sym (length-append r.front st.front))
           (subst (λ k. IsLineError fault.reason fault.column (s.taken + length st.front) k st.rest given) r.takes.limit st.fault_is);
     }
-
--- ---- out of memory
-
-triple_some : (text : List ℕ) (triple : Triple) → EncodesTriple text triple → 0 < length text
-triple_some text triple h =
-    let tail = 46 ∷ h.behind in
-    omega (
-      arith,
-      ap length h.whole,
-      length-append h.before_s (h.s ++ (h.before_p ++ (h.p ++ (h.before_o ++ (h.o ++ (h.before_stop ++ tail)))))),
-      length-append h.s (h.before_p ++ (h.p ++ (h.before_o ++ (h.o ++ (h.before_stop ++ tail))))),
-      length-append h.before_p (h.p ++ (h.before_o ++ (h.o ++ (h.before_stop ++ tail)))),
-      length-append h.p (h.before_o ++ (h.o ++ (h.before_stop ++ tail))),
-      length-append h.before_o (h.o ++ (h.before_stop ++ tail)),
-      length-append h.o (h.before_stop ++ tail),
-      length-append h.before_stop tail,
-    )
-
-taken_first : (mid after : Option (List ℕ)) (a b : List ℕ) → Consumes mid after (a ++ b) → Consumes mid (prepend_known b after) a
-taken_first None after a b h = tt
-taken_first (Some x) None a b h = absurd h
-taken_first (Some x) (Some y) a b h = h ∙ append_assoc a b y
-
-taken_last : (after : Option (List ℕ)) (b : List ℕ) → Consumes (prepend_known b after) after b
-taken_last None b = tt
-taken_last (Some y) b = refl
-
--- after the line of a triple for which memory ran out
-module _ (s new : LinesState) (mid after given : Option (List ℕ)) (triple : Triple) (t : TakesTriple s new mid after triple) where
-  some_text : 0 < length t.4.0
-  some_text = triple_some t.4.0 triple t.4.1.1
-
-  one_line : (cr : Bool) (e : ℕ) → is_line_end e ≡ true → count_line_ends cr (t.4.0 ++ e ∷ []) ≡ 1
-  one_line cr e end = count_line_ends-ended cr t.4.0 e t.4.2 end ∙ none_after cr (eqb (length t.4.0) 0) (eqb e 10) (ne_eqb (length t.4.0) 0 (λ z. absurd (omega (arith, z, some_text))))
-
-  line_is : line_number new ≡ s.ends + count_line_ends s.after_cr t.0 + 1
-  line_is =
-      let ends = t.2.ends ∙ ap (λ k. s.ends + k) (count_line_ends-append s.after_cr t.0 t.1) in
-      elim t.4.3 [
-        | inl w ↦ let one = ap (count_line_ends (ends_in_cr s.after_cr t.0)) w.2 ∙ one_line (ends_in_cr s.after_cr t.0) w.0 w.1 in rw w.3 (omega (arith, ends, one))
-        | inr w ↦ let none = ap (count_line_ends (ends_in_cr s.after_cr t.0)) w.0 ∙ count_line_ends-no_end (ends_in_cr s.after_cr t.0) t.4.0 t.4.2 in rw w.1 (omega (arith, ends, none))
-      ]
-
-  whole : BeginsWithLine (s.taken + length t.0) s.limit (prepend_known t.1 after) t.4.0
-  whole =
-      let size = length-append t.0 t.1 in
-      elim t.4.3 [
-        | inl w ↦ (after, inl (w.0, w.1, subst (Consumes (prepend_known t.1 after) after) w.2 (taken_last after t.1), omega (arith, size, ap length w.2, length-append t.4.0 (w.0 ∷ []), t.2.taken, t.2.within, t.2.limit)))
-        | inr w ↦ (after, inr (subst (Consumes (prepend_known t.1 after) after) w.0 (taken_last after t.1), w.3, omega (arith, size, ap length w.0, t.2.taken, t.2.within, t.2.limit)))
-      ]
-
-  memory_stands : IsNextTripleError (record { line = line_number new; column = 0; reason = OutOfMemory }) s mid given
-  memory_stands = record {
-    front = t.0;
-    rest = prepend_known t.1 after;
-    bare = t.3;
-    consumed = taken_first mid after t.0 t.1 t.2.consumed;
-    line = line_is;
-    fault_is = (refl, inr (t.4.0, t.4.2, triple_not_bare t.4.0 triple t.4.1.1, whole));
-  }

@@ -19,7 +19,6 @@ pub mod RawRequestParsing
 pub mod RawRequests
 pub mod LinesReader
 pub mod LinesTexts
-pub mod WholeLines
 pub mod Documents
 pub mod Lint
 pub mod Parts

@@ -1,5 +1,5 @@
 -- The texts of lines, valid or not, that a reader of lines consumes of its remaining input.
-use Rattle.std.specs.Prelude.{◌≡◌, ℕ, ◌+◌, Bool, true, false, List, [], ◌∷◌, ◌++◌, take, Option, Result, Ok, Err, ◌⊎◌}
+use Rattle.std.specs.Prelude.{◌≡◌, ℕ, ◌+◌, ◌≤◌, Bool, true, false, List, [], ◌∷◌, ◌++◌, length, take, Option, Result, Ok, Err, ◌⊎◌}
 use Rattle.std.specs.Io.KnownBytes.{IsAtEnd}
 use Rattle.hdt_terms.specs.declared.fault.LineFault.{LineFault}
 use Rattle.hdt_terms.specs.declared.fault.LineReason.{LineReason}
@@ -17,6 +17,12 @@ IsTakenLineText text bytes new after = HasNoLineEnd text
 -- One line of this text was consumed.
 abbrev pub TakesText : LinesState → LinesState → Option (List ℕ) → Option (List ℕ) → List ℕ → Type 0
 TakesText old new before after text = (bytes : List ℕ) × Takes old new before after bytes × IsTakenLineText text bytes new after
+
+-- One line was consumed: these bytes, of which the first n are its text.
+pub record TakesWholeLine (n : ℕ) (old new : LinesState) (before after : Option (List ℕ)) (bytes : List ℕ) : Type 0 where
+  pub takes : Takes old new before after bytes
+  pub is : IsTakenLineText (take n bytes) bytes new after
+  pub within : n ≤ length bytes
 
 -- One line was consumed, and front are the first most bytes of its text.
 abbrev pub TakesLinePrefix : ℕ → LinesState → LinesState → Option (List ℕ) → Option (List ℕ) → List ℕ → Type 0

@@ -11,7 +11,7 @@ ghost use Rattle.hdt_terms.specs.declared.fault.ReadError.TheVariants.{Memory};
 use crate::byte_runs::{ByteClass, run_len};
 use crate::chars::{hex_value, is_iri_char, is_string_char};
 use crate::fault::{LineReason, ReadError, refuse};
-use std::alloc::{AllocError, Global};
+use std::alloc::AllocError;
 
 /// A token with escapes: production IRIREF or STRING_LITERAL_QUOTE.
 #[derive(Clone, Copy, Debug, PartialEq, Eq)]
@@ -244,20 +244,4 @@ pub(crate) fn token_content<'a>(
 {
     let rest = append_plain(token, bytes, out)?;
     content_at_end(token, rest, out)
-}
-
-/// The content of a token, with its escapes decoded, and the bytes after its end. Without escapes it allocates exactly
-/// its length.
-#[inline(always)]
-pub(crate) fn read_token_content(
-    alloc: Global,
-    token: Token,
-    bytes: &[u8],
-) -> Result<(Vec<u8>, &[u8]), ReadError>
-    ensures { ReturnsUnlessOom (λ x. (x.0.items, x.1.now)) result (token_content token 0 bytes.now) }
-{
-    let (plain, rest) = bytes.split_at(plain_len(token, bytes));
-    let mut value = Vec::from_slice(alloc, plain)?;
-    let rest = content_at_end(token, rest, &mut value)?;
-    Ok((value, rest))
 }

@@ -3,9 +3,9 @@ ghost use Rattle.std.specs.Prelude.{◌≡◌, ◌++◌, OnOk, IsUtf8};
 ghost use Rattle.hdt_terms.specs.Split.{object_at, prefix_first_label, prefix_label, prefix_labels};
 ghost use Rattle.hdt_terms.specs.TermParsing.{ReturnsUnlessOom};
 
+use crate::chars::skip_whitespace;
 use crate::fault::ReadError;
 use crate::line::put_role_term;
-use crate::literal::skip_whitespace;
 use hdt_wire::Role;
 use std::alloc::{AllocError, Global};
 

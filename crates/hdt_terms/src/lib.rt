@@ -21,12 +21,12 @@
 //! the text of each line, valid or not; [`read_request`] parses a line as a triple pattern; [`lint_document`] reports
 //! every faulty line. How the reader cuts the input into pieces makes no difference to any of them.
 //!
-//! In reading order: `text` and `triple`, the types; `fault`, the errors; `chars`, character classes;
-//! `byte_runs`, runs of bytes, 16 at a time; `encoding`, UTF-8; the tokens, `escaped_tokens` (the content of IRIs and
-//! strings), `iri`, `label`, `tag` and `literal`; `transcode`, tokens to dictionary strings; `parse`, one term; `line`,
-//! one line; `request` and `raw_request`, a line that requests triples; `buffer`, `line_buffer`, `lines`, `line_prefix`
-//! and `whole_line`, the lines of a reader; `lint`, its faulty lines; `term_refs`, terms that borrow their texts;
-//! `strings`, dictionary strings; `put`, writing; `laws`, properties of all terms and lines.
+//! In reading order: `text` and `triple`, the types; `fault`, the errors; `chars`, character classes; `byte_runs`, runs
+//! of bytes, 16 at a time; `encoding`, UTF-8; the tokens, `escaped_tokens` (the content of IRIs and strings), `iri`,
+//! `label` and `tag`; `transcode`, tokens to dictionary strings; `term_refs`, terms that borrow their texts; `strings`,
+//! dictionary strings to terms and back; `parse`, one term; `line`, one line; `request` and `raw_request`, a line that
+//! requests triples; `buffer`, `line_buffer`, `lines`, `line_prefix` and `whole_line`, the lines of a reader; `lint`,
+//! its faulty lines; `split`, its parts; `put`, writing; `laws`, properties of all terms and lines.
 #![tactic(auto)]
 
 mod buffer;
@@ -44,7 +44,6 @@ mod line_buffer;
 mod line_prefix;
 mod lines;
 mod lint;
-mod literal;
 mod parse;
 mod parts;
 mod put;

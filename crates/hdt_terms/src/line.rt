@@ -6,12 +6,12 @@ ghost use Rattle.hdt_terms.specs.LineParsing.{begins, role_term_at, role_term_af
 ghost use Rattle.hdt_terms.specs.TermParsing.{ReturnsUnlessOom};
 ghost use Rattle.hdt_terms.specs.Terms.{dictionary_string};
 
+use crate::chars::skip_whitespace;
 use crate::encoding::check_utf8;
 use crate::fault::{LineReason, ReadError, TermFault, locate_error, refuse};
-use crate::literal::skip_whitespace;
-use crate::parse::read_term;
+use crate::strings::parsed_term;
 use crate::transcode::append_term;
-use crate::triple::{Term, Triple};
+use crate::triple::Triple;
 use hdt_wire::Role;
 use std::alloc::Global;
 
@@ -66,20 +66,6 @@ fn read_end(bytes: &[u8]) -> Result<(), ReadError>
     expect_comment_or_end(skip_whitespace(behind))
 }
 
-/// Skips whitespace, then returns the term of the role and the bytes after it.
-#[tactic(auto, unfolding(crate::specs::LineParsing::role_term_after_whitespace, crate::specs::LineParsing::role_term_at))]
-fn read_role(alloc: Global, role: Role, bytes: &[u8]) -> Result<(Term, &[u8]), ReadError>
-    requires { IsUtf8 bytes.now }
-    ensures reads { ReturnsUnlessOom (λ x. (x.0, x.1.now)) result (role_term_after_whitespace role bytes.now) }
-    ensures utf8 { IfOk result (λ x. IsUtf8 x.1.now) }
-{
-    let bytes = skip_whitespace(bytes);
-    match bytes.split_first() {
-        Some((first, _)) if begins(role, *first) => read_term(alloc, bytes),
-        _ => refuse(LineReason::Syntax, bytes.len()),
-    }
-}
-
 /// Appends the string of the term of the role that starts here, and returns the bytes after it.
 #[tactic(auto, unfolding(crate::specs::LineParsing::role_term_at))]
 pub(crate) fn append_role_term<'a>(
@@ -112,19 +98,6 @@ pub(crate) fn put_role_term<'a>(
     append_role_term(role, skip_whitespace(bytes), out)
 }
 
-/// The triple of a line, or the first check that fails.
-#[tactic(auto, unfolding(crate::specs::LineParsing::line_triple_at))]
-fn read_terms(alloc: Global, text: &[u8]) -> Result<Triple, ReadError>
-    requires { IsUtf8 text.now }
-    ensures { ReturnsUnlessOom (λ triple. triple) result (line_triple_at text.now) }
-{
-    let (s, rest) = read_role(alloc, Role::Subject, text)?;
-    let (p, rest) = read_role(alloc, Role::Predicate, rest)?;
-    let (o, rest) = read_role(alloc, Role::Object, rest)?;
-    read_end(rest)?;
-    Ok(Triple { s, p, o })
-}
-
 /// Puts the strings of the triple of a line into the buffers.
 #[tactic(auto, unfolding(crate::specs::LineParsing::line_triple_at))]
 fn put_strings(
@@ -142,18 +115,6 @@ fn put_strings(
     read_end(rest)
 }
 
-/// The triple of a line, or its first error with the column.
-#[tactic(auto, unfolding(crate::specs::LineParsing::line_triple))]
-pub(crate) fn read_triple(alloc: Global, text: &[u8]) -> Result<Triple, TermFault>
-    requires { IsUtf8 text.now }
-    ensures { EqualsUnlessOom result (line_triple text.now) }
-{
-    match read_terms(alloc, text) {
-        Ok(triple) => Ok(triple),
-        Err(error) => Err(locate_error(text.len(), error)),
-    }
-}
-
 /// Puts the strings of the triple of a line into the buffers, or returns the first error of the line.
 #[tactic(auto, unfolding(crate::specs::LineParsing::line_triple))]
 pub(crate) fn put_triple(
@@ -169,6 +130,22 @@ pub(crate) fn put_triple(
         Ok(()) => Ok(()),
         Err(error) => Err(locate_error(text.len(), error)),
     }
+}
+
+/// The triple of a line, or its first error with the column.
+pub(crate) fn read_triple(alloc: Global, text: &[u8]) -> Result<Triple, TermFault>
+    requires { IsUtf8 text.now }
+    ensures { EqualsUnlessOom result (line_triple text.now) }
+{
+    let mut s = Vec::new(alloc);
+    let mut p = Vec::new(alloc);
+    let mut o = Vec::new(alloc);
+    put_triple(text, &mut s, &mut p, &mut o)?;
+    Ok(Triple {
+        s: parsed_term(alloc, &s)?,
+        p: parsed_term(alloc, &p)?,
+        o: parsed_term(alloc, &o)?,
+    })
 }
 
 /// Puts the strings of the triple of a line, if it has one, into the buffers, and returns whether it has one; or returns

@@ -16,7 +16,7 @@ impl Lines {
     ghost use Rattle.hdt_terms.specs.LinesTexts.{TakesLinePrefix, IsNextLineError, ReturnsNextPrefix, TextClearedUnlessFound};
     ghost use Rattle.hdt_terms.specs.LinesReader.{HasBufferedLine, left};
 
-    /// Returns whether a complete line with its end is buffered. If so, the next call of [`Lines::next_text`] reads
+    /// Returns whether a complete line with its end is buffered. If so, the next call of [`Lines::next_prefix`] reads
     /// nothing, so it can't block. Linear time in the length of that line, or of the buffer if there is none.
     pub fn has_buffered_line(&self) -> bool
         ensures yes { result ≡ true → HasBufferedLine self.now }
@@ -101,7 +101,8 @@ impl Lines {
         }
     }
 
-    /// As [`Lines::next_text`], but keeps only the first `most` bytes of the text and discards the others. Linear time
+    /// Returns whether there is a next line, valid or not, and replaces the contents of `text` by the first `most` bytes
+    /// of its text without its end; the others are discarded. At the end and after an error `text` is empty. Linear time
     /// in the line; memory only for the kept bytes, however long the line is.
     ///
     /// # Errors

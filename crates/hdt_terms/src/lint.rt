@@ -15,10 +15,10 @@ use std::fmt;
 use std::io::{Read, Write};
 
 /// A limit in bytes that no input exceeds.
-const MAX_INPUT_BYTES: u64 = 9_223_372_036_854_775_807;
+pub(crate) const MAX_INPUT_BYTES: u64 = 9_223_372_036_854_775_807;
 
 /// Pending output is written once it has this many bytes.
-const PIECE: usize = 65_536;
+pub(crate) const PIECE: usize = 65_536;
 
 /// Why [`lint_document`] stopped.
 #[derive(Clone, Copy, Debug, PartialEq, Eq)]
@@ -169,7 +169,7 @@ impl Linter {
 }
 
 /// Writes pending output of at least `least` bytes, and returns the new total of written bytes.
-fn write_if_long<W: Write>(
+pub(crate) fn write_if_long<W: Write>(
     least: usize,
     text: &mut Vec<u8>,
     written: u64,

@@ -2,7 +2,6 @@
 ghost use Rattle.std.specs.Prelude.{◌≡◌, ◌⊎◌, Ok, IfOk, IfErr, OnOk, OnErr, IsUtf8};
 ghost use Rattle.hdt_terms.specs.declared.triple.Term.{Term};
 ghost use Rattle.hdt_terms.specs.Faults.{EqualsUnlessOom, AppendsParsedUnlessOom, out_of_memory, term_in};
-ghost use Rattle.hdt_terms.specs.TermParsing.{ReturnsUnlessOom, term_at};
 ghost use Rattle.hdt_terms.specs.Grammar.{Encodes};
 ghost use Rattle.hdt_terms.specs.TermErrors.{IsTermError};
 ghost use Rattle.hdt_terms.specs.Terms.{IsGrammarTerm};
@@ -10,47 +9,23 @@ ghost use Rattle.hdt_terms.specs.Appending.{AppendsStringOfText};
 ghost use Rattle.hdt_terms.specs.Writing.{Extends};
 
 use crate::encoding::check_utf8;
-use crate::fault::{LineReason, ReadError, TermFault, locate_error, refuse};
-use crate::iri::read_iri;
-use crate::label::read_blank;
-use crate::literal::read_literal;
-use crate::text::Text;
+use crate::fault::{LineReason, TermFault, locate_error};
+use crate::strings::parsed_term;
 use crate::transcode::append_term;
 use crate::triple::Term;
 use std::alloc::Global;
 
-/// The term that starts here, and the bytes after it.
-#[tactic(auto, unfolding(crate::specs::TermParsing::term_at))]
-pub(crate) fn read_term(alloc: Global, bytes: &[u8]) -> Result<(Term, &[u8]), ReadError>
-    requires { IsUtf8 bytes.now }
-    ensures { ReturnsUnlessOom (λ x. (x.0, x.1.now)) result (term_at bytes.now) }
-{
-    let Some((first, _)) = bytes.split_first() else {
-        return refuse(LineReason::Syntax, bytes.len());
-    };
-    match first {
-        b'<' => {
-            let (iri, rest) = read_iri(alloc, bytes)?;
-            Ok((Term::Iri(Text::new(iri)), rest))
-        }
-        b'_' => {
-            let (label, rest) = read_blank(alloc, bytes)?;
-            Ok((Term::Blank(label), rest))
-        }
-        _ => read_literal(alloc, bytes),
-    }
-}
-
-/// The term of a text, or its first error.
+/// Appends the string of the term of a text, or returns its first error. After an error `out` may be longer.
 #[tactic(auto, unfolding(crate::specs::Faults::term_in, crate::specs::Faults::unless_not_utf8))]
-fn read_whole(alloc: Global, text: &[u8]) -> Result<Term, TermFault>
-    ensures reads { EqualsUnlessOom result (term_in text.now) }
+fn append_whole(text: &[u8], out: &mut Vec<u8>) -> Result<(), TermFault>
+    ensures reads { AppendsParsedUnlessOom text.now out.old.items out.new.items result }
     ensures utf8 { OnOk result (IsUtf8 text.now) }
+    ensures kept { Extends out.old.items out.new.items }
 {
     check_utf8(text)?;
-    match read_term(alloc, text) {
-        Ok((term, [])) => Ok(term),
-        Ok((_, rest)) => Err(TermFault {
+    match append_term(text, out) {
+        Ok([]) => Ok(()),
+        Ok(rest) => Err(TermFault {
             column: text.len().saturating_sub(rest.len()) as u64 + 1,
             reason: LineReason::Syntax,
         }),
@@ -58,9 +33,19 @@ fn read_whole(alloc: Global, text: &[u8]) -> Result<Term, TermFault>
     }
 }
 
+/// The term of a text, or its first error.
+fn read_whole(alloc: Global, text: &[u8]) -> Result<Term, TermFault>
+    ensures reads { EqualsUnlessOom result (term_in text.now) }
+    ensures utf8 { OnOk result (IsUtf8 text.now) }
+{
+    let mut string = Vec::new(alloc);
+    append_whole(text, &mut string)?;
+    parsed_term(alloc, &string)
+}
+
 /// Parses a text that is one N-Triples term (W3C RDF 1.1 N-Triples, section 7, by the profile of docs/NTRIPLES.md),
 /// with nothing before or after it. IRIs must be absolute, U+0000 is an error, and the datatype
-/// `http://www.w3.org/2001/XMLSchema#string` is dropped. Linear time; memory for the term.
+/// `http://www.w3.org/2001/XMLSchema#string` is dropped. Linear time; memory for the term and its string.
 ///
 /// ```rust
 /// let term = parse_term(alloc, b"<http://a/b>")?;
@@ -84,24 +69,6 @@ pub fn parse_term(alloc: Global, text: &[u8]) -> Result<Term, TermFault>
     ensures exact { EqualsUnlessOom result (term_in text.now) }
 {
     read_whole(alloc, text)
-}
-
-/// Appends the string of the term of a text, or returns its first error. After an error `out` may be longer.
-#[tactic(auto, unfolding(crate::specs::Faults::term_in, crate::specs::Faults::unless_not_utf8))]
-fn append_whole(text: &[u8], out: &mut Vec<u8>) -> Result<(), TermFault>
-    ensures reads { AppendsParsedUnlessOom text.now out.old.items out.new.items result }
-    ensures utf8 { OnOk result (IsUtf8 text.now) }
-    ensures kept { Extends out.old.items out.new.items }
-{
-    check_utf8(text)?;
-    match append_term(text, out) {
-        Ok([]) => Ok(()),
-        Ok(rest) => Err(TermFault {
-            column: text.len().saturating_sub(rest.len()) as u64 + 1,
-            reason: LineReason::Syntax,
-        }),
-        Err(error) => Err(locate_error(text.len(), error)),
-    }
 }
 
 /// Parses a text as [`parse_term`] and appends the dictionary string of its term ([`crate::term_string`]) to `out`,

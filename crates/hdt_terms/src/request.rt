@@ -3,10 +3,10 @@ ghost use Rattle.std.specs.Prelude.{IfOk, IsUtf8};
 ghost use Rattle.hdt_terms.specs.RequestParsing.{pattern_term_after_whitespace, optional_stop_after_whitespace, request_at, request_in, PutsPatternTerm, PutsPattern, ReturnsRequest};
 ghost use Rattle.hdt_terms.specs.TermParsing.{ReturnsUnlessOom};
 
+use crate::chars::skip_whitespace;
 use crate::encoding::check_utf8;
 use crate::fault::{LineReason, ReadError, TermFault, locate_error, refuse};
 use crate::line::{append_role_term, expect_comment_or_end, is_blank_or_comment};
-use crate::literal::skip_whitespace;
 use hdt_wire::Role;
 
 /// Skips whitespace, then reads `?`, or puts the string of the term of the role into the buffer. Returns whether it is

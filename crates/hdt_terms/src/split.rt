@@ -1,7 +1,7 @@
 //! Splitting a document by the subjects of its triples.
 ghost use Rattle.std.specs.Prelude.{◌≡◌, ◌≢◌, ◌+◌, ◌++◌, ◌∷◌, ◌⊎◌, ◌<◌, ◌≤◌, ◌^◌, ℕ, [], List, OnOk, OnErr, IfOk, IfErr, None, Some, map, length, get_or, replicate, take, true, false, IsUtf8};
 ghost use Rattle.hdt_wire.specs.Counted.{inner, failures};
-ghost use Rattle.hdt_terms.specs.Lint.{GainsAllBut, GainsPrefix, fault_of_line, numbered};
+ghost use Rattle.hdt_terms.specs.Lint.{fault_of_line, numbered};
 ghost use Rattle.hdt_terms.specs.Split.{EachGains, EachGainsPrefix, EachGainsAllBut, IsSplitReadFault, SplitsInput, SplitsUntilFault, has_blank_node, is_blank_string, last_place, line_of_part, number_if_some, prefix_label, triple_of_line, triples_of_document, whole_line};
 ghost use Rattle.hdt_terms.specs.Parts.{part_of_string};
 ghost use Rattle.hdt_terms.specs.declared.split.SplitFault.TheVariants.{Line as line_failed, OutOfMemory, Write as write_failed};
@@ -10,18 +10,13 @@ use crate::fault::{LineFault, LineReason};
 use crate::label_prefix::{append_prefixed, append_with_prefix};
 use crate::line::put_line;
 use crate::lines::Lines;
+use crate::lint::{MAX_INPUT_BYTES, PIECE, write_if_long};
 use crate::parts::part_of;
-use hdt_wire::{Counted, Failed};
+use hdt_wire::Counted;
 use std::alloc::{AllocError, Global};
 use std::error::Error;
 use std::fmt;
 use std::io::{Read, Write};
-
-/// A limit in bytes that no input exceeds.
-const MAX_INPUT_BYTES: u64 = 9_223_372_036_854_775_807;
-
-/// The pending lines of a part are written once they have this many bytes.
-const PIECE: usize = 65_536;
 
 /// What [`split_document`] found.
 #[derive(Clone, Copy, Debug, PartialEq, Eq)]
@@ -234,29 +229,7 @@ fn append_line(
     Ok(())
 }
 
-/// Writes pending lines of at least `least` bytes.
-fn write_if_long<W: Write>(
-    least: usize,
-    text: &mut Vec<u8>,
-    out: &mut Counted<W>,
-) -> Result<(), Failed>
-    ensures ok { OnOk result (GainsAllBut (W.contents (inner out.old)) (W.contents (inner out.new)) text.old.items text.new.items) }
-    ensures whole { OnOk result (least ≡ 0 → text.new.items ≡ []) }
-    ensures well { OnOk result (failures out.new ≡ failures out.old) }
-    ensures part { OnErr result (GainsPrefix (W.contents (inner out.old)) (W.contents (inner out.new)) text.old.items) }
-{
-    if text.len() < least {
-        return Ok(());
-    }
-    match out.write_all(text) {
-        Ok(()) => {}
-        Err(_) => return Err(Failed),
-    }
-    text.clear();
-    Ok(())
-}
-
-/// The same for the part at an index.
+/// Writes the pending lines of the part at an index if they have at least `least` bytes.
 fn write_part<W: Write>(
     least: usize,
     at: usize,
@@ -273,9 +246,9 @@ fn write_part<W: Write>(
     ensures err { IfErr result (λ e. e ≡ write_failed at) }
     ensures part { OnErr result (EachGainsPrefix (map (λ out. W.contents (inner out)) outs.old) (map (λ out. W.contents (inner out)) outs.new) (λ part. get_or (map (λ text. text.items) pending.old) part [])) }
 {
-    match write_if_long(least, &mut pending[at], &mut outs[at]) {
-        Ok(()) => Ok(()),
-        Err(Failed) => Err(SplitFault::Write(at as u32)),
+    match write_if_long(least, &mut pending[at], 0, &mut outs[at]) {
+        Ok(_) => Ok(()),
+        Err(_) => Err(SplitFault::Write(at as u32)),
     }
 }
 
@@ -308,14 +281,6 @@ fn write_all_parts<W: Write>(
         at += 1;
     }
     Ok(())
-}
-
-/// Whether there is another line.
-fn is_more(lines: &Lines) -> bool
-    ensures going { result ≡ true → lines.now.ended ≡ false }
-    ensures done { result ≡ false → lines.now.ended ≡ true }
-{
-    !lines.has_ended()
 }
 
 /// Splits a document by the subjects of its triples: each line with a triple goes to the writer of its part
@@ -351,7 +316,7 @@ pub fn split_document<R: Read, W: Write>(
     let mut lines = Lines::new(alloc, MAX_INPUT_BYTES)?;
     let mut splitter = Splitter::new(alloc, outs.len() as u32);
     let mut pending = empty_texts(alloc, outs.len())?;
-    'lines: while is_more(&lines) {
+    'lines: while !lines.has_ended() {
         let n = match lines.next_whole_line(input, &mut splitter.line) {
             Ok(n) => n,
             Err(fault) => return Err(SplitFault::Line(fault)),

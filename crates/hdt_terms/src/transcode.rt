@@ -1,15 +1,16 @@
 //! Parsing N-Triples tokens to dictionary strings, without making terms.
-ghost use Rattle.std.specs.Prelude.{IsUtf8};
+ghost use Rattle.std.specs.Prelude.{◌≡◌, IsUtf8};
+ghost use Rattle.std.specs.Str.{bytes_eq};
 ghost use Rattle.hdt_terms.specs.Appending.{AppendsRead, blank_string, datatype_iri};
 ghost use Rattle.hdt_terms.specs.TermParsing.{blank_at, tag_at, datatype_at, suffix_at, literal_at, term_at};
-ghost use Rattle.hdt_terms.specs.Terms.{dictionary_string, suffix_string};
+ghost use Rattle.hdt_terms.specs.Terms.{dictionary_string, suffix_string, xsd_string};
 ghost use Rattle.hdt_terms.specs.Writing.{Extends};
 
+use crate::chars::skip_whitespace;
 use crate::escaped_tokens::{Token, token_content};
 use crate::fault::{LineReason, ReadError, refuse};
 use crate::iri::append_iri;
 use crate::label::blank_token;
-use crate::literal::{is_xsd_string, skip_whitespace};
 use crate::tag::tag_token;
 
 /// Appends the string of the blank node that starts here, and returns the bytes after it.
@@ -33,6 +34,16 @@ fn append_tag<'a>(bytes: &'a [u8], out: &mut Vec<u8>) -> Result<&'a [u8], ReadEr
     out.push(b'@')?;
     out.extend_from_slice(tag)?;
     Ok(rest)
+}
+
+/// The datatype of a literal without a suffix: `xsd:string`.
+const XSD_STRING: &[u8] = b"http://www.w3.org/2001/XMLSchema#string";
+
+/// Whether the IRI is `xsd:string`.
+fn is_xsd_string(iri: &[u8]) -> bool
+    ensures { result ≡ bytes_eq iri.now xsd_string }
+{
+    iri == XSD_STRING
 }
 
 /// Appends the datatype whose IRI starts here, and returns the bytes after it: nothing for `xsd:string`.

@@ -18,9 +18,8 @@ fn with_end(bytes: &[u8], n: usize) -> &[u8]
 }
 
 impl Lines {
-    ghost use Rattle.hdt_terms.specs.LinesTexts.{IsNextLineError};
     ghost use Rattle.hdt_terms.specs.LinesReader.{left};
-    ghost use Rattle.hdt_terms.specs.WholeLines.{TakesWholeLine};
+    ghost use Rattle.hdt_terms.specs.LinesTexts.{TakesWholeLine, IsNextLineError};
 
     /// Whether the input has ended.
     pub(crate) fn has_ended(&self) -> bool

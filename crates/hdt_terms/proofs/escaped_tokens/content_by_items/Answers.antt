@@ -4,7 +4,7 @@ use Rattle.std.proofs.lemmas.Result.{err_from_is_err_and}
 use Rattle.hdt_terms.specs.TermParsing.{skip_of}
 use Rattle.hdt_terms.proofs.ContentReading.{fails, at_end, at_byte, at_char, at_nothing}
 use Rattle.hdt_terms.proofs.UnescapedRuns.{longer}
-use Rattle.hdt_terms.proofs.ContentErrorSoundness.{front_err}
+use Rattle.hdt_terms.proofs.ContentReading.{front_err}
 use Rattle.hdt_terms.proofs.Appends.{appended, fails_alone}
 use Rattle.hdt_terms.proofs.escaped_tokens.content_by_items.Goals as goal
 

@@ -1,6 +1,5 @@
 use Rattle.std.proofs.Common.{◌∷◌, ◌++◌, ◌∙◌, [], arith, inl, inr, refl}
 use Rattle.std.proofs.lemmas.Result.{err_from_is_err_and}
-use Rattle.hdt_wire.specs.Counted.{inner}
 use Rattle.hdt_terms.specs.LinesReader.{line_number}
 use Rattle.hdt_terms.specs.Lint.{DocumentLine, numbered}
 use Rattle.hdt_terms.proofs.DocumentLines.{begins_with, below_most, counted_on, cut_short, fault_behind, linted_on, none_linted, none_read, nothing_linted, read_on, stops_at, wrote, wrote_all, wrote_prefix}

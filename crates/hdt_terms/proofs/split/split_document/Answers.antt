@@ -40,7 +40,7 @@ lines-init g c =
 pub returns-in-Err-clause-stopped : goal.returns-in-Err-clause-stopped
 returns-in-Err-clause-stopped g c =
     let inv = c.lines.invariant.split in
-    let going = c.is_more.ensures.going c.lines-test.true in
+    let going = sym c.has_ended.ensures ∙ c.lines-test.true in
     record {
       lines = inv.0;
       are = begins_with c.lines.lines _ _ inv.0 inv.1;
@@ -55,7 +55,7 @@ returns-in_err-place-clause-stopped g c =
     let p = err_from_is_err_and c.from_residual-in_err-place.result c.from_residual-in_err-place.ensures.1 in
     let wrong = rw c.line_number-number.ensures at c.in_err-place.ensures.wrong in
     let line : DocumentLine = numbered (line_number c.next_whole_line.new.self) c.in-Ok.n c.next_whole_line.new.bytes.items in
-    let more = read_on c.in-Ok.n c.lines.lines c.next_whole_line.new.self _ _ _ c.next_whole_line.new.bytes.items inv.0 inv.1 (c.is_more.ensures.going c.lines-test.true) c.in-Ok.ensures.does in
+    let more = read_on c.in-Ok.n c.lines.lines c.next_whole_line.new.self _ _ _ c.next_whole_line.new.bytes.items inv.0 inv.1 (sym c.has_ended.ensures ∙ c.lines-test.true) c.in-Ok.ensures.does in
     rw (p.1, p.2) (stopped_at_line _ c.lines.lines c.next_whole_line.new.self _ _ _ _ _ _ (map (λ text. text.items) c.lines.pending.items) _ _ inv.0 line c.in_err-place.field-0.0 inv.1 more inv.2 wrong)
 
 pub returns-in_err-place-clause-read : goal.returns-in_err-place-clause-read
@@ -70,13 +70,13 @@ returns-in_err-collect-clause-stopped g c =
     let inv = c.lines.invariant.split in
     let p = err_from_is_err_and c.from_residual-in_err-collect.result c.from_residual-in_err-collect.ensures.1 in
     let line : DocumentLine = numbered (line_number c.next_whole_line.new.self) c.in-Ok.n c.next_whole_line.new.bytes.items in
-    let more = read_on c.in-Ok.n c.lines.lines c.next_whole_line.new.self _ _ _ c.next_whole_line.new.bytes.items inv.0 inv.1 (c.is_more.ensures.going c.lines-test.true) c.in-Ok.ensures.does in
+    let more = read_on c.in-Ok.n c.lines.lines c.next_whole_line.new.self _ _ _ c.next_whole_line.new.bytes.items inv.0 inv.1 (sym c.has_ended.ensures ∙ c.lines-test.true) c.in-Ok.ensures.does in
     rw (p.1, p.2) (stopped_at_line _ c.lines.lines c.next_whole_line.new.self _ _ _ _ _ _ (map (λ text. text.items) c.lines.pending.items) _ _ inv.0 line _ inv.1 more inv.2 (inl refl))
 
 pub lines-preserved : goal.lines-preserved
 lines-preserved g c =
     let inv = c.lines.invariant.split in
-    let going = c.is_more.ensures.going c.lines-test.true in
+    let going = sym c.has_ended.ensures ∙ c.lines-test.true in
     let bytes = c.next_whole_line.new.bytes.items in
     let line : DocumentLine = numbered (line_number c.next_whole_line.new.self) c.in-Ok.n bytes in
     let more = read_on c.in-Ok.n c.lines.lines c.next_whole_line.new.self _ _ _ bytes inv.0 inv.1 going c.in-Ok.ensures.does in
@@ -123,7 +123,7 @@ lines-preserved g c =
 pub returns-in_err-write_part-clause-stopped : goal.returns-in_err-write_part-clause-stopped
 returns-in_err-write_part-clause-stopped g c =
     let inv = c.lines.invariant.split in
-    let going = c.is_more.ensures.going c.lines-test.true in
+    let going = sym c.has_ended.ensures ∙ c.lines-test.true in
     let bytes = c.next_whole_line.new.bytes.items in
     let line : DocumentLine = numbered (line_number c.next_whole_line.new.self) c.in-Ok.n bytes in
     let more = read_on c.in-Ok.n c.lines.lines c.next_whole_line.new.self _ _ _ bytes inv.0 inv.1 going c.in-Ok.ensures.does in
@@ -158,7 +158,7 @@ returns-clause-ok g c =
     let done = rw c.deref_mut-2.ensures.value at c.in_ok-write_all_parts.ensures in
     record {
       lines = inv.0;
-      are = all_read c.lines.lines _ _ inv.0 inv.1 (c.is_more.ensures.done c.lines-test.false);
+      are = all_read c.lines.lines _ _ inv.0 inv.1 (sym c.has_ended.ensures ∙ c.lines-test.false);
       right = inv.2.right;
       report_is = inv.2.report_is;
       parts = each_wrote_all _ _ _ _ (map (λ text. text.items) c.lines.pending.items) inv.2.gains done.ok;

@@ -21,7 +21,7 @@ returns-then-self-clause-does g c =
     let before = c.lines.invariant.taken in
     let buffered = c.in-Ok.ensures in
     let taken = held_taken _ c.lines.self c.buffer_line.new.self c.take.new.self _ _ _ c.in-Ok.found.0 _ before.0 before.1 before.2 buffered.does buffered.others buffered.within c.lines.invariant.going c.take.ensures in
-    rest_taken _ c.lines.self c.take.new.self _ _ _ before.0 _ before.1 before.2 taken (rw c.in-Ok-true.field-0-test at c.in-Ok-true.ensures) (ap (λ (s : LinesState). s.ended) (sym c.self-in-lines.view_is) ∙ c.if-self.true)
+    rest_taken _ c.lines.self c.take.new.self _ _ _ before.0 _ _ before.1 before.2 taken (rw c.in-Ok-true.field-0-test at c.in-Ok-true.ensures) (ap (λ (s : LinesState). s.ended) (sym c.self-in-lines.view_is) ∙ c.if-self.true)
 
 pub lines-preserved : goal.lines-preserved
 lines-preserved g c =
@@ -30,7 +30,7 @@ lines-preserved g c =
     let taken = held_taken _ c.lines.self c.buffer_line.new.self c.take.new.self _ _ _ c.in-Ok.found.0 _ before.0 before.1 before.2 buffered.does buffered.others buffered.within c.lines.invariant.going c.take.ensures in
     let going = ap (λ (s : LinesState). s.ended) (sym c.self-in-lines.view_is) ∙ c.if-self.false in
     record {
-      taken = bare_taken _ c.lines.self c.take.new.self _ _ _ before.0 _ before.1 before.2 taken (rw c.in-Ok-true.field-0-test at c.in-Ok-true.ensures) going;
+      taken = bare_taken _ c.lines.self c.take.new.self _ _ _ before.0 _ _ before.1 before.2 taken (rw c.in-Ok-true.field-0-test at c.in-Ok-true.ensures) going;
       going = going;
       count = buffered.count ∙ c.lines.invariant.count;
     }

@@ -1,6 +1,6 @@
 use Rattle.std.proofs.Common.{sym, subst, ◌∙◌, IsUtf8}
 use Rattle.hdt_terms.proofs.Utf8.{blanks_utf8, unblanked}
-use Rattle.hdt_terms.proofs.literal.skip_whitespace.Goals as goal
+use Rattle.hdt_terms.proofs.chars.skip_whitespace.Goals as goal
 
 pub returns-then-not-is_whitespace-clause-utf8 : goal.returns-then-not-is_whitespace-clause-utf8
 returns-then-not-is_whitespace-clause-utf8 c = λ utf8.
