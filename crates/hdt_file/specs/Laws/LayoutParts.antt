@@ -4,12 +4,13 @@ use Rattle.hdt_wire.specs.declared.fault.Fault.{Fault}
 use Rattle.hdt_wire.specs.declared.fault.Reason.TheVariants.{TrailingBytes}
 use Rattle.hdt_wire.specs.Checks.{◌>>=◌, demand}
 use Rattle.hdt_wire.specs.Exact.{viewed}
-use Rattle.hdt_triples.specs.Triples.{TripleParts, decode_triple_parts}
+use Rattle.hdt_triples.specs.TripleSequences.{triples_of}
+use Rattle.hdt_triples.specs.Triples.{TripleParts, bitmap_triples, decode_triple_parts}
 use Rattle.hdt_triples.specs.Views.{triple_parts_view, decode_triples}
 use Rattle.hdt_file.specs.Dictionary.{HeadAndDictionary, decode_head_and_dictionary}
-use Rattle.hdt_file.specs.File.{FileParts, dictionary_counts, decode_file, decode_graph}
-use Rattle.hdt_file.specs.LayoutParts.{LayoutParts, parts_of_file, decode_parts, graph_of_parts, tight_graph_of_parts, tight_graph_by_checks}
-use Rattle.hdt_file.specs.Tight.{decode_tight_graph}
+use Rattle.hdt_file.specs.File.{FileParts, GraphParts, dictionary_counts, decode_file, decode_graph, graph_of_file}
+use Rattle.hdt_file.specs.LayoutParts.{LayoutParts, parts_dictionary, parts_of_file, decode_parts, graph_of_parts}
+use Rattle.hdt_file.specs.Tight.{check_strings_used, decode_tight_graph}
 
 -- the checks of a file, in the order in which the code runs them
 unfoldable pub parts_by_checks : List ℕ → Result LayoutParts Fault
@@ -54,11 +55,20 @@ pub graph_is : (bytes : List ℕ) → viewed graph_of_parts (decode_parts bytes)
 unfolding decode_graph
 graph_is bytes = decoded_graph_of_parts (decode_file bytes)
 
-tight_of_parts : (r : Result FileParts Fault) → (viewed parts_of_file r >>= tight_graph_of_parts) ≡ (r >>= λ file. tight_graph_of_parts (parts_of_file file))
+-- the checks of a tight file, in the order in which the code runs them
+unfoldable pub tight_by_checks : List ℕ → Result GraphParts Fault
+tight_by_checks bytes = do
+  p ← decode_parts bytes
+  _ ← check_strings_used (parts_dictionary p) (graph_of_parts p).triples
+  Ok (graph_of_parts p)
+
+tight_of_parts : (r : Result FileParts Fault)
+    → (viewed parts_of_file r >>= λ p. check_strings_used (parts_dictionary p) (graph_of_parts p).triples >>= λ _. (let g : Result GraphParts Fault = Ok (graph_of_parts p) in g))
+    ≡ (r >>= λ file. check_strings_used file.dictionary (triples_of (bitmap_triples file.triples)) >>= λ _. Ok (graph_of_file file))
 tight_of_parts (Ok file) = refl
 tight_of_parts (Err e) = refl
 
 -- checking the strings of the parts is checking those of the file
-pub tight_is : (bytes : List ℕ) → tight_graph_by_checks bytes ≡ decode_tight_graph bytes
-unfolding decode_tight_graph tight_graph_of_parts tight_graph_by_checks
+pub tight_is : (bytes : List ℕ) → tight_by_checks bytes ≡ decode_tight_graph bytes
+unfolding decode_tight_graph tight_by_checks
 tight_is bytes = tight_of_parts (decode_file bytes)

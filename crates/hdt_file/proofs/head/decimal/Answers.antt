@@ -1,5 +1,5 @@
 use Rattle.std.proofs.Common.{sym, ◌∙◌}
-use Rattle.hdt_file.proofs.Digits.{empty, stops, ends}
+use Rattle.hdt_file.proofs.DecimalLaws.{empty, stops, ends}
 use Rattle.std.proofs.lemmas.Int.Digits.{digits_more, digits_value_more}
 use Rattle.std.proofs.lemmas.Bool.{eqb-true, eqb-false}
 use Rattle.hdt_file.proofs.head.decimal.Goals as goal
