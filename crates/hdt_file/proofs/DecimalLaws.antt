@@ -1,13 +1,14 @@
--- `decimal_number` returns exactly the number that a text encodes; its value, digit by digit.
-use Rattle.std.proofs.Common.{◌≡◌, ◌≢◌, ℕ, zero, suc, ◌+◌, ◌*◌, ◌^◌, ◌<◌, ◌≤◌, Bool, true, false, ◌&&◌, List, [], ◌∷◌, length, get_or, take, ltb, Option, Some, None, refl, sym, ◌∙◌, arith}
+-- `decimal_number` returns exactly the number that a text encodes, and so does `parse`, without a plus sign.
+use Rattle.std.proofs.Common.{◌≡◌, ◌≢◌, ℕ, ◌^◌, ◌<◌, Bool, true, false, ◌&&◌, List, [], ◌∷◌, length, get_or, ltb, Option, Some, None, Result, Ok, Err, refl, sym, ◌∙◌, subst, arith}
 use Rattle.std.specs.Prelude.{if◌then◌else◌}
 use Rattle.std.specs.List.{list_all}
 use Rattle.std.specs.Char.{digit_value, is_digit}
-use Rattle.std.specs.Str.Parse.{AllDigits, digits_value}
-use Rattle.std.proofs.lemmas.Bool.{and_parts, ltb-true, lt-ltb}
-use Rattle.std.proofs.lemmas.Int.Digits.{digits_value_more}
-use Rattle.std.proofs.lemmas.List.{take_all}
-use Rattle.std.proofs.lemmas.Str.Parse.{digits_value-take-le}
+use Rattle.std.specs.Prelude.{IsUtf8}
+use Rattle.std.specs.Result.{result_ok}
+use Rattle.std.specs.Str.Parse.{AllDigits, IsNumeral, ParsesUnsigned, digits_value, without_leading_plus}
+use Rattle.std.proofs.lemmas.Bool.{and_parts, ltb-true, lt-ltb, ne_eqb}
+use Rattle.std.proofs.lemmas.Fmt.{IsAscii-from_digits}
+use Rattle.std.proofs.lemmas.Str.{IsUtf8-from_ascii}
 use Rattle.hdt_file.specs.Decimal.{Decimal, is_numeral, decimal_number}
 
 all_digits : (text : List ℕ) → list_all (λ c. is_digit c 10) text ≡ true → AllDigits 10 text
@@ -42,32 +43,31 @@ decimal_only text v lt h =
     let small : ltb (digits_value 10 text) (2 ^ 64) ≡ true = lt-ltb _ _ (rw h.value lt) in
     rw (some, digits_all text h.digits.1, small, h.value) refl
 
--- ---- digit by digit
+-- ---- a text that is parsed
 
-digit_below : (text : List ℕ) (i : ℕ) → AllDigits 10 text → i < length text → digit_value (get_or text i 0) < 10
-digit_below [] i h lt = absurd (omega arith)
-digit_below (c ∷ cs) zero h lt = h.0
-digit_below (c ∷ cs) (suc i) h lt = digit_below cs i h.1 (omega arith)
+-- a text without a decimal number below 2 ^ 64
+pub no_number : (text : List ℕ) → ((v : ℕ) → v < 2 ^ 64 → Decimal text v → ⊥) → None ≡ decimal_number text
+no_number text none = by (decimal_number text) refl
+  where
+    by : (o : Option ℕ) → decimal_number text ≡ o → None ≡ decimal_number text
+    by None e = sym e
+    by (Some v) e = let h = decimal_found text v e in absurd (none v h.1 h.0)
 
-no_number : (text : List ℕ) (o : Option ℕ) → decimal_number text ≡ o → ((v : ℕ) → v < 2 ^ 64 → Decimal text v → ⊥) → None ≡ decimal_number text
-no_number text None e none = sym e
-no_number text (Some v) e none = let h = decimal_found text v e in absurd (none v h.1 h.0)
+pub with_plus : (text : List ℕ) (d : ℕ) → get_or text 0 d ≡ 43 → 0 < length text → None ≡ decimal_number text
+with_plus [] d plus some = absurd (omega (arith, some))
+with_plus (c ∷ cs) d plus some = no_number (c ∷ cs) (λ v small h. let low : digit_value 43 < 10 = subst (λ (n : ℕ). digit_value n < 10) plus h.digits.1.0 in omega (arith, low))
 
--- without a digit the text encodes no number
-pub empty : (text : List ℕ) → length text ≡ 0 → None ≡ decimal_number text
-empty text size = no_number text (decimal_number text) refl (λ v small h. omega (arith, h.digits.0))
+pub not_utf8 : (text : List ℕ) → (IsUtf8 text → ⊥) → None ≡ decimal_number text
+not_utf8 text none = no_number text (λ v small h. none (IsUtf8-from_ascii text (IsAscii-from_digits text h.digits.1)))
 
--- if one more digit cannot be added, the text has no value below 2 ^ 64
-pub stops : (text : List ℕ) (i value : ℕ) → i < length text → value ≡ digits_value 10 (take i text)
-    → ((digit_value (get_or text i 0) < 10) × (value * 10 + digit_value (get_or text i 0) < 2 ^ 64) → ⊥) → None ≡ decimal_number text
-stops text i value lt so_far cannot =
-    let most = digits_value-take-le 10 text (i + 1) (omega arith) in
-    let is : value * 10 + digit_value (get_or text i 0) ≡ digits_value 10 (take (i + 1) text) = rw so_far (sym (digits_value_more 10 text i lt)) in
-    no_number text (decimal_number text) refl (λ v small h. cannot (digit_below text i h.digits.1 lt, omega (arith, is, most, h.value, small)))
+without_plus : (text : List ℕ) (d : ℕ) → get_or text 0 d ≢ 43 → 0 < length text → without_leading_plus text ≡ text
+without_plus [] d none some = refl
+without_plus (c ∷ cs) d none some = rw (ne_eqb c 43 none) refl
 
--- the value is final after the last digit
-pub ends : (text : List ℕ) (i value : ℕ) → length text ≢ 0 → length text ≤ i → AllDigits 10 (take i text) → value ≡ digits_value 10 (take i text) → value < 2 ^ 64
-    → Some value ≡ decimal_number text
-ends text i value some all digits is small =
-    let whole : take i text ≡ text = take_all i text all in
-    sym (decimal_only text value small (record { digits = (omega (arith, some), rw whole at digits); value = sym (rw whole at is) }))
+-- `parse` reads the number, if the text has no plus sign
+pub parsed : {E : Type 0} (text : List ℕ) (d : ℕ) (r : Result ℕ E) → get_or text 0 d ≢ 43 → 0 < length text → ParsesUnsigned 64 10 text r → result_ok r ≡ decimal_number text
+parsed text d (Ok v) none some h =
+    let k : IsNumeral 10 text × (digits_value 10 text < 2 ^ 64) = rw (without_plus text d none some) at h.0 in
+    let value : v ≡ digits_value 10 text = rw (without_plus text d none some) at h.1 in
+    sym (decimal_only text v (rw value k.1) (record { digits = k.0; value = sym value }))
+parsed text d (Err e) none some h = no_number text (λ v small n. h (rw (without_plus text d none some) (n.digits, rw n.value small)))

@@ -17,29 +17,21 @@ use Rattle.hdt_file.proofs.DecimalLaws.{decimal_found, decimal_only}
 use Rattle.hdt_dict.specs.Dictionary.{dictionary_at}
 use Rattle.hdt_dict.specs.Laws.Dictionary.{dictionary_exact}
 use Rattle.hdt_file.specs.Dictionary.{HeadAndDictionary, IsHeadAndDictionary, decode_head_and_dictionary}
-use Rattle.hdt_file.specs.Head.{HeadParts, IsHead, StatesLength, length_in, body_length, decode_head}
+use Rattle.hdt_file.specs.Head.{HeadParts, IsHead, StatesLength, body_length, decode_head}
 
 -- ---- the length of the body
-
-stated : (value : Option (List ℕ)) (n : ℕ) → option_and_then decimal_number value ≡ Some n → IsSomeAnd value (λ text. Decimal text n)
-stated None n e = absurd cc
-stated (Some text) n e = (decimal_found text n e).0
-
-pub length_found : (properties : List ℕ) (n : ℕ) → length_in properties ≡ Some n → StatesLength properties n
-unfolding length_in
-length_found properties n e = stated (property_value properties (codes "length")) n e
-
-read_again : (value : Option (List ℕ)) (n : ℕ) → n < 2 ^ 64 → IsSomeAnd value (λ text. Decimal text n) → option_and_then decimal_number value ≡ Some n
-read_again None n lt h = absurd h
-read_again (Some text) n lt h = decimal_only text n lt h
-
-pub length_only : (properties : List ℕ) (n : ℕ) → n < 2 ^ 64 → StatesLength properties n → length_in properties ≡ Some n
-unfolding length_in
-length_only properties n lt h = read_again (property_value properties (codes "length")) n lt h
 
 given : {A : Type 0} (o : Option A) (d : Fault) (y : A) → ok_or o d ≡ Ok y → o ≡ Some y
 given None d y e = absurd cc
 given (Some x) d y e = cc
+
+stated : (value : Option (List ℕ)) (d : Fault) (n : ℕ) → ok_or (option_and_then decimal_number value) d ≡ Ok n → IsSomeAnd value (λ text. Decimal text n)
+stated None d n e = absurd cc
+stated (Some text) d n e = (decimal_found text n (given (decimal_number text) d n e)).0
+
+read_again : (value : Option (List ℕ)) (d : Fault) (n : ℕ) → n < 2 ^ 64 → IsSomeAnd value (λ text. Decimal text n) → ok_or (option_and_then decimal_number value) d ≡ Ok n
+read_again None d n lt h = absurd h
+read_again (Some text) d n lt h = rw (decimal_only text n lt h) refl
 
 -- ---- the head
 
@@ -55,14 +47,14 @@ head_exact bytes fits small = record {
       holds_of_ok (λ (h : HeadParts). IsHead h bytes) _ _ e (record {
         global = (control_exact Global bytes 0 fits).found global e1;
         header = (control_exact Header bytes global.end fits).found header e2;
-        length = subst (StatesLength header.properties) (sym b.1) (length_found header.properties count (given _ _ count e3));
+        length = subst (StatesLength header.properties) (sym b.1) (stated (property_value header.properties (codes "length")) _ count e3);
         body = b.0;
       })))));
   only = λ head h.
       let global = (control_exact Global bytes 0 fits).only head.global h.global in
       let header = (control_exact Header bytes head.global.end fits).only head.header h.header in
       let below : length head.body < 2 ^ 64 = omega (arith, h.body.end_is, h.body.within, small) in
-      let count : length_in head.header.properties ≡ Some (length head.body) = length_only head.header.properties (length head.body) below h.length in
+      let count : body_length head.header ≡ Ok (length head.body) = read_again (property_value head.header.properties (codes "length")) _ (length head.body) below h.length in
       let body = bytes_only (length head.body) bytes head.header.end head.body head.end h.body refl in
       rw (global, header, count, body) refl;
 }
