@@ -17,7 +17,7 @@ use Rattle.hdt_file.proofs.HeadLaws.{front_exact}
 use Rattle.hdt_file.specs.Faults.{open_fault_of}
 use Rattle.hdt_file.specs.File.{FileParts, IsFile, dictionary_counts, decode_file, GraphParts, graph_of_file, IsLayout, decode_graph}
 use Rattle.hdt_file.specs.Graph.{IsGraph}
-use Rattle.hdt_file.specs.LayoutParts.{LayoutParts, graph_of_parts, parts_of_layout}
+use Rattle.hdt_file.specs.LayoutParts.{LayoutParts, decode_parts, graph_of_parts, parts_of_file, parts_of_layout}
 use Rattle.hdt_file.specs.LayoutView.{layout_view}
 use Rattle.hdt_file.specs.declared.fault.OpenFault.{OpenFault}
 use Rattle.hdt_file.specs.declared.fault.OpenFault.TheVariants as opens
@@ -67,6 +67,10 @@ layout_unique bytes g h fits small p q = one_value (decode_graph bytes) (IsLayou
 -- bytes either encode a graph or have one first error
 pub layout_or_fault : (bytes : List ℕ) → IsBytes bytes → length bytes < 2 ^ 64 → UniqueValue (decode_graph bytes) (IsLayout bytes) ⊎ UniqueFault (decode_graph bytes) (IsLayout bytes)
 layout_or_fault bytes fits small = value_or_fault (decode_graph bytes) (IsLayout bytes) (layout_exact bytes fits small)
+
+-- the parts of the file that bytes encode are decoded
+pub file_parts : (bytes : List ℕ) (file : FileParts) → IsBytes bytes → length bytes < 2 ^ 64 → IsFile file bytes → decode_parts bytes ≡ Ok (parts_of_file file)
+file_parts bytes file fits small is = ap (λ (r : Result FileParts Fault). viewed parts_of_file r) ((file_exact bytes fits small).only file is)
 
 -- the graph of a layout that was read is the graph of its parts
 pub seen_gives : (r : Result Layout OpenFault) (rows : Result LayoutParts Fault) → ReadsUnlessOom open_fault_of parts_of_layout r rows → ReadsUnlessOom open_fault_of layout_view r (viewed graph_of_parts rows)

@@ -4,11 +4,10 @@ use Rattle.hdt_wire.specs.declared.role.Role.{Role}
 use Rattle.hdt_front.specs.Iteration.{IterState, LocatedString, strings, step_iter_by, next_offset}
 use Rattle.hdt_front.specs.Section.{SectionParts, string_offset}
 use Rattle.hdt_dict.specs.Located.{AreLocated}
-use Rattle.std.specs.Prelude.{Result, Ok, slice_index_or}
+use Rattle.std.specs.Prelude.{Ok, slice_index_or}
 use Rattle.std.proofs.lemmas.List.{length-map}
 use Rattle.hdt_wire.specs.Checks.{IsBytes}
-use Rattle.hdt_wire.specs.Exact.{viewed}
-use Rattle.hdt_wire.specs.declared.fault.Fault.{Fault}
+use Rattle.hdt_wire.specs.Laws.Exact.{ok_is}
 use Rattle.hdt_front.specs.Strings.{section_of}
 use Rattle.hdt_dict.specs.Dictionary.{DictionaryParts}
 use Rattle.hdt_dict.specs.Views.{dictionary_of}
@@ -19,7 +18,7 @@ use Rattle.hdt_file.specs.LayoutView.{layout_view}
 use Rattle.hdt_file.specs.TermFlags.{IsTermFlag}
 use Rattle.hdt_file.specs.declared.layout.Layout.{Layout}
 use Rattle.hdt_file.specs.declared.non_terms.TermVerdict.{TermVerdict}
-use Rattle.hdt_file.proofs.FileLaws.{file_exact}
+use Rattle.hdt_file.proofs.FileLaws.{file_parts}
 use Rattle.hdt_file.specs.NonTerms.{AreNonTerms, AreNonTermsFrom, AreNonTermsOf, IsTermVerdict}
 use Rattle.hdt_file.specs.Text.{HasTerm, HasNoTerm}
 use Rattle.hdt_file.specs.declared.non_terms.NonTerm.{NonTerm}
@@ -127,12 +126,8 @@ five none a b c d e x1 x2 x3 x4 x5 z p q r s t = rw (t, s, r, q, p, z) refl
 
 -- ---- the strings of a file
 
-ok_is : (a b : LayoutParts) (r : Result LayoutParts Fault) → r ≡ Ok a → r ≡ Ok b → a ≡ b
-ok_is a b r e f = let same : (let x : Result LayoutParts Fault = Ok a in x) ≡ Ok b = sym e ∙ f in cc
-
 same_dictionary : (bytes : List ℕ) (file : FileParts) (p : LayoutParts) → IsBytes bytes → length bytes < 2 ^ 64 → IsFile file bytes → decode_parts bytes ≡ Ok p → parts_dictionary p ≡ file.dictionary
-same_dictionary bytes file p fits small is parts =
-    ap parts_dictionary (ok_is p (parts_of_file file) (decode_parts bytes) parts (ap (λ (r : Result FileParts Fault). viewed parts_of_file r) ((file_exact bytes fits small).only file is)))
+same_dictionary bytes file p fits small is parts = ap parts_dictionary (ok_is p (parts_of_file file) (sym parts ∙ file_parts bytes file fits small is))
 
 pub verdict_is : (bytes : List ℕ) (l : Layout) (counts : List ℕ) (verdict : TermVerdict) → IsBytes bytes → length bytes < 2 ^ 64 → IsLayout bytes (layout_view l) → decode_parts bytes ≡ Ok (parts_of_layout l)
     → verdict.counts ≡ graph_counts (layout_view l) → AreNonTerms (parts_dictionary (parts_of_layout l)) verdict.non_terms.items → IsTermVerdict bytes verdict

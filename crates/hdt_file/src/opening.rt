@@ -74,6 +74,7 @@ pub fn verify(alloc: Global, bytes: &[u8]) -> Result<[u64; 5], OpenFault>
 
 /// Bytes encode at most one graph. Either they encode one, or they have a first error. The parts of a file are those of
 /// its graph.
+#[tactic(auto, using(crate::proofs::FileLaws::layout_exact, crate::proofs::FileLaws::layout_unique, crate::proofs::FileLaws::file_unique, crate::proofs::FileLaws::layout_or_fault, crate::proofs::FileLaws::file_parts, crate::specs::Laws::LayoutParts::graph_is))]
 pub fn one_layout()
     ensures exact { (bytes : List ℕ) → IsBytes bytes → length bytes < 2 ^ 64 → Exactly (decode_graph bytes) (IsLayout bytes) }
     ensures one { (bytes : List ℕ) (g h : GraphParts) → IsBytes bytes → length bytes < 2 ^ 64 → IsLayout bytes g → IsLayout bytes h → g ≡ h }
