@@ -1,5 +1,5 @@
 -- Decoding a file by its parts gives the same as decoding it: code keeps only the bitmaps and arrays of the triples.
-use Rattle.std.proofs.Common.{◌≡◌, ℕ, Bool, List, length, eqb, true, false, Result, Ok, Err, refl}
+use Rattle.std.proofs.Common.{◌≡◌, ℕ, List, length, eqb, Result, Ok, Err, refl, sym}
 use Rattle.hdt_wire.specs.declared.fault.Fault.{Fault}
 use Rattle.hdt_wire.specs.declared.fault.Reason.TheVariants.{TrailingBytes}
 use Rattle.hdt_wire.specs.Checks.{◌>>=◌, demand}
@@ -20,40 +20,30 @@ parts_by_checks bytes = do
   _ ← demand (eqb t.1 (length bytes)) t.1 TrailingBytes
   Ok (front, t.0)
 
-ended : (front : HeadAndDictionary) (t : TripleParts) (whole : Bool)
-    → (demand whole t.array_z.end TrailingBytes >>= λ _. (let p : Result LayoutParts Fault = Ok (front, (triple_parts_view t).0) in p))
-    ≡ ((demand whole t.array_z.end TrailingBytes >>= λ _. (let r : Result FileParts Fault = Ok (record { head = front.head; dictionary = front.dictionary; triples = t }) in r)) >>= λ file. Ok (parts_of_file file))
-ended front t true = refl
-ended front t false = refl
+-- a step whose results are the views of those of another step
+viewed_step : {A B C : Type 0} (view : B → C) (r : Result A Fault) (f : A → Result C Fault) (g : A → Result B Fault) → ((x : A) → f x ≡ viewed view (g x)) → (r >>= f) ≡ viewed view (r >>= g)
+viewed_step view (Ok x) f g same = same x
+viewed_step view (Err e) f g same = refl
 
 with_triples : (bytes : List ℕ) (front : HeadAndDictionary) (r : Result TripleParts Fault)
     → (viewed triple_parts_view r >>= λ t. demand (eqb t.1 (length bytes)) t.1 TrailingBytes >>= λ _. (let p : Result LayoutParts Fault = Ok (front, t.0) in p))
-    ≡ ((r >>= λ t. demand (eqb t.array_z.end (length bytes)) t.array_z.end TrailingBytes >>= λ _. (let f : Result FileParts Fault = Ok (record { head = front.head; dictionary = front.dictionary; triples = t }) in f)) >>= λ file. Ok (parts_of_file file))
-with_triples bytes front (Ok t) = ended front t (eqb t.array_z.end (length bytes))
+    ≡ viewed parts_of_file (r >>= λ t. demand (eqb t.array_z.end (length bytes)) t.array_z.end TrailingBytes >>= λ _. (let f : Result FileParts Fault = Ok (record { head = front.head; dictionary = front.dictionary; triples = t }) in f))
+with_triples bytes front (Ok t) = viewed_step parts_of_file (demand (eqb t.array_z.end (length bytes)) t.array_z.end TrailingBytes) _ _ (λ _. refl)
 with_triples bytes front (Err e) = refl
-
-with_front : (bytes : List ℕ) (r : Result HeadAndDictionary Fault)
-    → (r >>= λ front. decode_triples (dictionary_counts front.dictionary) bytes front.dictionary.objects.end >>= λ t. demand (eqb t.1 (length bytes)) t.1 TrailingBytes >>= λ _. (let p : Result LayoutParts Fault = Ok (front, t.0) in p))
-    ≡ ((r >>= λ front. decode_triple_parts (dictionary_counts front.dictionary) bytes front.dictionary.objects.end >>= λ t. demand (eqb t.array_z.end (length bytes)) t.array_z.end TrailingBytes
-    >>= λ _. (let f : Result FileParts Fault = Ok (record { head = front.head; dictionary = front.dictionary; triples = t }) in f)) >>= λ file. Ok (parts_of_file file))
-with_front bytes (Ok front) = with_triples bytes front (decode_triple_parts (dictionary_counts front.dictionary) bytes front.dictionary.objects.end)
-with_front bytes (Err e) = refl
 
 -- these checks return the parts of the file
 pub rows_are : (bytes : List ℕ) → parts_by_checks bytes ≡ decode_parts bytes
 unfolding parts_by_checks decode_file
-rows_are bytes = with_front bytes (decode_head_and_dictionary bytes)
+rows_are bytes =
+    viewed_step parts_of_file (decode_head_and_dictionary bytes) _ _
+    (λ front. with_triples bytes front (decode_triple_parts (dictionary_counts front.dictionary) bytes front.dictionary.objects.end))
 
 -- ---- the graph of the parts
-
-decoded_graph_of_parts : (r : Result FileParts Fault) → viewed graph_of_parts (viewed parts_of_file r) ≡ (r >>= λ file. Ok (graph_of_parts (parts_of_file file)))
-decoded_graph_of_parts (Ok file) = refl
-decoded_graph_of_parts (Err e) = refl
 
 -- the graph of the parts of a file is the graph of the file
 pub graph_is : (bytes : List ℕ) → viewed graph_of_parts (decode_parts bytes) ≡ decode_graph bytes
 unfolding decode_graph
-graph_is bytes = decoded_graph_of_parts (decode_file bytes)
+graph_is bytes = sym (viewed_step graph_of_parts (decode_file bytes) _ _ (λ _. refl))
 
 -- the checks of a tight file, in the order in which the code runs them
 unfoldable pub tight_by_checks : List ℕ → Result GraphParts Fault
