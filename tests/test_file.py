@@ -50,7 +50,7 @@ def verdicts(data: bytes) -> dict[str, Answer]:
         return dict.fromkeys(WORDS, found.answer)
     counted, opened = ok(*file.counts), ok(*file.counts, held(file))
     answers = {"verify": counted, "verify_tight": counted, "open": opened, "open_tight": opened,
-               "layout": ok(*file.counts, file.head.body, *file.dictionary.counts)}
+               "layout": ok(*file.counts, *file.dictionary.counts)}
     try:
         model.check_all_used(file.dictionary, file.triples.ids)
     except model.Error as unused:
@@ -168,7 +168,7 @@ def test_sample(probe: Probe) -> None:
     """The sample: its counts, its header body, and its one string in each role, by each look-up."""
     assert read(probe, V1) == {"verify": ok(1, 1, 0, 1, 0), "verify_tight": ok(1, 1, 0, 1, 0),
                                "open": ok(1, 1, 0, 1, 0, 10), "open_tight": ok(1, 1, 0, 1, 0, 10),
-                               "layout": ok(1, 1, 0, 1, 0, BODY, 1, 1, 1)}
+                               "layout": ok(1, 1, 0, 1, 0, 1, 1, 1)}
     assert verdicts(V1) == read(probe, V1) and len(V1) == 459
     assert probe.ask("graph") == ok(BODY, 1, 1, 1, 1, 1, 0, 1, 0)
     for role in range(3):

@@ -1,10 +1,14 @@
--- `decimal_number` returns exactly the number that a text encodes.
-use Rattle.std.proofs.Common.{◌≡◌, ℕ, ◌^◌, ◌<◌, Bool, true, false, ◌&&◌, List, [], ◌∷◌, length, ltb, Some, None, refl, sym, ◌∙◌}
+-- `decimal_number` returns exactly the number that a text encodes, and so does `parse`, without a plus sign.
+use Rattle.std.proofs.Common.{◌≡◌, ◌≢◌, ℕ, ◌^◌, ◌<◌, Bool, true, false, ◌&&◌, List, [], ◌∷◌, length, get_or, ltb, Option, Some, None, Result, Ok, Err, refl, sym, ◌∙◌, subst, arith}
 use Rattle.std.specs.Prelude.{if◌then◌else◌}
 use Rattle.std.specs.List.{list_all}
-use Rattle.std.specs.Char.{is_digit}
-use Rattle.std.specs.Str.Parse.{AllDigits, digits_value}
-use Rattle.std.proofs.lemmas.Bool.{and_parts, ltb-true, lt-ltb}
+use Rattle.std.specs.Char.{digit_value, is_digit}
+use Rattle.std.specs.Prelude.{IsUtf8}
+use Rattle.std.specs.Result.{result_ok}
+use Rattle.std.specs.Str.Parse.{AllDigits, IsNumeral, ParsesUnsigned, digits_value, without_leading_plus}
+use Rattle.std.proofs.lemmas.Bool.{and_parts, ltb-true, lt-ltb, ne_eqb}
+use Rattle.std.proofs.lemmas.Fmt.{IsAscii-from_digits}
+use Rattle.std.proofs.lemmas.Str.{IsUtf8-from_ascii}
 use Rattle.hdt_file.specs.Decimal.{Decimal, is_numeral, decimal_number}
 
 all_digits : (text : List ℕ) → list_all (λ c. is_digit c 10) text ≡ true → AllDigits 10 text
@@ -38,3 +42,32 @@ decimal_only text v lt h =
     let some : ltb 0 (length text) ≡ true = lt-ltb _ _ h.digits.0 in
     let small : ltb (digits_value 10 text) (2 ^ 64) ≡ true = lt-ltb _ _ (rw h.value lt) in
     rw (some, digits_all text h.digits.1, small, h.value) refl
+
+-- ---- a text that is parsed
+
+-- a text without a decimal number below 2 ^ 64
+pub no_number : (text : List ℕ) → ((v : ℕ) → v < 2 ^ 64 → Decimal text v → ⊥) → None ≡ decimal_number text
+no_number text none = by (decimal_number text) refl
+  where
+    by : (o : Option ℕ) → decimal_number text ≡ o → None ≡ decimal_number text
+    by None e = sym e
+    by (Some v) e = let h = decimal_found text v e in absurd (none v h.1 h.0)
+
+pub with_plus : (text : List ℕ) (d : ℕ) → get_or text 0 d ≡ 43 → 0 < length text → None ≡ decimal_number text
+with_plus [] d plus some = absurd (omega (arith, some))
+with_plus (c ∷ cs) d plus some = no_number (c ∷ cs) (λ v small h. let low : digit_value 43 < 10 = subst (λ (n : ℕ). digit_value n < 10) plus h.digits.1.0 in omega (arith, low))
+
+pub not_utf8 : (text : List ℕ) → (IsUtf8 text → ⊥) → None ≡ decimal_number text
+not_utf8 text none = no_number text (λ v small h. none (IsUtf8-from_ascii text (IsAscii-from_digits text h.digits.1)))
+
+without_plus : (text : List ℕ) (d : ℕ) → get_or text 0 d ≢ 43 → 0 < length text → without_leading_plus text ≡ text
+without_plus [] d none some = refl
+without_plus (c ∷ cs) d none some = rw (ne_eqb c 43 none) refl
+
+-- `parse` reads the number, if the text has no plus sign
+pub parsed : {E : Type 0} (text : List ℕ) (d : ℕ) (r : Result ℕ E) → get_or text 0 d ≢ 43 → 0 < length text → ParsesUnsigned 64 10 text r → result_ok r ≡ decimal_number text
+parsed text d (Ok v) none some h =
+    let k : IsNumeral 10 text × (digits_value 10 text < 2 ^ 64) = rw (without_plus text d none some) at h.0 in
+    let value : v ≡ digits_value 10 text = rw (without_plus text d none some) at h.1 in
+    sym (decimal_only text v (rw value k.1) (record { digits = k.0; value = sym value }))
+parsed text d (Err e) none some h = no_number text (λ v small n. h (rw (without_plus text d none some) (n.digits, rw n.value small)))

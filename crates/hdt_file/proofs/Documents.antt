@@ -1,5 +1,5 @@
 -- The text of triples is an N-Triples document of these triples, if their terms are terms of the grammar.
-use Rattle.std.proofs.Common.{◌≡◌, ◌<◌, ℕ, false, List, [], ◌∷◌, ◌++◌, Some, None, refl, sym, ap, subst, ◌∙◌, append_assoc, append-nil, arith}
+use Rattle.std.proofs.Common.{◌≡◌, ◌<◌, ℕ, false, List, [], ◌∷◌, ◌++◌, Some, None, refl, sym, ap, subst, append_assoc, append-nil, arith}
 use Rattle.std.specs.Prelude.{map, IsUtf8}
 use Rattle.std.specs.List.{flat_map, AllByRecursion}
 use Rattle.std.proofs.lemmas.List.Elements.{All-nil, All-cons, All-append}
@@ -21,13 +21,8 @@ use Rattle.hdt_file.specs.Documents.{triple_of, AreGrammarTerms}
 abbrev body : TermTriple → List ℕ
 body t = written t.0 ++ 32 ∷ (written t.1 ++ 32 ∷ (written t.2 ++ 32 ∷ 46 ∷ []))
 
-joined : (s p o tail rest : List ℕ) → (s ++ 32 ∷ (p ++ 32 ∷ (o ++ tail))) ++ rest ≡ s ++ 32 ∷ (p ++ 32 ∷ (o ++ (tail ++ rest)))
-joined s p o tail rest =
-    append_assoc s (32 ∷ (p ++ 32 ∷ (o ++ tail))) rest
-    ∙ ap (λ (t : List ℕ). s ++ 32 ∷ t) (append_assoc p (32 ∷ (o ++ tail)) rest ∙ ap (λ (t : List ℕ). p ++ 32 ∷ t) (append_assoc o tail rest))
-
 line_cut : (t : TermTriple) (rest : List ℕ) → line t ++ rest ≡ body t ++ 10 ∷ rest
-line_cut t rest = joined (written t.0) (written t.1) (written t.2) (32 ∷ 46 ∷ 10 ∷ []) rest ∙ sym (joined (written t.0) (written t.1) (written t.2) (32 ∷ 46 ∷ []) (10 ∷ rest))
+line_cut t rest = simp append_assoc
 
 -- ---- texts without a line end
 

@@ -33,10 +33,9 @@ use Rattle.hdt_file.specs.declared.fault.OpenFault.{OpenFault}
 use Rattle.hdt_file.specs.declared.fault.OpenFault.TheVariants as opens
 use Rattle.hdt_file.specs.declared.info.FileInfo.{FileInfo}
 use Rattle.hdt_file.specs.File.{FileParts, GraphParts, IsFile, dictionary_counts, graph_of_file, decode_graph}
-use Rattle.hdt_file.specs.StringLengths.{total_len}
-use Rattle.hdt_file.specs.Info.{section_info, dictionary_info, entry_bits, file_info, IsFileInfo}
+use Rattle.hdt_file.specs.Info.{IsFileInfo, dictionary_info, entry_bits, file_info, section_info, total_len}
 use Rattle.hdt_file.specs.Inside.InfoChecks.{section_info_at, dictionary_info_at, entry_bits_at, info_by_checks}
-use Rattle.hdt_file.proofs.DictionaryLaws.{head_exact}
+use Rattle.hdt_file.proofs.HeadLaws.{head_exact}
 use Rattle.hdt_file.proofs.FileLaws.{layout_exact}
 
 -- ---- the lengths of the strings of a section

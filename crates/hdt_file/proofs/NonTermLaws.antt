@@ -1,39 +1,39 @@
 -- Listing the strings of a section that are not terms.
-use Rattle.std.proofs.Common.{◌≡◌, ℕ, suc, ◌+◌, ◌<◌, List, [], ◌∷◌, ◌++◌, length, get_or, Option, Some, refl, sym, ap, ◌∙◌, subst, append_assoc, append-nil, inl, inr, arith, ◌^◌, Bool, false}
+use Rattle.std.proofs.Common.{◌≡◌, ℕ, suc, ◌+◌, ◌<◌, List, [], ◌∷◌, ◌++◌, length, get_or, Option, Some, refl, sym, ap, ◌∙◌, ◌⊎◌, subst, append_assoc, append-nil, inl, inr, arith, ◌^◌, Bool, false}
 use Rattle.hdt_wire.specs.declared.role.Role.{Role}
 use Rattle.hdt_front.specs.Iteration.{IterState, LocatedString, strings, step_iter_by, next_offset}
 use Rattle.hdt_front.specs.Section.{SectionParts, string_offset}
 use Rattle.hdt_dict.specs.Located.{AreLocated}
-use Rattle.std.specs.Prelude.{Result, Ok, slice_index_or}
+use Rattle.std.specs.Prelude.{Ok, slice_index_or}
 use Rattle.std.proofs.lemmas.List.{length-map}
 use Rattle.hdt_wire.specs.Checks.{IsBytes}
-use Rattle.hdt_wire.specs.Exact.{viewed}
-use Rattle.hdt_wire.specs.declared.fault.Fault.{Fault}
-use Rattle.hdt_front.specs.Strings.{section_of, strings_of}
+use Rattle.hdt_wire.specs.Laws.Exact.{ok_is}
+use Rattle.hdt_front.specs.Strings.{section_of}
 use Rattle.hdt_dict.specs.Dictionary.{DictionaryParts}
 use Rattle.hdt_dict.specs.Views.{dictionary_of}
 use Rattle.hdt_file.specs.File.{FileParts, IsFile, IsLayout}
 use Rattle.hdt_file.specs.GraphView.{graph_counts}
-use Rattle.hdt_file.specs.LayoutParts.{LayoutParts, decode_parts, parts_dictionary, parts_of_file}
-use Rattle.hdt_file.specs.LayoutPartsViews.{parts_of_layout}
+use Rattle.hdt_file.specs.LayoutParts.{LayoutParts, decode_parts, parts_dictionary, parts_of_file, parts_of_layout}
 use Rattle.hdt_file.specs.LayoutView.{layout_view}
 use Rattle.hdt_file.specs.TermFlags.{IsTermFlag}
 use Rattle.hdt_file.specs.declared.layout.Layout.{Layout}
 use Rattle.hdt_file.specs.declared.non_terms.TermVerdict.{TermVerdict}
-use Rattle.hdt_file.proofs.FileLaws.{file_exact}
-use Rattle.hdt_file.specs.Inside.NonTermIteration.{AreNonTermsIn}
+use Rattle.hdt_file.proofs.FileLaws.{file_parts}
 use Rattle.hdt_file.specs.NonTerms.{AreNonTerms, AreNonTermsFrom, AreNonTermsOf, IsTermVerdict}
 use Rattle.hdt_file.specs.Text.{HasTerm, HasNoTerm}
 use Rattle.hdt_file.specs.declared.non_terms.NonTerm.{NonTerm}
 
 -- ---- the iteration
 
+-- exactly those of the strings that are not terms, whose IDs follow n
+abbrev pub AreNonTermsIn : Role → ℕ → List LocatedString → List NonTerm → Type 0
+AreNonTermsIn role n [] found = found ≡ []
+AreNonTermsIn role n (p ∷ ps) found = (HasTerm role p.string × AreNonTermsIn role (n + 1) ps found)
+    ⊎ (HasNoTerm role p.string × (more : List NonTerm) × AreNonTermsIn role (n + 1) ps more × (found ≡ record { role = role; number = n + 1; place = p.place } ∷ more))
+
 -- what was found, with what the remaining strings give, is what all give
 abbrev pub FindsUpTo : Role → ℕ → List LocatedString → List NonTerm → ℕ → List LocatedString → List NonTerm → Type 0
 FindsUpTo role before all old n left found = (more : List NonTerm) → AreNonTermsIn role n left more → (whole : List NonTerm) × AreNonTermsIn role before all whole × (found ++ more ≡ old ++ whole)
-
-pub none_found : (role : Role) (before : ℕ) (all : List LocatedString) (old : List NonTerm) → FindsUpTo role before all old before all old
-none_found role before all old more h = (more, h, refl)
 
 pub non_term_found : (role : Role) (before n m : ℕ) (all left rest : List LocatedString) (p : LocatedString) (old found new : List NonTerm) (x : NonTerm) → FindsUpTo role before all old n left found → left ≡ p ∷ rest → m ≡ n + 1
     → HasNoTerm role p.string → x ≡ record { role = role; number = n + 1; place = p.place } → new ≡ found ++ x ∷ [] → FindsUpTo role before all old m rest new
@@ -41,11 +41,6 @@ non_term_found role before n m all left rest p old found new x h first next none
     let w = subst (λ (l : List LocatedString). FindsUpTo role before all old n l found) first h (x ∷ more)
     (inr (none, more, subst (λ (i : ℕ). AreNonTermsIn role i rest more) next k, ap (λ (y : NonTerm). y ∷ more) is)) in
     (w.0, w.1, ap (λ (l : List NonTerm). l ++ more) grown ∙ append_assoc found (x ∷ []) more ∙ w.2)
-
-pub all_found : (role : Role) (before n : ℕ) (all left : List LocatedString) (old found : List NonTerm) → FindsUpTo role before all old n left found → left ≡ []
-    → (whole : List NonTerm) × AreNonTermsIn role before all whole × (found ≡ old ++ whole)
-all_found role before n all [] old found h none = let w = h [] refl in (w.0, w.1, sym (append-nil found) ∙ w.2)
-all_found role before n all (p ∷ ps) old found h none = absurd cc
 
 -- the string that an iterator gives next is the first one ahead
 pub given : (w new : IterState) (place : ℕ) (xs : List LocatedString) → next_offset xs ≡ Some place → new ≡ step_iter_by w xs → xs ≡ record { string = new.last; place = place } ∷ new.ahead
@@ -91,51 +86,48 @@ from_located role before i place (p ∷ ps) (x ∷ xs) found same places (inr h)
       h.3 ∙ ap (λ (k : ℕ). (let y : NonTerm = record { role = role; number = before + i + 1; place = k } in y ∷ h.1)) at,
     )
 
-pub of_section : (role : Role) (before : ℕ) (section : SectionParts) (items : List LocatedString) (found : List NonTerm) → AreLocated section items → AreNonTermsIn role before items found → AreNonTermsOf role before section found
+of_section : (role : Role) (before : ℕ) (section : SectionParts) (items : List LocatedString) (found : List NonTerm) → AreLocated section items → AreNonTermsIn role before items found → AreNonTermsOf role before section found
 of_section role before section items found located h =
     let zero : before ≡ before + 0 = omega arith in
     from_located role before 0 (string_offset section) items section.strings found located.strings_are
     (λ k d below. let none : k ≡ 0 + k = omega arith in located.places_are k d below ∙ ap (string_offset section) none)
     (subst (λ (n : ℕ). AreNonTermsIn role n items found) zero h)
 
+-- a section has as many strings as are located
+pub located_count : (section : SectionParts) (items : List LocatedString) → AreLocated section items → length items ≡ length section.strings
+located_count section items located = sym (length-map items (λ (p : LocatedString). p.string)) ∙ ap length located.strings_are
+
+-- at the end, what was found is what the section gives
+pub all_found : (role : Role) (before n : ℕ) (section : SectionParts) (all left : List LocatedString) (old found : List NonTerm) → AreLocated section all → FindsUpTo role before all old n left found → left ≡ []
+    → (whole : List NonTerm) × AreNonTermsOf role before section whole × (found ≡ old ++ whole)
+all_found role before n section all [] old found located h none = let w = h [] refl in (w.0, of_section role before section all w.0 located w.1, sym (append-nil found) ∙ w.2)
+all_found role before n section all (p ∷ ps) old found located h none = absurd cc
+
 -- ---- the strings of a layout
 
 pub shared_count : (l : Layout) (lens : List ℕ) → lens ≡ graph_counts (layout_view l) → slice_index_or lens 1 0 ≡ length (dictionary_of l.dictionary).shared.strings
-unfolding layout_view
+unfolding layout_view parts_of_layout
 shared_count l lens is = ap (λ (xs : List ℕ). slice_index_or xs 1 0) is
 
-many_located : (items : List LocatedString) (xs : List (List ℕ)) → strings items ≡ xs → length items ≡ length xs
-many_located items xs are = sym (length-map items (λ (p : LocatedString). p.string)) ∙ ap length are
-
-pub subjects_fit : (l : Layout) (lens : List ℕ) (items : List LocatedString) → lens ≡ graph_counts (layout_view l) → strings items ≡ (dictionary_of l.dictionary).subjects.strings
-    → slice_index_or lens 1 0 + length items < 2 ^ 64
+pub subjects_fit : (l : Layout) (lens : List ℕ) → lens ≡ graph_counts (layout_view l) → slice_index_or lens 1 0 + length (dictionary_of l.dictionary).subjects.strings < 2 ^ 64
 unfolding dictionary_of section_of
-subjects_fit l lens items is are =
-    omega (arith, shared_count l lens is, many_located items (strings_of l.dictionary.subjects) are, l.dictionary.subjects_fit)
+subjects_fit l lens is = omega (arith, shared_count l lens is, l.dictionary.subjects_fit)
 
-pub objects_fit : (l : Layout) (lens : List ℕ) (items : List LocatedString) → lens ≡ graph_counts (layout_view l) → strings items ≡ (dictionary_of l.dictionary).objects.strings
-    → slice_index_or lens 1 0 + length items < 2 ^ 64
+pub objects_fit : (l : Layout) (lens : List ℕ) → lens ≡ graph_counts (layout_view l) → slice_index_or lens 1 0 + length (dictionary_of l.dictionary).objects.strings < 2 ^ 64
 unfolding dictionary_of section_of
-objects_fit l lens items is are =
-    omega (arith, shared_count l lens is, many_located items (strings_of l.dictionary.objects) are, l.dictionary.objects_fit)
+objects_fit l lens is = omega (arith, shared_count l lens is, l.dictionary.objects_fit)
 
 pub for_layout : (l : Layout) (found : List NonTerm) → AreNonTerms (dictionary_of l.dictionary) found → AreNonTerms (parts_dictionary (parts_of_layout l)) found
 unfolding parts_of_layout
 for_layout l found h = h
 
 pub five : (none a b c d e x1 x2 x3 x4 x5 : List NonTerm) → none ≡ [] → x1 ≡ none ++ a → x2 ≡ x1 ++ b → x3 ≡ x2 ++ c → x4 ≡ x3 ++ d → x5 ≡ x4 ++ e → x5 ≡ (((a ++ b) ++ c) ++ d) ++ e
-five none a b c d e x1 x2 x3 x4 x5 z p q r s t =
-    let one : x1 ≡ a = p ∙ ap (λ (l : List NonTerm). l ++ a) z in
-    t ∙ ap (λ (l : List NonTerm). l ++ e) (s ∙ ap (λ (l : List NonTerm). l ++ d) (r ∙ ap (λ (l : List NonTerm). l ++ c) (q ∙ ap (λ (l : List NonTerm). l ++ b) one)))
+five none a b c d e x1 x2 x3 x4 x5 z p q r s t = rw (t, s, r, q, p, z) refl
 
 -- ---- the strings of a file
 
-ok_is : (a b : LayoutParts) (r : Result LayoutParts Fault) → r ≡ Ok a → r ≡ Ok b → a ≡ b
-ok_is a b r e f = let same : (let x : Result LayoutParts Fault = Ok a in x) ≡ Ok b = sym e ∙ f in cc
-
 same_dictionary : (bytes : List ℕ) (file : FileParts) (p : LayoutParts) → IsBytes bytes → length bytes < 2 ^ 64 → IsFile file bytes → decode_parts bytes ≡ Ok p → parts_dictionary p ≡ file.dictionary
-same_dictionary bytes file p fits small is parts =
-    ap parts_dictionary (ok_is p (parts_of_file file) (decode_parts bytes) parts (ap (λ (r : Result FileParts Fault). viewed parts_of_file r) ((file_exact bytes fits small).only file is)))
+same_dictionary bytes file p fits small is parts = ap parts_dictionary (ok_is p (parts_of_file file) (sym parts ∙ file_parts bytes file fits small is))
 
 pub verdict_is : (bytes : List ℕ) (l : Layout) (counts : List ℕ) (verdict : TermVerdict) → IsBytes bytes → length bytes < 2 ^ 64 → IsLayout bytes (layout_view l) → decode_parts bytes ≡ Ok (parts_of_layout l)
     → verdict.counts ≡ graph_counts (layout_view l) → AreNonTerms (parts_dictionary (parts_of_layout l)) verdict.non_terms.items → IsTermVerdict bytes verdict

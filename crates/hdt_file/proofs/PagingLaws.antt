@@ -1,5 +1,5 @@
 -- Pages of matches.
-use Rattle.std.proofs.Common.{◌≡◌, ℕ, ◌+◌, ◌≤◌, ◌<◌, zero, suc, List, [], ◌∷◌, ◌++◌, Bool, true, false, cond, Some, None, filter, length, take, drop, slice_get, refl, ap, sym, ◌∙◌, arith}
+use Rattle.std.proofs.Common.{◌≡◌, ℕ, ◌+◌, ◌≤◌, ◌<◌, zero, suc, List, [], ◌∷◌, ◌++◌, Bool, true, false, cond, Some, filter, length, take, drop, slice_get, refl, ap, sym, ◌∙◌, append_assoc, subst, arith}
 use Rattle.std.proofs.lemmas.List.{drop-drop, get_or-drop, length-drop, length-take, take-append-le, take_all}
 use Rattle.std.proofs.lemmas.Option.{none-some}
 use Rattle.hdt_triples.specs.declared.pattern.Pattern.{Pattern}
@@ -8,7 +8,13 @@ use Rattle.hdt_triples.specs.Laws.TripleSequences.{length-triples, triple_is}
 use Rattle.hdt_triples.specs.Order.{nth_triple}
 use Rattle.hdt_triples.specs.Patterns.{agrees, matches}
 use Rattle.hdt_file.specs.Paging.{IsNextMatch}
-use Rattle.hdt_file.proofs.TextByLine.{one_more}
+
+-- the first n + 1 of a list are its first member and the first n of the rest
+one_more : (n : ℕ) (found items new : List Triple) (t : Triple) (left rest : List Triple) → left ≡ t ∷ rest → new ≡ items ++ t ∷ []
+    → found ≡ items ++ take (suc n) left → found ≡ new ++ take n rest
+one_more n found items new t left rest first is h =
+    h ∙ ap (λ (l : List Triple). items ++ take (suc n) l) first ∙ sym (append_assoc items (t ∷ []) (take n rest))
+    ∙ ap (λ (l : List Triple). l ++ take n rest) (sym is)
 
 -- ---- the triples of a page: `all` are the matches, `left` those that the iterator still has
 
@@ -70,21 +76,21 @@ next_kept keep [] zero t is = absurd (none-some t is)
 next_kept keep [] (suc n) t is = absurd (none-some t is)
 next_kept keep (x ∷ xs) n t is = next_by keep x xs n t (keep x) refl (λ m h. next_kept keep xs m t h) is
 
--- The triple after a page, and its index.
-pub record IsIndexOfNext (f : BitmapTriples) (pattern : Pattern) (from most : ℕ) (t : Triple) : Type 0 where
+-- The triple after a page, and its index, in equal triples f and g.
+pub record IsIndexOfNext (f g : BitmapTriples) (pattern : Pattern) (from most : ℕ) (t : Triple) : Type 0 where
   pub index : ℕ
-  pub within : index < length f.array_z
-  pub is : triple_at f index ≡ t
+  pub within : index < length g.array_z
+  pub is : triple_at g index ≡ t
   pub next : IsNextMatch (triples_of f) pattern from most index
 
-pub index_of_next : (f : BitmapTriples) (pattern : Pattern) (from most : ℕ) (t : Triple) → slice_get (drop most (matches pattern (drop from (triples_of f)))) 0 ≡ Some t → IsIndexOfNext f pattern from most t
+pub index_of_next : (f g : BitmapTriples) (pattern : Pattern) (from most : ℕ) (t : Triple) (rest : List Triple) → g ≡ f → drop most (matches pattern (drop from (triples_of f))) ≡ t ∷ rest → IsIndexOfNext f g pattern from most t
 unfolding matches
-index_of_next f pattern from most t is =
+index_of_next f g pattern from most t rest same first =
     let ts = triples_of f in
-    let k = next_kept (agrees pattern) (drop from ts) most t is in
+    let k = next_kept (agrees pattern) (drop from ts) most t (ap (λ xs. slice_get xs 0) first) in
     let within : from + k.at < length ts = omega (arith, k.within, length-drop from ts) in
     let nth : nth_triple ts (from + k.at) ≡ t = sym (get_or-drop from ts k.at (0, 0, 0)) ∙ k.is in
-    record {
+    subst (λ (h : BitmapTriples). IsIndexOfNext f h pattern from most t) (sym same) (record {
       index = from + k.at;
       within = omega (arith, within, length-triples f);
       is = sym (triple_is f (from + k.at) (omega (arith, within, length-triples f))) ∙ nth;
@@ -94,9 +100,4 @@ index_of_next f pattern from most t is =
         rest = ap (filter (agrees pattern)) (sym (drop-drop k.at from ts)) ∙ k.rest;
         later = omega (arith, k.later);
       };
-    }
-
--- Without a next one none is left.
-pub none_next : (xs : List Triple) → None ≡ slice_get xs 0 → xs ≡ []
-none_next [] is = refl
-none_next (x ∷ xs) is = absurd (none-some x is)
+    })

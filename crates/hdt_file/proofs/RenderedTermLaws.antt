@@ -1,5 +1,5 @@
 -- The terms of each role as they are written in a line, and the lines put together from them.
-use Rattle.std.proofs.Common.{◌≡◌, ℕ, zero, suc, ◌+◌, ◌<◌, ◌≤◌, Bool, true, List, [], ◌∷◌, ◌++◌, length, map, get_or, take, drop, Option, Some, refl, sym, ap, ◌∙◌, append_assoc, append-nil, subst, inl, inr, arith}
+use Rattle.std.proofs.Common.{◌≡◌, ℕ, zero, suc, ◌+◌, ◌<◌, Bool, true, List, [], ◌∷◌, ◌++◌, length, map, get_or, take, drop, Option, Some, refl, sym, ap, ◌∙◌, append_assoc, append-nil, subst, inl, inr, arith}
 use Rattle.std.specs.Option.{unwrap_or}
 use Rattle.std.proofs.lemmas.List.{get_or-drop, get_or-map, get_or-take, length-append, length-drop, length-map, length-take}
 use Rattle.hdt_dict.specs.Arena.{AreStringStarts, arena_strings}
@@ -99,11 +99,7 @@ found_at now rendered rendered_list ts i b t e below read =
 -- ---- one line
 
 joined : (old s p o : List ℕ) → ((old ++ (s ++ 32 ∷ [])) ++ (p ++ 32 ∷ [])) ++ (o ++ 32 ∷ 46 ∷ 10 ∷ []) ≡ old ++ (s ++ 32 ∷ (p ++ 32 ∷ (o ++ 32 ∷ 46 ∷ 10 ∷ [])))
-joined old s p o =
-    append_assoc (old ++ (s ++ 32 ∷ [])) (p ++ 32 ∷ []) (o ++ 32 ∷ 46 ∷ 10 ∷ [])
-    ∙ append_assoc old (s ++ 32 ∷ []) ((p ++ 32 ∷ []) ++ (o ++ 32 ∷ 46 ∷ 10 ∷ []))
-    ∙ ap (λ (x : List ℕ). old ++ x) (append_assoc s (32 ∷ []) ((p ++ 32 ∷ []) ++ (o ++ 32 ∷ 46 ∷ 10 ∷ [])))
-    ∙ ap (λ (x : List ℕ). old ++ (s ++ 32 ∷ x)) (append_assoc p (32 ∷ []) (o ++ 32 ∷ 46 ∷ 10 ∷ []))
+joined old s p o = simp append_assoc
 
 -- the entries of subject, predicate and object make up the line
 pub line_made : (g : GraphParts) (t : Triple) (old a b new : List ℕ) → AppendsTerm Subject (string_of g Subject t.0) old a
@@ -122,37 +118,37 @@ line_made g t old a b new one two three =
 
 -- ---- the first string that is not a term
 
+reported : (g : GraphParts) (t : Triple) (role : Role) (e : DumpFault) → ((other : Role) → IsEarlierRole other role → HasTerm other (role_component other (denoted_triple g t)))
+    → ReportsNonTerm role (role_component role t) (role_component role (denoted_triple g t)) e → ReportsNonTermOfTriple g t e
+reported g t role (NotATerm other n) earlier h = subst (λ (r : Role). IsFirstNonTermOfTriple (denoted_triple g t) r × (n ≡ role_component r t)) (sym h.0) (record { none = h.2; earlier = earlier }, h.1)
+reported g t role (Write k) earlier h = h
+reported g t role OutOfMemory earlier h = tt
+
 pub subject_reported : (g : GraphParts) (t : Triple) (e : DumpFault) → ReportsNonTerm Subject t.0 (string_of g Subject t.0) e → ReportsNonTermOfTriple g t e
-subject_reported g t (NotATerm role n) h = subst (λ (r : Role). IsFirstNonTermOfTriple (denoted_triple g t) r × (n ≡ role_component r t)) (sym h.0) (record { none = h.2; earlier = earlier }, h.1)
+subject_reported g t e h = reported g t Subject e earlier h
   where
     earlier : (other : Role) → IsEarlierRole other Subject → HasTerm other (role_component other (denoted_triple g t))
     earlier Subject before = absurd before
     earlier Predicate before = absurd before
     earlier Object before = absurd before
-subject_reported g t (Write k) h = h
-subject_reported g t OutOfMemory h = tt
 
 pub predicate_reported : (g : GraphParts) (t : Triple) (old new : List ℕ) (e : DumpFault) → AppendsTerm Subject (string_of g Subject t.0) old new
     → ReportsNonTerm Predicate t.1 (string_of g Predicate t.1) e → ReportsNonTermOfTriple g t e
-predicate_reported g t old new (NotATerm role n) s h = subst (λ (r : Role). IsFirstNonTermOfTriple (denoted_triple g t) r × (n ≡ role_component r t)) (sym h.0) (record { none = h.2; earlier = earlier }, h.1)
+predicate_reported g t old new e s h = reported g t Predicate e earlier h
   where
     earlier : (other : Role) → IsEarlierRole other Predicate → HasTerm other (role_component other (denoted_triple g t))
     earlier Subject before = (s.term, s.is)
     earlier Predicate before = absurd before
     earlier Object before = absurd before
-predicate_reported g t old new (Write k) s h = h
-predicate_reported g t old new OutOfMemory s h = tt
 
 pub object_reported : (g : GraphParts) (t : Triple) (a b c d : List ℕ) (e : DumpFault) → AppendsTerm Subject (string_of g Subject t.0) a b → AppendsTerm Predicate (string_of g Predicate t.1) c d
     → ReportsNonTerm Object t.2 (string_of g Object t.2) e → ReportsNonTermOfTriple g t e
-object_reported g t a b c d (NotATerm role n) s p h = subst (λ (r : Role). IsFirstNonTermOfTriple (denoted_triple g t) r × (n ≡ role_component r t)) (sym h.0) (record { none = h.2; earlier = earlier }, h.1)
+object_reported g t a b c d e s p h = reported g t Object e earlier h
   where
     earlier : (other : Role) → IsEarlierRole other Object → HasTerm other (role_component other (denoted_triple g t))
     earlier Subject before = (s.term, s.is)
     earlier Predicate before = (p.term, p.is)
     earlier Object before = absurd before
-object_reported g t a b c d (Write k) s p h = h
-object_reported g t a b c d OutOfMemory s p h = tt
 
 -- ---- building a table
 

@@ -13,7 +13,6 @@ use Rattle.hdt_file.specs.TermFlags.{AreTermFlags, has_line}
 use Rattle.hdt_file.specs.TextWriting.{limited, matches_if_given}
 use Rattle.hdt_file.specs.declared.kept_lines.KeptLines.{KeptLines}
 use Rattle.hdt_file.specs.declared.term_flags.TermFlags.{TermFlags}
-use Rattle.hdt_triples.specs.Patterns.{matches}
 use Rattle.std.specs.Prelude.{Result, Ok, Err, IfOk}
 use Rattle.std.specs.declared.alloc.AllocError.{AllocError}
 use Rattle.hdt_file.proofs.TermFlagLaws.{tells}
@@ -76,10 +75,6 @@ skips has_line most all kept skipped more n t left rest first line grown h =
     }
 
 -- the end: no match is left, or no line is wanted any more
-take_none : (n : ℕ) → take n (let none : List Triple = [] in none) ≡ []
-take_none zero = refl
-take_none (suc n) = refl
-
 none_before : (has_line : Triple → Bool) (ts : List Triple) → skipped_before has_line 0 ts ≡ 0
 none_before has_line [] = refl
 none_before has_line (t ∷ ts) = refl
@@ -89,7 +84,7 @@ pub ended : (has_line : Triple → Bool) (most : Option ℕ) (all kept : List Tr
 ended has_line most all kept skipped remaining left h (inl none) =
     let k = subst (λ (l : List Triple). KeepsLines has_line most all kept skipped remaining l) none h in
     let zero : skipped + 0 ≡ skipped = omega arith in
-    (sym (k.kept_are ∙ ap (λ (l : List Triple). kept ++ l) (take_none remaining) ∙ append-nil kept), sym (k.skipped_is ∙ zero))
+    (sym (k.kept_are ∙ ap (λ (l : List Triple). kept ++ l) (take_all remaining [] (omega arith)) ∙ append-nil kept), sym (k.skipped_is ∙ zero))
 ended has_line most all kept skipped remaining left h (inr none) =
     let k = subst (λ (n : ℕ). KeepsLines has_line most all kept skipped n left) none h in
     let zero : skipped + 0 ≡ skipped = omega arith in
@@ -106,22 +101,15 @@ have_lines g has_line None ts h = passing g has_line ts h
 have_lines g has_line (Some n) ts h = All-take (HasLine g) n (filter has_line ts) (passing g has_line ts h)
 
 -- the lines of a search
-pub lines_found : (g : GraphParts) (flags : TermFlags) (most : Option ℕ) (pattern : Option Pattern) (p : Pattern) (found : List Triple) (r : Result KeptLines AllocError) → pattern ≡ Some p → found ≡ matches p g.triples
+pub lines_found : (g : GraphParts) (flags : TermFlags) (most : Option ℕ) (pattern : Option Pattern) (found : List Triple) (r : Result KeptLines AllocError) → found ≡ matches_if_given g pattern
     → AreTermFlags g flags → IfOk r (λ kept. kept.triples.items ≡ limited most (filter (has_line flags) found)) → IfOk r (λ kept. kept.skipped ≡ skipped_among (has_line flags) most found)
     → IfOk r (λ kept. SkipsNonTerms g most (matches_if_given g pattern) kept.triples.items kept.skipped)
-lines_found g flags most pattern p found (Ok kept) is same are a b =
-    let whole : matches_if_given g pattern ≡ found = ap (matches_if_given g) is ∙ sym same in
-    subst (λ (ts : List Triple). SkipsNonTerms g most ts kept.triples.items kept.skipped) (sym whole)
+lines_found g flags most pattern found (Ok kept) same are a b =
+    subst (λ (ts : List Triple). SkipsNonTerms g most ts kept.triples.items kept.skipped) same
     (record { has_line = has_line flags; tells = tells g flags are; kept_are = a; skipped_is = b })
-lines_found g flags most pattern p found (Err e) is same are a b = tt
+lines_found g flags most pattern found (Err e) same are a b = tt
 
 pub lines_have : (g : GraphParts) (flags : TermFlags) (most : Option ℕ) (found : List Triple) (r : Result KeptLines AllocError) → AreTermFlags g flags
     → IfOk r (λ kept. kept.triples.items ≡ limited most (filter (has_line flags) found)) → IfOk r (λ kept. HaveLines g kept.triples.items)
 lines_have g flags most found (Ok kept) are a = subst (HaveLines g) (sym a) (have_lines g (has_line flags) most found (tells g flags are))
 lines_have g flags most found (Err e) are a = tt
-
--- without a pattern there is none
-pub no_matches : (g : GraphParts) (flags : TermFlags) (most : Option ℕ) (pattern : Option Pattern) → AreTermFlags g flags → pattern ≡ None → SkipsNonTerms g most (matches_if_given g pattern) [] 0
-no_matches g flags most (Some p) are none = absurd cc
-no_matches g flags None None are none = record { has_line = has_line flags; tells = tells g flags are; kept_are = refl; skipped_is = refl }
-no_matches g flags (Some n) None are none = record { has_line = has_line flags; tells = tells g flags are; kept_are = sym (take_none n); skipped_is = refl }

@@ -1,25 +1,19 @@
 -- Skipping matches.
-use Rattle.std.proofs.Common.{◌≡◌, ◌≢◌, ◌⊎◌, ◌&&◌, ℕ, ◌+◌, ◌-◌, ◌≤◌, ◌<◌, zero, suc, List, [], ◌∷◌, Bool, true, false, cond, Option, Some, None, filter, length, drop, inl, inr, slice_get, refl, ap, sym, ◌∙◌, subst, arith, eq-eqb, eqb}
+use Rattle.std.proofs.Common.{◌≡◌, ◌≢◌, ◌⊎◌, ◌&&◌, ℕ, ◌+◌, ◌-◌, ◌≤◌, ◌<◌, zero, suc, List, [], ◌∷◌, Bool, true, false, cond, Option, Some, None, filter, length, drop, inl, inr, refl, ap, sym, ◌∙◌, subst, arith, eq-eqb, eqb}
 use Rattle.std.proofs.lemmas.Bool.{and_left, and_right, and_parts, and_from, eqb-true, ne_eqb}
 use Rattle.std.proofs.lemmas.List.{drop-drop, drop_all, drop_more}
 use Rattle.std.proofs.lemmas.Option.{none-some}
 use Rattle.hdt_triples.specs.declared.pattern.Pattern.{Pattern}
-use Rattle.hdt_triples.specs.TripleSequences.{BitmapTriples, Triple, triples_of}
+use Rattle.hdt_triples.specs.TripleSequences.{Triple}
 use Rattle.hdt_triples.specs.Order.{AreAscending, TripleLess, nth_triple}
 use Rattle.hdt_triples.specs.Patterns.{admits, agrees, matches}
 use Rattle.hdt_file.specs.Inside.Consecutive.{HasConsecutiveMatches}
 use Rattle.hdt_file.specs.Paging.{IsNextMatch}
-use Rattle.hdt_file.proofs.PagingLaws.{IsIndexOfNext, index_of_next}
 
 -- Dropping the first elements of a list, one by one.
 pub drop_one : {X : Type 0} (n : ℕ) (x : X) (xs : List X) → n ≢ 0 → drop n (x ∷ xs) ≡ drop (n - 1) xs
 drop_one zero x xs some = absurd (some refl)
 drop_one (suc n) x xs some = ap (λ k. drop k xs) (omega arith)
-
--- The first match, and its index.
-pub index_of_first : (f g : BitmapTriples) (pattern : Pattern) (t : Triple) (rest : List Triple) → g ≡ f → matches pattern (triples_of f) ≡ t ∷ rest → IsIndexOfNext g pattern 0 0 t
-index_of_first f g pattern t rest same first =
-    index_of_next g pattern 0 0 t (ap (λ (h : BitmapTriples). slice_get (matches pattern (triples_of h)) 0) same ∙ ap (λ xs. slice_get xs 0) first)
 
 -- ---- the triples from one on ascend
 
@@ -42,29 +36,24 @@ module _ (keep : Triple → Bool) (Past : Triple → Type 0)
     (out : (x : Triple) → Past x → keep x ≡ false)
     (past : (x y : Triple) → TripleLess x y → Past x → Past y)
     (next : (x y : Triple) → TripleLess x y → keep x ≡ true → (keep y ≡ true) ⊎ Past y) where
-  none_of_nothing : (n : ℕ) → filter keep (drop n []) ≡ []
-  none_of_nothing zero = refl
-  none_of_nothing (suc n) = refl
+  nothing_dropped : (n : ℕ) → drop n (filter keep []) ≡ []
+  nothing_dropped n = drop_all n [] (omega arith)
 
   without : (x : Triple) (xs : List Triple) (b : Bool) → b ≡ false → filter keep xs ≡ [] → cond b (x ∷ filter keep xs) (filter keep xs) ≡ []
   without x xs b is rest = ap (λ c. cond c (x ∷ filter keep xs) (filter keep xs)) is ∙ rest
 
   none_left : (x : Triple) (xs : List Triple) → AreAscending (x ∷ xs) → Past x → (n : ℕ) → filter keep (drop n (x ∷ xs)) ≡ []
   none_left x [] h p zero = without x [] (keep x) (out x p) refl
-  none_left x [] h p (suc n) = none_of_nothing n
+  none_left x [] h p (suc n) = ap (filter keep) (nothing_dropped n)
   none_left x (y ∷ ys) h p zero = without x (y ∷ ys) (keep x) (out x p) (none_left y ys (ascend_after x (y ∷ ys) h) (past x y (first_less x y ys h) p) 0)
   none_left x (y ∷ ys) h p (suc n) = none_left y ys (ascend_after x (y ∷ ys) h) (past x y (first_less x y ys h) p) n
-
-  nothing_dropped : (n : ℕ) → drop n (filter keep []) ≡ []
-  nothing_dropped zero = refl
-  nothing_dropped (suc n) = refl
 
   with_first : (x : Triple) (xs : List Triple) (n : ℕ) → keep x ≡ true → drop n (filter keep xs) ≡ drop (suc n) (filter keep (x ∷ xs))
   with_first x xs n is = sym (ap (λ b. drop (suc n) (cond b (x ∷ filter keep xs) (filter keep xs))) is)
 
   pub drop_run : (x : Triple) (xs : List Triple) → AreAscending (x ∷ xs) → keep x ≡ true → (n : ℕ) → filter keep (drop n (x ∷ xs)) ≡ drop n (filter keep (x ∷ xs))
   drop_run x xs h is zero = refl
-  drop_run x [] h is (suc n) = none_of_nothing n ∙ sym (nothing_dropped n) ∙ with_first x [] n is
+  drop_run x [] h is (suc n) = ap (filter keep) (nothing_dropped n) ∙ sym (nothing_dropped n) ∙ with_first x [] n is
   drop_run x (y ∷ ys) h is (suc n) = by (next x y (first_less x y ys h) is) (λ own. drop_run y ys (ascend_after x (y ∷ ys) h) own n) ∙ with_first x (y ∷ ys) n is
     where
       by : (keep y ≡ true) ⊎ Past y → (keep y ≡ true → filter keep (drop n (y ∷ ys)) ≡ drop n (filter keep (y ∷ ys))) → filter keep (drop n (y ∷ ys)) ≡ drop n (filter keep (y ∷ ys))

@@ -6,10 +6,10 @@ use Rattle.std.specs.Str.{bytes_eq}
 use Rattle.std.specs.Ordering.{nat_cmp}
 use Rattle.std.specs.Cmp.Lexicographic.{slice_cmp}
 use Rattle.std.specs.declared.cmp.Ordering.TheVariants.{Less, Equal}
-use Rattle.std.proofs.lemmas.Bool.{cases_lt, eqb-true}
+use Rattle.std.proofs.lemmas.Bool.{and_parts, cases_lt, eqb-true, false_from_ne_true}
 use Rattle.std.proofs.lemmas.Bool.Decides.{Decides-eqb}
 use Rattle.std.proofs.lemmas.Cmp.{nat_list_cmp_total, tied_itself}
-use Rattle.std.proofs.lemmas.Option.{slice_get_within, slice_get-get_or, get_or_from_slice_get}
+use Rattle.std.proofs.lemmas.Option.{same_Some, slice_get_within, slice_get-get_or, get_or_from_slice_get}
 use Rattle.std.proofs.lemmas.Slice.Eq.{bytes_eq-Decides}
 use Rattle.std.proofs.lemmas.Map.Keys.{Less-from_sorted}
 use Rattle.hdt_front.specs.Order.{string_cmp}
@@ -60,13 +60,8 @@ module _ {X : Type 0} (Below : X → X → Type 0) (joined : (a b c : X) → Bel
     ]
   ]
 
-some_is : {X : Type 0} (x y : X) → (let r : Option X = Some x in r) ≡ Some y → x ≡ y
-some_is x y e = cc
-
 in_list : (xs : List (List ℕ)) (x : List ℕ) (i : ℕ) → slice_get xs i ≡ Some x → Contains xs x
-in_list [] x i e = absurd (cc)
-in_list (y ∷ ys) x zero e = (0, omega arith, some_is y x e)
-in_list (y ∷ ys) x (suc i) e = let r = in_list ys x i e in (suc r.0, omega (arith, r.1), r.2)
+in_list xs x i e = (i, slice_get_within xs i x e, get_or_from_slice_get xs i x x e)
 
 -- a member of two concatenated lists is a member of the first or of the second
 abbrev IsInSecondList : List (List ℕ) → List (List ℕ) → ℕ → List ℕ → Type 0
@@ -135,7 +130,7 @@ part_agrees xs once (Some x) (Some n) k is within =
     let y = unwrap_or (string_at_id xs k) [] in
     let there : string_at_id xs k ≡ Some y = has_string xs k within in
     both_ways (n == k) (bytes_eq x.now y)
-    (λ h. (bytes_eq-Decides x.now y).1 (some_is x.now y (sym is ∙ ap (string_at_id xs) (eqb-true n k h) ∙ there)))
+    (λ h. (bytes_eq-Decides x.now y).1 (same_Some x.now y (sym is ∙ ap (string_at_id xs) (eqb-true n k h) ∙ there)))
     (λ h. (Decides-eqb n k).1 (ids_distinct xs once n k y (is ∙ ap Some ((bytes_eq-Decides x.now y).0 h)) there))
 
 -- the ID of a given string
@@ -185,18 +180,6 @@ unfolding matches
 matches_denoted g given p is wants =
     map-filter (denoted_triple g) (agrees p) (has_given_strings given) g.triples (λ t i h. triple_agrees g is given p wants t (in_range g is t i h))
 
-false_is : (b : Bool) → (b ≡ true → ⊥) → b ≡ false
-false_is true h = absurd (h refl)
-false_is false h = refl
-
-and_left : (a b : Bool) → (a && b) ≡ true → a ≡ true
-and_left true b h = refl
-and_left false b h = absurd (cc)
-
-and_right : (a b : Bool) → (a && b) ≡ true → b ≡ true
-and_right true b h = h
-and_right false b h = absurd (cc)
-
 pattern_for : List (Option BorrowedString) → Triple → Pattern
 pattern_for given t = record { s = number_for (string_given given 0) t.0; p = number_for (string_given given 1) t.1; o = number_for (string_given given 2) t.2 }
 
@@ -206,17 +189,18 @@ is_pattern g given t range h =
     let s = admits_string (string_given given 0) (string_of g Subject t.0) in
     let p = admits_string (string_given given 1) (string_of g Predicate t.1) in
     let o = admits_string (string_given given 2) (string_of g Object t.2) in
-    let both = and_left (s && p) o h in
+    let all = and_parts (s && p) o h in
+    let both = and_parts s p all.0 in
     record {
-      subject = is_part (role_strings g.dictionary Subject) (string_given given 0) t.0 range.0 (and_left s p both);
-      predicate = is_part (role_strings g.dictionary Predicate) (string_given given 1) t.1 range.1 (and_right s p both);
-      object = is_part (role_strings g.dictionary Object) (string_given given 2) t.2 range.2 (and_right (s && p) o h);
+      subject = is_part (role_strings g.dictionary Subject) (string_given given 0) t.0 range.0 both.0;
+      predicate = is_part (role_strings g.dictionary Predicate) (string_given given 1) t.1 range.1 both.1;
+      object = is_part (role_strings g.dictionary Object) (string_given given 2) t.2 range.2 all.1;
     }
 
 pub none_denoted : (g : GraphParts) (given : List (Option BorrowedString)) → IsGraph g → ((p : Pattern) → IsPattern g given p → ⊥) → filter (has_given_strings given) (denoted g g.triples) ≡ []
 none_denoted g given is none =
     filter_none (denoted_triple g) (λ _. true) (has_given_strings given) g.triples
-    (λ t i h. false_is (has_given_strings given (denoted_triple g t)) (λ has. none (pattern_for given t) (is_pattern g given t (in_range g is t i h) has)))
+    (λ t i h. false_from_ne_true (has_given_strings given (denoted_triple g t)) (λ has. none (pattern_for given t) (is_pattern g given t (in_range g is t i h) has)))
 
 -- ---- no triple of strings occurs twice
 
@@ -257,7 +241,7 @@ same_triple g is t u ht hu same =
 -- a denoted triple is that of the triple with the same index
 mapped : (g : GraphParts) (ts : List Triple) (i : ℕ) (x : StringTriple) → slice_get (denoted g ts) i ≡ Some x → (t : Triple) × (slice_get ts i ≡ Some t) × (denoted_triple g t ≡ x)
 mapped g [] i x h = absurd (cc)
-mapped g (t ∷ ts) zero x h = (t, refl, some_is (denoted_triple g t) x h)
+mapped g (t ∷ ts) zero x h = (t, refl, same_Some (denoted_triple g t) x h)
 mapped g (t ∷ ts) (suc i) x h = mapped g ts i x h
 
 strings_once : (g : GraphParts) → IsGraph g → AllDistinct (denoted g g.triples)

@@ -1,14 +1,16 @@
 -- Flags of strings: which of them are terms that their roles allow.
-use Rattle.std.proofs.Common.{◌≡◌, ◌⊎◌, ◌&&◌, ℕ, zero, suc, Bool, true, false, List, [], ◌∷◌, ◌++◌, refl, sym, subst, append_assoc, append-nil, inl, inr}
+use Rattle.std.proofs.Common.{◌≡◌, ◌&&◌, ℕ, zero, suc, Bool, true, false, List, [], ◌∷◌, ◌++◌, subst, append-nil, inl, inr}
 use Rattle.std.specs.Option.{unwrap_or}
+use Rattle.std.proofs.lemmas.Bool.{and_cases, and_parts}
 use Rattle.hdt_dict.specs.Ids.{string_at_id}
 use Rattle.hdt_dict.specs.Dictionary.{role_strings}
 use Rattle.hdt_wire.specs.declared.role.Role.{Role}
 use Rattle.hdt_wire.specs.declared.role.Role.TheVariants.{Subject, Predicate, Object}
 use Rattle.hdt_triples.specs.TripleSequences.{Triple}
-use Rattle.hdt_file.specs.Denoted.{string_of}
+use Rattle.hdt_triples.specs.Uses.{role_component}
+use Rattle.hdt_file.specs.Denoted.{denoted_triple, string_of}
 use Rattle.hdt_file.specs.File.{GraphParts}
-use Rattle.hdt_file.specs.SkippedLines.{TellsLines, HasLine, HasNoLine}
+use Rattle.hdt_file.specs.SkippedLines.{TellsLines}
 use Rattle.hdt_file.specs.Text.{Pairwise}
 use Rattle.hdt_file.specs.TextWriting.{AppendsTerm}
 use Rattle.hdt_file.specs.TermFlags.{IsTermFlag, AreTermFlags, term_flag, has_line}
@@ -40,40 +42,33 @@ flag_is role (x ∷ xs) (b ∷ bs) (suc (suc i)) h = flag_is role xs bs (suc i) 
 
 -- ---- the flags of a triple
 
-all_true : (a b c : Bool) → (a && b && c) ≡ true → (a ≡ true) × (b ≡ true) × (c ≡ true)
-all_true true true true e = (refl, refl, refl)
-all_true true true false e = absurd cc
-all_true true false c e = absurd cc
-all_true false b c e = absurd cc
+-- the flag of the string of a role
+abbrev flag : TermFlags → Triple → Role → Bool
+flag flags t Subject = term_flag flags.subjects.items t.0
+flag flags t Predicate = term_flag flags.predicates.items t.1
+flag flags t Object = term_flag flags.objects.items t.2
 
-one_false : (a b c : Bool) → (a && b && c) ≡ false → (a ≡ false) ⊎ ((b ≡ false) ⊎ (c ≡ false))
-one_false true true true e = absurd cc
-one_false true true false e = inr (inr refl)
-one_false true false c e = inr (inl refl)
-one_false false b c e = inl refl
+told : (g : GraphParts) (flags : TermFlags) (t : Triple) → AreTermFlags g flags → (role : Role) (b : Bool) → flag flags t role ≡ b → IsTermFlag role (role_component role (denoted_triple g t)) b
+told g flags t h Subject b e = subst (IsTermFlag Subject (string_of g Subject t.0)) e (flag_is Subject (role_strings g.dictionary Subject) flags.subjects.items t.0 h.subjects)
+told g flags t h Predicate b e = subst (IsTermFlag Predicate (string_of g Predicate t.1)) e (flag_is Predicate (role_strings g.dictionary Predicate) flags.predicates.items t.1 h.predicates)
+told g flags t h Object b e = subst (IsTermFlag Object (string_of g Object t.2)) e (flag_is Object (role_strings g.dictionary Object) flags.objects.items t.2 h.objects)
 
-subject_flag : (g : GraphParts) (flags : TermFlags) (t : Triple) → AreTermFlags g flags → IsTermFlag Subject (string_of g Subject t.0) (term_flag flags.subjects.items t.0)
-subject_flag g flags t h = flag_is Subject (role_strings g.dictionary Subject) flags.subjects.items t.0 h.subjects
+each_flag : (flags : TermFlags) (t : Triple) → has_line flags t ≡ true → (role : Role) → flag flags t role ≡ true
+each_flag flags t e Subject = (and_parts (flag flags t Subject) (flag flags t Predicate) (and_parts (flag flags t Subject && flag flags t Predicate) (flag flags t Object) e).0).0
+each_flag flags t e Predicate = (and_parts (flag flags t Subject) (flag flags t Predicate) (and_parts (flag flags t Subject && flag flags t Predicate) (flag flags t Object) e).0).1
+each_flag flags t e Object = (and_parts (flag flags t Subject && flag flags t Predicate) (flag flags t Object) e).1
 
-predicate_flag : (g : GraphParts) (flags : TermFlags) (t : Triple) → AreTermFlags g flags → IsTermFlag Predicate (string_of g Predicate t.1) (term_flag flags.predicates.items t.1)
-predicate_flag g flags t h = flag_is Predicate (role_strings g.dictionary Predicate) flags.predicates.items t.1 h.predicates
-
-object_flag : (g : GraphParts) (flags : TermFlags) (t : Triple) → AreTermFlags g flags → IsTermFlag Object (string_of g Object t.2) (term_flag flags.objects.items t.2)
-object_flag g flags t h = flag_is Object (role_strings g.dictionary Object) flags.objects.items t.2 h.objects
-
-line_told : (g : GraphParts) (flags : TermFlags) (t : Triple) → AreTermFlags g flags → has_line flags t ≡ true → HasLine g t
-line_told g flags t h e Subject = subst (IsTermFlag Subject (string_of g Subject t.0)) (all_true (term_flag flags.subjects.items t.0) (term_flag flags.predicates.items t.1) (term_flag flags.objects.items t.2) e).0 (subject_flag g flags t h)
-line_told g flags t h e Predicate = subst (IsTermFlag Predicate (string_of g Predicate t.1)) (all_true (term_flag flags.subjects.items t.0) (term_flag flags.predicates.items t.1) (term_flag flags.objects.items t.2) e).1 (predicate_flag g flags t h)
-line_told g flags t h e Object = subst (IsTermFlag Object (string_of g Object t.2)) (all_true (term_flag flags.subjects.items t.0) (term_flag flags.predicates.items t.1) (term_flag flags.objects.items t.2) e).2 (object_flag g flags t h)
-
-none_told : (g : GraphParts) (flags : TermFlags) (t : Triple) → AreTermFlags g flags → (term_flag flags.subjects.items t.0 ≡ false) ⊎ ((term_flag flags.predicates.items t.1 ≡ false) ⊎ (term_flag flags.objects.items t.2 ≡ false))
-    → HasNoLine g t
-none_told g flags t h (inl e) = (Subject, subst (IsTermFlag Subject (string_of g Subject t.0)) e (subject_flag g flags t h))
-none_told g flags t h (inr (inl e)) = (Predicate, subst (IsTermFlag Predicate (string_of g Predicate t.1)) e (predicate_flag g flags t h))
-none_told g flags t h (inr (inr e)) = (Object, subst (IsTermFlag Object (string_of g Object t.2)) e (object_flag g flags t h))
+false_flag : (flags : TermFlags) (t : Triple) → has_line flags t ≡ false → (role : Role) × (flag flags t role ≡ false)
+false_flag flags t e = elim (and_cases (flag flags t Subject && flag flags t Predicate) (flag flags t Object) e) [
+  | inl front ↦ elim (and_cases (flag flags t Subject) (flag flags t Predicate) front) [
+    | inl a ↦ (Subject, a)
+    | inr b ↦ (Predicate, b)
+  ]
+  | inr c ↦ (Object, c)
+]
 
 pub tells : (g : GraphParts) (flags : TermFlags) → AreTermFlags g flags → TellsLines g (has_line flags)
 tells g flags h = record {
-  some = λ t e. line_told g flags t h e;
-  none = λ t e. none_told g flags t h (one_false (term_flag flags.subjects.items t.0) (term_flag flags.predicates.items t.1) (term_flag flags.objects.items t.2) e);
+  some = λ t e role. told g flags t h role true (each_flag flags t e role);
+  none = λ t e. let f = false_flag flags t e in (f.0, told g flags t h f.0 false f.1);
 }

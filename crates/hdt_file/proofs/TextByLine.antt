@@ -1,29 +1,19 @@
 -- The text of triples, appended line by line.
-use Rattle.std.proofs.Common.{◌≡◌, ℕ, zero, suc, Option, None, Some, take, List, [], ◌∷◌, ◌++◌, length, ◌≤◌, refl, sym, ap, ◌∙◌, append_assoc, append-nil, inl, inr, arith}
+use Rattle.std.proofs.Common.{◌≡◌, ℕ, ◌+◌, ◌<◌, drop, get_or, subst, take, List, [], ◌∷◌, ◌++◌, length, ◌≤◌, refl, sym, ap, ◌∙◌, append_assoc, append-nil, inl, inr, arith}
 use Rattle.std.specs.List.{flat_map}
 use Rattle.std.proofs.lemmas.Grind.{flat_map-append}
-use Rattle.std.proofs.lemmas.List.{length-take, take-append-le, take-take, take_all}
+use Rattle.std.proofs.lemmas.List.{drop_all, drop_more, length-take, take-append-drop, take-append-le, take-take, take_all}
 use Rattle.hdt_wire.specs.Control.{IsPrefixOf}
 use Rattle.hdt_wire.specs.declared.role.Role.{Role}
 use Rattle.hdt_wire.specs.declared.role.Role.TheVariants.{Subject, Predicate, Object}
 use Rattle.hdt_triples.specs.TripleSequences.{Triple}
-use Rattle.hdt_triples.specs.declared.pattern.Pattern.{Pattern}
 use Rattle.hdt_file.specs.File.{GraphParts}
 use Rattle.hdt_triples.specs.Uses.{role_component}
 use Rattle.hdt_file.specs.Denoted.{string_of, denoted_triple, denoted}
 use Rattle.hdt_file.specs.Text.{TermTriple, IsTermOf, AreTermsOf, IsFirstNonTerm, IsTextOf, Pairwise, line}
-use Rattle.hdt_file.specs.TextWriting.{AppendsLine, AppendsText, ReportsNonTermOfTriple, ReportsFirstNonTerm, matches_if_given, limited}
+use Rattle.hdt_file.specs.TextWriting.{AppendsLine, AppendsText, ReportsNonTermOfTriple, ReportsFirstNonTerm}
 use Rattle.hdt_file.specs.declared.fault.DumpFault.{DumpFault}
 use Rattle.hdt_file.specs.declared.fault.DumpFault.TheVariants.{NotATerm, Write, OutOfMemory}
-
--- ---- triples in a list
-
--- the first n + 1 of a list are its first member and the first n of the rest
-pub one_more : (n : ℕ) (found items new : List Triple) (t : Triple) (left rest : List Triple) → left ≡ t ∷ rest → new ≡ items ++ t ∷ []
-    → found ≡ items ++ take (suc n) left → found ≡ new ++ take n rest
-one_more n found items new t left rest first is h =
-    h ∙ ap (λ (l : List Triple). items ++ take (suc n) l) first ∙ sym (append_assoc items (t ∷ []) (take n rest))
-    ∙ ap (λ (l : List Triple). l ++ take n rest) (sym is)
 
 -- ---- what an error leaves
 
@@ -54,7 +44,7 @@ with_line : (g : GraphParts) (t : Triple) (ts : List Triple) (terms : TermTriple
     → IsTextOf (denoted g (t ∷ ts)) (line terms ++ more)
 with_line g t ts terms more are h = record { terms = terms ∷ h.terms; each = (are, h.each); whole = ap (λ (x : List ℕ). line terms ++ x) h.whole }
 
-pub line_and_text : (g : GraphParts) (t : Triple) (ts : List Triple) (old between new : List ℕ) → AppendsLine g t old between → AppendsText g ts between new → AppendsText g (t ∷ ts) old new
+line_and_text : (g : GraphParts) (t : Triple) (ts : List Triple) (old between new : List ℕ) → AppendsLine g t old between → AppendsText g ts between new → AppendsText g (t ∷ ts) old new
 line_and_text g t ts old between new a h =
     record {
       text = line a.terms ++ h.text;
@@ -62,16 +52,16 @@ line_and_text g t ts old between new a h =
       grown = h.grown ∙ ap (λ (x : List ℕ). x ++ h.text) a.grown ∙ append_assoc old (line a.terms) h.text;
     }
 
-pub no_text : (g : GraphParts) (text : List ℕ) → AppendsText g [] text text
+no_text : (g : GraphParts) (text : List ℕ) → AppendsText g [] text text
 no_text g text = record { text = []; is = record { terms = []; each = tt; whole = refl }; grown = sym (append-nil text) }
 
 -- an error among the remaining triples is also the error of all, if the first triple has a line
-pub reported_after_line : (g : GraphParts) (t : Triple) (ts : List Triple) (old new : List ℕ) (e : DumpFault) → AppendsLine g t old new → ReportsFirstNonTerm g ts e → ReportsFirstNonTerm g (t ∷ ts) e
+reported_after_line : (g : GraphParts) (t : Triple) (ts : List Triple) (old new : List ℕ) (e : DumpFault) → AppendsLine g t old new → ReportsFirstNonTerm g ts e → ReportsFirstNonTerm g (t ∷ ts) e
 reported_after_line g t ts old new (NotATerm role n) a h = inr ((λ (other : Role). (role_component other a.terms, a.are other)), h)
 reported_after_line g t ts old new (Write k) a h = h
 reported_after_line g t ts old new OutOfMemory a h = tt
 
-pub reported_by_line : (g : GraphParts) (t : Triple) (ts : List Triple) (e : DumpFault) → ReportsNonTermOfTriple g t e → ReportsFirstNonTerm g (t ∷ ts) e
+reported_by_line : (g : GraphParts) (t : Triple) (ts : List Triple) (e : DumpFault) → ReportsNonTermOfTriple g t e → ReportsFirstNonTerm g (t ∷ ts) e
 reported_by_line g t ts (NotATerm role n) h = inl h
 reported_by_line g t ts (Write k) h = h
 reported_by_line g t ts OutOfMemory h = tt
@@ -130,30 +120,33 @@ pub record ContinuesText (g : GraphParts) (all left : List Triple) (old now : Li
   pub text : (new : List ℕ) → AppendsText g left now new → AppendsText g all old new
   pub first : (e : DumpFault) → ReportsFirstNonTerm g left e → ReportsFirstNonTerm g all e
 
-pub goes_on : (g : GraphParts) (all ts : List Triple) (t : Triple) (old now new : List ℕ) → ContinuesText g all (t ∷ ts) old now → AppendsLine g t now new → ContinuesText g all ts old new
-goes_on g all ts t old now new h a =
-    record { text = λ more is. h.text more (line_and_text g t ts now new more a is); first = λ e is. h.first e (reported_after_line g t ts now new e a is) }
+-- by the triple at an index
+pub goes_on : (g : GraphParts) (all : List Triple) (at : ℕ) (old now new : List ℕ) → at < length all → ContinuesText g all (drop at all) old now → AppendsLine g (get_or all at (0, 0, 0)) now new
+    → ContinuesText g all (drop (at + 1) all) old new
+goes_on g all at old now new lt h a =
+    let k = subst (λ (left : List Triple). ContinuesText g all left old now) (drop_more all at (0, 0, 0) lt) h in
+    record {
+      text = λ more is. k.text more (line_and_text g (get_or all at (0, 0, 0)) (drop (at + 1) all) now new more a is);
+      first = λ e is. k.first e (reported_after_line g (get_or all at (0, 0, 0)) (drop (at + 1) all) now new e a is);
+    }
 
-pub stops : (g : GraphParts) (all ts : List Triple) (t : Triple) (old now : List ℕ) (e : DumpFault) → ContinuesText g all (t ∷ ts) old now → ReportsNonTermOfTriple g t e → ReportsFirstNonTerm g all e
-stops g all ts t old now e h told = h.first e (reported_by_line g t ts e told)
+pub stops : (g : GraphParts) (all : List Triple) (at : ℕ) (old now : List ℕ) (e : DumpFault) → at < length all → ContinuesText g all (drop at all) old now → ReportsNonTermOfTriple g (get_or all at (0, 0, 0)) e → ReportsFirstNonTerm g all e
+stops g all at old now e lt h told =
+    let k = subst (λ (left : List Triple). ContinuesText g all left old now) (drop_more all at (0, 0, 0) lt) h in
+    k.first e (reported_by_line g (get_or all at (0, 0, 0)) (drop (at + 1) all) e told)
 
-pub text_goes_on : (g : GraphParts) (all xs rest : List Triple) (old now new : List ℕ) → ContinuesText g all (xs ++ rest) old now → AppendsText g xs now new → ContinuesText g all rest old new
-text_goes_on g all xs rest old now new h a =
-    record { text = λ more is. h.text more (text_and_text g xs rest now new more a is); first = λ e is. h.first e (reported_after_text g xs rest now new e a is) }
+pub ends : (g : GraphParts) (all : List Triple) (at : ℕ) (old now : List ℕ) → length all ≤ at → ContinuesText g all (drop at all) old now → AppendsText g all old now
+ends g all at old now past h = (subst (λ (left : List Triple). ContinuesText g all left old now) (drop_all at all past) h).text now (no_text g now)
 
-pub text_stops : (g : GraphParts) (all xs rest : List Triple) (old now : List ℕ) (e : DumpFault) → ContinuesText g all (xs ++ rest) old now → ReportsFirstNonTerm g xs e → ReportsFirstNonTerm g all e
-text_stops g all xs rest old now e h told = h.first e (reported_in_text g xs rest e told)
+-- by the first n of the remaining triples
+pub text_goes_on : (g : GraphParts) (all left : List Triple) (n : ℕ) (old now new : List ℕ) → ContinuesText g all left old now → AppendsText g (take n left) now new → ContinuesText g all (drop n left) old new
+text_goes_on g all left n old now new h a =
+    let k = subst (λ (ts : List Triple). ContinuesText g all ts old now) (sym (take-append-drop n left)) h in
+    record { text = λ more is. k.text more (text_and_text g (take n left) (drop n left) now new more a is); first = λ e is. k.first e (reported_after_text g (take n left) (drop n left) now new e a is) }
 
-pub ends : (g : GraphParts) (all : List Triple) (old now : List ℕ) → ContinuesText g all [] old now → AppendsText g all old now
-ends g all old now h = h.text now (no_text g now)
+pub text_stops : (g : GraphParts) (all left : List Triple) (n : ℕ) (old now : List ℕ) (e : DumpFault) → ContinuesText g all left old now → ReportsFirstNonTerm g (take n left) e → ReportsFirstNonTerm g all e
+text_stops g all left n old now e h told = (subst (λ (ts : List Triple). ContinuesText g all ts old now) (sym (take-append-drop n left)) h).first e (reported_in_text g (take n left) (drop n left) e told)
 
-pub none_left : (ts : List Triple) → length ts ≡ 0 → ts ≡ []
-none_left [] h = refl
-none_left (t ∷ ts) h = absurd (omega (arith, h))
-
--- where nothing is asked for the text is empty
-pub nothing_asked : (g : GraphParts) (pattern : Option Pattern) (most : Option ℕ) (text : List ℕ) → ((p : Pattern) → pattern ≡ Some p → ⊥) → AppendsText g (limited most (matches_if_given g pattern)) text text
-nothing_asked g (Some p) most text none = absurd (none p refl)
-nothing_asked g None None text none = no_text g text
-nothing_asked g None (Some zero) text none = no_text g text
-nothing_asked g None (Some (suc n)) text none = no_text g text
+pub text_ends : (g : GraphParts) (all left : List Triple) (old now : List ℕ) → length left ≡ 0 → ContinuesText g all left old now → AppendsText g all old now
+text_ends g all [] old now none h = h.text now (no_text g now)
+text_ends g all (t ∷ ts) old now none h = absurd (omega (arith, none))

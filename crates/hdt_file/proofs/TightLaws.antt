@@ -1,6 +1,6 @@
 -- The checks of a tight file are exact: those of its strings pass if and only if triples use all of them.
-use Rattle.std.proofs.Common.{◌≡◌, ◌∙◌, ℕ, ◌+◌, ◌-◌, ◌<◌, ◌≤◌, ◌^◌, ◌&&◌, ◌⊎◌, inl, inr, Bool, true, false, List, length, Result, Ok, Err, refl, ap, sym, subst, arith}
-use Rattle.std.proofs.lemmas.Bool.{cases_lt}
+use Rattle.std.proofs.Common.{◌≡◌, ◌∙◌, ℕ, ◌+◌, ◌-◌, ◌<◌, ◌≤◌, ◌^◌, ◌⊎◌, inl, inr, true, List, length, Result, Ok, Err, refl, ap, sym, subst, arith}
+use Rattle.std.proofs.lemmas.Bool.{and_from, and_parts, cases_lt}
 use Rattle.std.proofs.lemmas.List.{length-append}
 use Rattle.hdt_wire.specs.declared.fault.Fault.{Fault}
 use Rattle.hdt_wire.specs.declared.fault.Reason.TheVariants.{Unused}
@@ -43,19 +43,6 @@ section_only d ts section all =
 abbrev AllUsed : DictionaryParts → List Triple → Type 0
 AllUsed d ts = (role : Role) (n : ℕ) → 1 ≤ n → n ≤ length (role_strings (lists_of_dictionary d) role) → Uses ts role n
 
-and_left : (a b : Bool) → (a && b) ≡ true → a ≡ true
-and_left true b h = refl
-and_left false b h = absurd (cc)
-
-and_right : (a b : Bool) → (a && b) ≡ true → b ≡ true
-and_right true b h = h
-and_right false b h = absurd (cc)
-
-and_both : (a b : Bool) → a ≡ true → b ≡ true → (a && b) ≡ true
-and_both true true h k = refl
-and_both false b h k = absurd (cc)
-and_both true false h k = absurd (cc)
-
 -- an ID above those of the shared strings is used if the check of its own section passes
 used_after_shared : (ts : List Triple) (role : Role) (front n : ℕ) → front < n → uses ts role (front + (n - front)) ≡ true → Uses ts role n
 used_after_shared ts role front n lt h =
@@ -67,13 +54,13 @@ unfolding is_used
 all_found d ts shared subjects predicates objects Subject n from to =
     elim (cases_lt (length d.shared.strings) n) [
       | inl lt ↦ used_after_shared ts Subject (length d.shared.strings) n lt (section_found d ts parts.Subjects subjects (n - length d.shared.strings) (omega (arith, lt)) (omega (arith, lt, to, length-append d.shared.strings d.subjects.strings)))
-      | inr le ↦ uses_found ts Subject n (and_left (uses ts Subject n) (uses ts Object n) (section_found d ts parts.Shared shared n from le))
+      | inr le ↦ uses_found ts Subject n (and_parts (uses ts Subject n) (uses ts Object n) (section_found d ts parts.Shared shared n from le)).0
     ]
 all_found d ts shared subjects predicates objects Predicate n from to = uses_found ts Predicate n (section_found d ts parts.Predicates predicates n from to)
 all_found d ts shared subjects predicates objects Object n from to =
     elim (cases_lt (length d.shared.strings) n) [
       | inl lt ↦ used_after_shared ts Object (length d.shared.strings) n lt (section_found d ts parts.Objects objects (n - length d.shared.strings) (omega (arith, lt)) (omega (arith, lt, to, length-append d.shared.strings d.objects.strings)))
-      | inr le ↦ uses_found ts Object n (and_right (uses ts Subject n) (uses ts Object n) (section_found d ts parts.Shared shared n from le))
+      | inr le ↦ uses_found ts Object n (and_parts (uses ts Subject n) (uses ts Object n) (section_found d ts parts.Shared shared n from le)).1
     ]
 
 all_only : (d : DictionaryParts) (ts : List Triple) → AllUsed d ts → check_strings_used d ts ≡ Ok tt
@@ -81,7 +68,7 @@ unfolding check_strings_used is_used
 all_only d ts all =
     let subject : (n : ℕ) → 1 ≤ n → n ≤ length d.shared.strings + length d.subjects.strings → uses ts Subject n ≡ true = λ n from to. uses_only ts Subject n (all Subject n from (omega (arith, to, length-append d.shared.strings d.subjects.strings))) in
     let object : (n : ℕ) → 1 ≤ n → n ≤ length d.shared.strings + length d.objects.strings → uses ts Object n ≡ true = λ n from to. uses_only ts Object n (all Object n from (omega (arith, to, length-append d.shared.strings d.objects.strings))) in
-    let e0 : check_section_used d ts parts.Shared ≡ Ok tt = section_only d ts parts.Shared (λ n from to. and_both (uses ts Subject n) (uses ts Object n) (subject n from (omega (arith, to))) (object n from (omega (arith, to)))) in
+    let e0 : check_section_used d ts parts.Shared ≡ Ok tt = section_only d ts parts.Shared (λ n from to. and_from (uses ts Subject n) (uses ts Object n) (subject n from (omega (arith, to))) (object n from (omega (arith, to)))) in
     let e1 : check_section_used d ts parts.Subjects ≡ Ok tt = section_only d ts parts.Subjects (λ n from to. subject (length d.shared.strings + n) (omega (arith, from)) (omega (arith, to))) in
     let e2 : check_section_used d ts parts.Predicates ≡ Ok tt = section_only d ts parts.Predicates (λ n from to. uses_only ts Predicate n (all Predicate n from to)) in
     let e3 : check_section_used d ts parts.Objects ≡ Ok tt = section_only d ts parts.Objects (λ n from to. object (length d.shared.strings + n) (omega (arith, from)) (omega (arith, to))) in
@@ -99,16 +86,6 @@ strings_exact d ts = record {
 
 -- ---- a file
 
-tight_of : (file : FileParts) → AllUsed file.dictionary (triples_of (bitmap_triples file.triples)) → IsTight (graph_of_file file)
-tight_of file all Subject n from to = all Subject n from to
-tight_of file all Predicate n from to = all Predicate n from to
-tight_of file all Object n from to = all Object n from to
-
-used_of : (file : FileParts) → IsTight (graph_of_file file) → AllUsed file.dictionary (triples_of (bitmap_triples file.triples))
-used_of file tight Subject n from to = tight Subject n from to
-used_of file tight Predicate n from to = tight Predicate n from to
-used_of file tight Object n from to = tight Object n from to
-
 pub tight_exact : (bytes : List ℕ) → IsBytes bytes → length bytes < 2 ^ 64 → Exactly (decode_tight_graph bytes) (IsTightLayout bytes)
 unfolding decode_tight_graph
 tight_exact bytes fits small =
@@ -120,12 +97,11 @@ tight_exact bytes fits small =
           let same = ok_is (graph_of_file file) g e in
           record {
             layout = record { file = file; is = exact.found file e1; of = same };
-            tight = subst IsTight same (tight_of file ((strings_exact file.dictionary (triples_of (bitmap_triples file.triples))).found u e2));
+            tight = subst IsTight same ((strings_exact file.dictionary (triples_of (bitmap_triples file.triples))).found u e2);
           }));
       only = λ g h.
           let file = h.layout.file in
-          let used = used_of file (subst IsTight (sym h.layout.of) h.tight) in
-          rw (exact.only file h.layout.is, all_only file.dictionary (triples_of (bitmap_triples file.triples)) used) (ap (λ (y : GraphParts). Ok y) h.layout.of);
+          rw (exact.only file h.layout.is, all_only file.dictionary (triples_of (bitmap_triples file.triples)) (subst IsTight (sym h.layout.of) h.tight)) (ap (λ (y : GraphParts). Ok y) h.layout.of);
     }
 
 pub tight_or_fault : (bytes : List ℕ) → IsBytes bytes → length bytes < 2 ^ 64 → UniqueValue (decode_tight_graph bytes) (IsTightLayout bytes) ⊎ UniqueFault (decode_tight_graph bytes) (IsTightLayout bytes)

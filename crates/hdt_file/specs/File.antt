@@ -4,6 +4,7 @@ use Rattle.std.specs.Prelude.{◌≡◌, ℕ, ◌==◌, List, length, Result, Ok
 use Rattle.hdt_wire.specs.declared.fault.Fault.{Fault}
 use Rattle.hdt_wire.specs.declared.fault.Reason.TheVariants.{TrailingBytes}
 use Rattle.hdt_wire.specs.Checks.{◌>>=◌, demand}
+use Rattle.hdt_wire.specs.Exact.{viewed}
 use Rattle.hdt_dict.specs.Dictionary.{DictionaryParts, SectionLists, IsDictionary, lists_of_dictionary, role_strings}
 use Rattle.hdt_wire.specs.declared.role.Role.TheVariants.{Subject, Predicate, Object}
 use Rattle.hdt_triples.specs.TripleSequences.{Counts, Triple, triples_of}
@@ -60,6 +61,4 @@ pub record IsLayout (bytes : List ℕ) (graph : GraphParts) : Type 0 where
 
 -- decodes a file and returns its graph, or the first error: the first check that fails
 unfoldable pub decode_graph : List ℕ → Result GraphParts Fault
-decode_graph bytes = do
-  file ← decode_file bytes
-  Ok (graph_of_file file)
+decode_graph bytes = viewed graph_of_file (decode_file bytes)

@@ -1,7 +1,7 @@
 -- The head of a file (HDT submission, header; rdfhdt.org, "HDT binary format"): the global control information, that of
 -- the header, and the header body, one after another from byte 0. The header's property `length` is the length of the
 -- body in bytes.
-use Rattle.std.specs.Prelude.{ℕ, List, codes, length, Option, IsSomeAnd, Result, Ok}
+use Rattle.std.specs.Prelude.{ℕ, List, codes, length, IsSomeAnd, Result, Ok}
 use Rattle.std.specs.Option.{ok_or, option_and_then}
 use Rattle.hdt_wire.specs.declared.fault.Fault.{Fault}
 use Rattle.hdt_wire.specs.declared.fault.Reason.TheVariants.{HeaderLength}
@@ -34,13 +34,9 @@ pub record IsHead (head : HeadParts) (bytes : List ℕ) : Type 0 where
   pub length : StatesLength head.header.properties (length head.body)
   pub body : HasSlice bytes head.header.end head.body head.end
 
--- the value of the property `length`, or None if it is missing or not a decimal number below 2 ^ 64
-unfoldable pub length_in : List ℕ → Option ℕ
-length_in properties = option_and_then decimal_number (property_value properties (codes "length"))
-
--- the length of the header body, or the error that it is not stated
+-- the value of the property `length`, or an error if it is missing or not a decimal number below 2 ^ 64
 abbrev pub body_length : ControlInfo → Result ℕ Fault
-body_length header = ok_or (length_in header.properties) (record { place = header.properties_at; reason = HeaderLength })
+body_length header = ok_or (option_and_then decimal_number (property_value header.properties (codes "length"))) (record { place = header.properties_at; reason = HeaderLength })
 
 -- decodes the head, or returns the first error
 unfoldable pub decode_head : List ℕ → Result HeadParts Fault

@@ -1,14 +1,18 @@
 -- The sizes of a file's parts.
-use Rattle.std.specs.Prelude.{◌≡◌, ℕ, ◌-◌, List, length}
+use Rattle.std.specs.Prelude.{◌≡◌, ℕ, ◌+◌, ◌-◌, List, [], ◌∷◌, length}
 use Rattle.hdt_front.specs.Section.{SectionParts, IsSection}
 use Rattle.hdt_dict.specs.Dictionary.{DictionaryParts, IsDictionary}
 use Rattle.hdt_triples.specs.Triples.{TripleParts}
 use Rattle.hdt_file.specs.File.{FileParts, IsFile, graph_of_file}
-use Rattle.hdt_file.specs.StringLengths.{total_len}
 use Rattle.hdt_file.specs.declared.info.SectionInfo.{SectionInfo}
 use Rattle.hdt_file.specs.declared.info.DictionaryInfo.{DictionaryInfo}
 use Rattle.hdt_file.specs.declared.info.EntryBits.{EntryBits}
 use Rattle.hdt_file.specs.declared.info.FileInfo.{FileInfo}
+
+-- the sum of the lengths of the strings in bytes
+unfoldable pub total_len : List (List ℕ) → ℕ
+total_len [] = 0
+total_len (x ∷ xs) = length x + total_len xs
 
 -- the sizes of the section that is encoded at the offset
 abbrev pub section_info : (s : SectionParts) (bytes : List ℕ) (at : ℕ) → IsSection s bytes at → SectionInfo

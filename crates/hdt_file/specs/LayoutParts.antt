@@ -1,15 +1,18 @@
 -- A file as the code keeps it: the head, the dictionary with its byte offsets, the bitmaps and arrays of the triples.
-use Rattle.std.specs.Prelude.{ℕ, ◌+◌, List, Result, Ok}
+use Rattle.std.specs.Prelude.{ℕ, ◌+◌, List, Result}
 use Rattle.hdt_wire.specs.declared.fault.Fault.{Fault}
 use Rattle.hdt_wire.specs.Exact.{viewed}
-use Rattle.hdt_wire.specs.Checks.{◌>>=◌}
 use Rattle.hdt_dict.specs.Dictionary.{DictionaryParts, lists_of_dictionary}
+use Rattle.hdt_dict.specs.Views.{dictionary_of}
 use Rattle.hdt_triples.specs.TripleSequences.{BitmapTriples, triples_of}
-use Rattle.hdt_triples.specs.IndexViews.{directories_held, lists_held}
+use Rattle.hdt_triples.specs.IndexViews.{directories_held, lists_held, triples_listed}
 use Rattle.hdt_triples.specs.Triples.{bitmap_triples}
+use Rattle.hdt_triples.specs.Views.{triples_view}
 use Rattle.hdt_file.specs.Dictionary.{HeadAndDictionary}
 use Rattle.hdt_file.specs.File.{FileParts, GraphParts, dictionary_counts, decode_file}
-use Rattle.hdt_file.specs.Tight.{check_strings_used}
+use Rattle.hdt_file.specs.Head.{head_parts}
+use Rattle.hdt_file.specs.declared.graph.Graph.{Graph}
+use Rattle.hdt_file.specs.declared.layout.Layout.{Layout}
 
 -- the head and the dictionary, and the bitmaps and arrays of the triples
 abbrev pub LayoutParts : Type 0
@@ -27,6 +30,14 @@ parts_bitmap p = p.1
 abbrev pub parts_held : LayoutParts → ℕ
 parts_held p = directories_held (parts_bitmap p) + lists_held (dictionary_counts (parts_dictionary p)) (parts_bitmap p)
 
+-- the parts of a layout
+unfoldable pub parts_of_layout : Layout → LayoutParts
+parts_of_layout l = (record { head = head_parts l.head; dictionary = dictionary_of l.dictionary }, triples_view l.triples)
+
+-- the parts of a graph
+unfoldable pub parts_of_graph : Graph → LayoutParts
+parts_of_graph g = (record { head = head_parts g.head; dictionary = dictionary_of g.dictionary }, triples_view (triples_listed g.triples))
+
 -- the parts of a decoded file
 abbrev pub parts_of_file : FileParts → LayoutParts
 parts_of_file file = (record { head = file.head; dictionary = file.dictionary }, bitmap_triples file.triples)
@@ -38,15 +49,3 @@ decode_parts bytes = viewed parts_of_file (decode_file bytes)
 -- the graph that the parts are of
 abbrev pub graph_of_parts : LayoutParts → GraphParts
 graph_of_parts p = record { header = p.0.head.body; dictionary = lists_of_dictionary p.0.dictionary; triples = triples_of p.1 }
-
--- the graph of the parts, or the first string that no triple uses
-unfoldable pub tight_graph_of_parts : LayoutParts → Result GraphParts Fault
-tight_graph_of_parts p = do
-  _ ← check_strings_used p.0.dictionary (triples_of p.1)
-  Ok (graph_of_parts p)
-
--- decodes a tight file by its parts, or returns the first error
-unfoldable pub tight_graph_by_checks : List ℕ → Result GraphParts Fault
-tight_graph_by_checks bytes = do
-  p ← decode_parts bytes
-  tight_graph_of_parts p

@@ -11,9 +11,7 @@ pub mod LayoutView
 pub mod NonTerms
 pub mod Paging
 pub mod LayoutParts
-pub mod LayoutPartsViews
 pub mod Search
-pub mod StringLengths
 pub mod SkippedLines
 pub mod StringTriples
 pub mod TermFlags

@@ -57,7 +57,7 @@ pub fn read_dictionary<'a>(
 }
 
 /// The checks of the head and the dictionary are exact: they return what is encoded at the start of the file.
-#[tactic(auto, using(crate::proofs::DictionaryLaws::front_exact))]
+#[tactic(auto, using(crate::proofs::HeadLaws::front_exact))]
 pub fn head_and_dictionary_are_exact()
     ensures { (bytes : List ℕ) → IsBytes bytes → length bytes < 2 ^ 64 → Exactly (decode_head_and_dictionary bytes) (λ front. IsHeadAndDictionary front bytes) }
 {}

@@ -6,7 +6,7 @@ ghost use Rattle.hdt_file.specs.File.{dictionary_counts};
 
 use crate::head::Head;
 use crate::layout::Layout;
-use hdt_dict::{Dictionary, Role, RoleCursor};
+use hdt_dict::{Dictionary, PrefixRanges, Role, RoleCursor};
 use hdt_seq::Steps;
 use hdt_triples::ListedTriples;
 use std::alloc::{AllocError, Global};
@@ -29,25 +29,23 @@ pub struct Graph<'a> {
     ghost roles: { string_counts (triples_listed triples) ≡ dictionary_counts (dictionary_of dictionary) },
 }
 
-#[tactic(auto, unfolding(crate::specs::GraphView::graph_view))]
+#[tactic(auto, unfolding(crate::specs::GraphView::graph_view, crate::specs::LayoutParts::parts_of_graph))]
 impl<'a> Graph<'a> {
     ghost use Rattle.std.specs.Prelude.{◌∷◌, ◌↔◌, ◌≤◌, ◌+◌, ◌*◌, [], Some, None, IsOk, OnErr, IsTrue};
-    ghost use Rattle.hdt_front.specs.StringIds.{id_of};
     ghost use Rattle.hdt_dict.specs.StringBatch.{AppendsAll, AreIds, AscendTo};
     ghost use Rattle.hdt_dict.specs.Ids.{string_at_id, AppendsString};
+    ghost use Rattle.hdt_dict.specs.Prefixes.{IsInRanges, RangesAscend, SomeBeginsWith};
     ghost use Rattle.hdt_triples.specs.Uses.{Uses};
     ghost use Rattle.hdt_file.specs.Graph.{IsGraph};
     ghost use Rattle.hdt_file.specs.LayoutView.{layout_view};
     ghost use Rattle.hdt_dict.specs.Cost.{role_decode_cost, role_search_cost};
-    ghost use Rattle.hdt_file.specs.LayoutParts.{parts_dictionary, parts_held};
-    ghost use Rattle.hdt_file.specs.LayoutPartsViews.{parts_of_graph, parts_of_layout};
+    ghost use Rattle.hdt_file.specs.LayoutParts.{parts_dictionary, parts_held, parts_of_graph, parts_of_layout};
     ghost use Rattle.hdt_file.specs.GraphView.{graph_view};
     ghost use Rattle.hdt_dict.specs.Dictionary.{role_strings};
 
     /// A law: this is the graph of a valid file. The strings of each section are UTF-8 without zero bytes and strictly
     /// ascend; no string is in two of shared, subjects and objects; there is at least one triple; the triples strictly
     /// ascend; each ID is that of a string of its role.
-    #[tactic(auto, unfolding(crate::specs::GraphView::graph_view))]
     pub fn is_graph(&self)
         ensures { IsGraph (graph_view self.now) }
     {
@@ -62,7 +60,7 @@ impl<'a> Graph<'a> {
     }
 
     /// Returns the same file without indexes.
-    #[tactic(auto, unfolding(crate::specs::GraphView::graph_view, crate::specs::LayoutView::layout_view, crate::specs::LayoutPartsViews::parts_of_graph, crate::specs::LayoutPartsViews::parts_of_layout))]
+    #[tactic(auto, unfolding(crate::specs::GraphView::graph_view, crate::specs::LayoutView::layout_view, crate::specs::LayoutParts::parts_of_graph, crate::specs::LayoutParts::parts_of_layout))]
     pub fn layout(&self) -> Layout<'a>
         ensures seen { layout_view result ≡ graph_view self.now }
         ensures parts { parts_of_layout result ≡ parts_of_graph self.now }
@@ -82,7 +80,7 @@ impl<'a> Graph<'a> {
     }
 
     /// Returns the number of strings of each section: shared, subjects, predicates, objects.
-    #[tactic(auto, unfolding(crate::specs::GraphView::graph_view, hdt_dict::specs::Views::dictionary_of))]
+    #[tactic(auto, unfolding(crate::specs::GraphView::graph_view, crate::specs::LayoutParts::parts_of_graph, hdt_dict::specs::Views::dictionary_of))]
     pub fn section_lens(&self) -> [u64; 4]
         ensures { result ≡ length (graph_view self.now).dictionary.shared ∷ length (graph_view self.now).dictionary.subjects ∷ length (graph_view self.now).dictionary.predicates ∷ length (graph_view self.now).dictionary.objects ∷ [] }
     {
@@ -90,7 +88,6 @@ impl<'a> Graph<'a> {
     }
 
     /// Returns the number of `u64` values that the graph keeps in memory, besides the input.
-    #[tactic(auto, unfolding(crate::specs::LayoutPartsViews::parts_of_graph))]
     pub fn held(&self) -> u128
         ensures { result ≡ parts_held (parts_of_graph self.now) }
     {
@@ -130,7 +127,6 @@ impl<'a> Graph<'a> {
 
     /// Returns the ID of a string in a role, from 1, or `None` if the role has no such string. It costs a binary search
     /// over the blocks of the role's sections and a scan of one block of each.
-    #[tactic(auto, unfolding(crate::specs::GraphView::graph_view, crate::specs::LayoutPartsViews::parts_of_graph))]
     pub fn number_of(&self, role: Role, x: &[u8], steps: &mut Steps) -> Option<u64>
         ensures exact { (n : ℕ) → (result ≡ Some n) ↔ (string_at_id (role_strings (graph_view self.now).dictionary role) n ≡ Some x.now) }
         ensures cost { steps.new ≤ steps.old + role_search_cost (parts_dictionary (parts_of_graph self.now)) role }
@@ -139,9 +135,20 @@ impl<'a> Graph<'a> {
         self.dictionary.number_of(role, x, steps)
     }
 
+    /// Returns the IDs, from 1, of the strings of a role that begin with a prefix, which may be any bytes: all IDs if it
+    /// is empty. It takes at most twice the steps of [`Graph::number_of`], and allocates nothing.
+    pub fn ids_with_prefix(&self, role: Role, prefix: &[u8], steps: &mut Steps) -> PrefixRanges
+        // An ID is in one of the ranges exactly if its string begins with the prefix.
+        ensures exact { (n : ℕ) → IsInRanges result n ↔ SomeBeginsWith prefix.now (string_at_id (role_strings (graph_view self.now).dictionary role) n) }
+        ensures ascend { RangesAscend result (length (role_strings (graph_view self.now).dictionary role)) }
+        ensures cost { steps.new ≤ steps.old + 2 * role_search_cost (parts_dictionary (parts_of_graph self.now)) role }
+        ensures more { steps.old ≤ steps.new }
+    {
+        self.dictionary.ids_with_prefix(role, prefix, steps)
+    }
+
     /// Appends the string of a role with ID n, from 1, and returns true; or returns false if there is none, with `out`
     /// unchanged. If memory runs out, `out` is unchanged. It decodes the block of the string up to the string.
-    #[tactic(auto, unfolding(crate::specs::GraphView::graph_view, crate::specs::LayoutPartsViews::parts_of_graph))]
     pub fn string_of(
         &self,
         role: Role,
@@ -164,7 +171,6 @@ impl<'a> Graph<'a> {
     ///
     /// Each string takes at most as many steps as [`string_of`](Graph::string_of). If the IDs ascend (duplicates
     /// allowed), each block is decoded once, and all strings together take at most as many steps as the last ID.
-    #[tactic(auto, unfolding(crate::specs::GraphView::graph_view, crate::specs::LayoutPartsViews::parts_of_graph))]
     pub fn strings_of(
         &self,
         alloc: Global,

@@ -1,10 +1,8 @@
 //! The head of a file: global control information, that of the header, and the header body.
-ghost use Rattle.std.specs.Prelude.{◌≡◌, ℕ, List, ◌<◌, ◌^◌, length, Ok, IfOk, ◌+◌, ◌*◌};
+ghost use Rattle.std.specs.Prelude.{◌≡◌, ℕ, List, ◌<◌, ◌^◌, length, Ok, IfOk};
 ghost use Rattle.hdt_wire.specs.Checks.{Reads, IsBytes};
 ghost use Rattle.hdt_wire.specs.Control.{control_info_of};
-ghost use Rattle.hdt_file.specs.Head.{HeadParts, head_parts, length_in, body_length, decode_head, IsHead};
-ghost use Rattle.std.specs.Char.{digit_value};
-ghost use Rattle.std.specs.Option.{SomeIff};
+ghost use Rattle.hdt_file.specs.Head.{HeadParts, head_parts, body_length, decode_head, IsHead};
 ghost use Rattle.hdt_file.specs.Decimal.{decimal_number};
 
 use hdt_wire::{Control, Fault, Kind, Reason, bytes_at, property, read_control};
@@ -53,22 +51,18 @@ impl<'a> Head<'a> {
     }
 }
 
-/// The value of the property `length` of a header.
-#[tactic(auto, unfolding(crate::specs::Head::length_in))]
-fn length_in(properties: &[u8]) -> Option<u64>
-    ensures { result ≡ length_in properties.now }
-{
-    decimal(property(properties, b"length")?)
-}
-
 /// The length of the header body in bytes, as the property `length` states it.
 fn body_length(header: &Control<'_>) -> Result<u64, Fault>
     ensures { result ≡ body_length (control_info_of header.now) }
 {
-    length_in(header.properties()).ok_or(Fault {
+    let fault = Fault {
         place: header.properties_at() as u64,
         reason: Reason::HeaderLength,
-    })
+    };
+    let Some(text) = property(header.properties(), b"length") else {
+        return Err(fault);
+    };
+    decimal(text).ok_or(fault)
 }
 
 /// Reads the head, one check after another.
@@ -113,26 +107,19 @@ pub fn one_head()
         → IsHead a bytes → IsHead b bytes → a ≡ b }
 {}
 
-/// The value after one more digit; `None` if the byte is not a digit or the value would be 2^64 or more.
-fn with_digit(value: u64, byte: u8) -> Option<u64>
-    ensures { SomeIff result ((digit_value byte < 10) × (value * 10 + digit_value byte < 2 ^ 64)) (value * 10 + digit_value byte) }
-{
-    if !byte.is_ascii_digit() {
-        return None;
-    }
-    value.checked_mul(10)?.checked_add(u64::from(byte - b'0'))
-}
-
 /// The value of a decimal number below 2^64: one digit or more, leading zeros allowed. `None` for any other text.
-pub(crate) fn decimal(text: &[u8]) -> Option<u64>
+fn decimal(text: &[u8]) -> Option<u64>
     ensures { result ≡ decimal_number text.now }
 {
     if text.is_empty() {
         return None;
     }
-    let mut value = 0;
-    'digits: for &byte in text {
-        value = with_digit(value, byte)?;
+    // (`parse` allows a plus sign.)
+    if text[0] == b'+' {
+        return None;
     }
-    Some(value)
+    let Ok(text) = std::str::from_utf8(text) else {
+        return None;
+    };
+    text.parse::<u64>().ok()
 }

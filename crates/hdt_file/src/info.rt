@@ -5,8 +5,7 @@ ghost use Rattle.hdt_front.specs.Faults.{read_fault_of};
 ghost use Rattle.hdt_front.specs.Strings.{strings_of};
 ghost use Rattle.hdt_file.specs.Faults.{open_fault_of};
 ghost use Rattle.hdt_file.specs.File.{decode_graph};
-ghost use Rattle.hdt_file.specs.StringLengths.{total_len};
-ghost use Rattle.hdt_file.specs.Info.{IsFileInfo};
+ghost use Rattle.hdt_file.specs.Info.{IsFileInfo, total_len};
 ghost use Rattle.hdt_file.specs.Inside.InfoChecks.{section_info_at, dictionary_info_at, entry_bits_at, info_by_checks};
 
 use crate::fault::OpenFault;
@@ -151,7 +150,7 @@ fn entry_bits(bytes: &[u8], at: usize) -> Result<EntryBits, Fault>
 }
 
 /// Reads a file part by part.
-#[tactic(auto, unfolding(crate::specs::Inside::InfoChecks::info_by_checks, crate::specs::LayoutView::layout_view, crate::specs::Head::head_parts))]
+#[tactic(auto, unfolding(crate::specs::Inside::InfoChecks::info_by_checks, crate::specs::LayoutView::layout_view, crate::specs::LayoutParts::parts_of_layout, crate::specs::Head::head_parts))]
 fn info_by_checks(alloc: Global, bytes: &[u8]) -> Result<FileInfo, OpenFault>
     ensures { ReadsUnlessOom open_fault_of (λ info. info) result (info_by_checks bytes.now) }
 {

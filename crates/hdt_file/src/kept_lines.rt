@@ -72,13 +72,7 @@ pub fn layout_lines(
     ensures kept { IfOk result (λ kept. SkipsNonTerms (layout_view layout.now) most (matches_if_given (layout_view layout.now) pattern) kept.triples.items kept.skipped) }
     ensures lines { IfOk result (λ kept. HaveLines (layout_view layout.now) kept.triples.items) }
 {
-    match pattern {
-        Some(pattern) => collect_lines(alloc, flags, layout.search(pattern), most),
-        None => Ok(KeptLines {
-            triples: Vec::new(alloc),
-            skipped: 0,
-        }),
-    }
+    collect_lines(alloc, flags, layout.search_if_given(pattern), most)
 }
 
 /// Returns the matches of a pattern in a graph that have a line, as [`layout_lines`] does. It searches the indexes.
@@ -93,13 +87,7 @@ pub fn graph_lines(
     ensures kept { IfOk result (λ kept. SkipsNonTerms (graph_view graph.now) most (matches_if_given (graph_view graph.now) pattern) kept.triples.items kept.skipped) }
     ensures lines { IfOk result (λ kept. HaveLines (graph_view graph.now) kept.triples.items) }
 {
-    match pattern {
-        Some(pattern) => collect_lines(alloc, flags, graph.search(pattern), most),
-        None => Ok(KeptLines {
-            triples: Vec::new(alloc),
-            skipped: 0,
-        }),
-    }
+    collect_lines(alloc, flags, graph.search_if_given(pattern), most)
 }
 
 /// Appends the text of triples that have lines, as [`append_graph_text`](crate::append_graph_text) does. After an error,

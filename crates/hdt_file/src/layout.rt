@@ -8,7 +8,7 @@ ghost use Rattle.hdt_file.specs.File.{dictionary_counts};
 use crate::dictionary::read_dictionary;
 use crate::fault::OpenFault;
 use crate::head::Head;
-use hdt_dict::{Dictionary, Role, RoleCursor};
+use hdt_dict::{Dictionary, PrefixRanges, Role, RoleCursor};
 use hdt_seq::Steps;
 use hdt_triples::{Counts, Matches, Pattern, Triples};
 use hdt_wire::{Reason, demand};
@@ -43,11 +43,12 @@ fn dictionary_counts(dictionary: &Dictionary<'_>) -> Counts
     }
 }
 
-#[tactic(auto, unfolding(crate::specs::LayoutView::layout_view))]
+#[tactic(auto, unfolding(crate::specs::LayoutView::layout_view, crate::specs::LayoutParts::parts_of_layout))]
 impl<'a> Layout<'a> {
     ghost use Rattle.std.specs.Prelude.{◌↔◌, ◌≤◌, ◌<◌, ◌+◌, ◌*◌, ◌^◌, ◌∷◌, [], Option, Some, None, IsOk, OnErr, min};
     ghost use Rattle.hdt_wire.specs.Checks.{ReadsUnlessOom};
     ghost use Rattle.hdt_dict.specs.Ids.{string_at_id, AppendsString};
+    ghost use Rattle.hdt_dict.specs.Prefixes.{IsInRanges, RangesAscend, SomeBeginsWith};
     ghost use Rattle.hdt_triples.specs.Bounds.{scan_steps};
     ghost use Rattle.hdt_triples.specs.Remaining.{remaining_matches, step_limit};
     ghost use Rattle.hdt_triples.specs.Patterns.{matches};
@@ -55,15 +56,15 @@ impl<'a> Layout<'a> {
     ghost use Rattle.hdt_file.specs.File.{GraphParts, IsLayout, decode_graph};
     ghost use Rattle.hdt_file.specs.LayoutView.{layout_view};
     ghost use Rattle.hdt_dict.specs.Cost.{role_decode_cost, role_search_cost};
-    ghost use Rattle.hdt_file.specs.LayoutParts.{parts_bitmap, parts_dictionary, decode_parts};
+    ghost use Rattle.hdt_file.specs.LayoutParts.{parts_bitmap, parts_dictionary, decode_parts, parts_of_layout};
     ghost use Rattle.hdt_file.specs.Laws.LayoutParts.{parts_by_checks};
-    ghost use Rattle.hdt_file.specs.LayoutPartsViews.{parts_of_layout};
     ghost use Rattle.hdt_file.specs.Search.{IsPatternPart, IsPattern, pattern_steps, part_steps};
+    ghost use Rattle.hdt_file.specs.TextWriting.{matches_if_given};
     ghost use Rattle.hdt_file.specs.GraphView.{graph_counts};
     ghost use Rattle.hdt_dict.specs.Dictionary.{role_strings};
 
     /// Reads a file, one check after another.
-    #[tactic(auto, unfolding(crate::specs::Laws::LayoutParts::parts_by_checks, crate::specs::LayoutPartsViews::parts_of_layout))]
+    #[tactic(auto, unfolding(crate::specs::Laws::LayoutParts::parts_by_checks, crate::specs::LayoutParts::parts_of_layout))]
     fn read_by_checks(alloc: Global, bytes: &'a [u8]) -> Result<Layout<'a>, OpenFault>
         ensures { ReadsUnlessOom open_fault_of parts_of_layout result (parts_by_checks bytes.now) }
     {
@@ -93,19 +94,12 @@ impl<'a> Layout<'a> {
     }
 
     /// Returns the number of triples, and of the strings of each section: shared, subjects, predicates, objects.
-    #[tactic(auto, unfolding(crate::specs::LayoutView::layout_view, hdt_dict::specs::Views::dictionary_of))]
+    #[tactic(auto, unfolding(crate::specs::LayoutView::layout_view, crate::specs::LayoutParts::parts_of_layout, hdt_dict::specs::Views::dictionary_of))]
     pub fn lens(&self) -> [u64; 5]
         ensures { result ≡ graph_counts (layout_view self.now) }
     {
         let [shared, subjects, predicates, objects] = self.dictionary.section_lens();
         [self.triples.len(), shared, subjects, predicates, objects]
-    }
-
-    /// Returns the header body, borrowed from the input: N-Triples about the file, which are not parsed.
-    pub fn header(&self) -> &'a [u8]
-        ensures { result.now ≡ (layout_view self.now).header }
-    {
-        self.head.body()
     }
 
     /// Returns the number of strings of a role. Their IDs are 1 to this number.
@@ -124,7 +118,6 @@ impl<'a> Layout<'a> {
 
     /// Returns the ID of a string in a role, from 1, or `None` if the role has no such string. It costs a binary search
     /// over the blocks of the role's sections and a scan of one block of each.
-    #[tactic(auto, unfolding(crate::specs::LayoutView::layout_view, crate::specs::LayoutPartsViews::parts_of_layout))]
     pub fn number_of(&self, role: Role, x: &[u8], steps: &mut Steps) -> Option<u64>
         ensures exact { (n : ℕ) → (result ≡ Some n) ↔ (string_at_id (role_strings (layout_view self.now).dictionary role) n ≡ Some x.now) }
         ensures cost { steps.new ≤ steps.old + role_search_cost (parts_dictionary (parts_of_layout self.now)) role }
@@ -133,9 +126,20 @@ impl<'a> Layout<'a> {
         self.dictionary.number_of(role, x, steps)
     }
 
+    /// Returns the IDs, from 1, of the strings of a role that begin with a prefix, which may be any bytes: all IDs if it
+    /// is empty. It takes at most twice the steps of [`Layout::number_of`], and allocates nothing.
+    pub fn ids_with_prefix(&self, role: Role, prefix: &[u8], steps: &mut Steps) -> PrefixRanges
+        // An ID is in one of the ranges exactly if its string begins with the prefix.
+        ensures exact { (n : ℕ) → IsInRanges result n ↔ SomeBeginsWith prefix.now (string_at_id (role_strings (layout_view self.now).dictionary role) n) }
+        ensures ascend { RangesAscend result (length (role_strings (layout_view self.now).dictionary role)) }
+        ensures cost { steps.new ≤ steps.old + 2 * role_search_cost (parts_dictionary (parts_of_layout self.now)) role }
+        ensures more { steps.old ≤ steps.new }
+    {
+        self.dictionary.ids_with_prefix(role, prefix, steps)
+    }
+
     /// Appends the string of a role with ID n, from 1, and returns true; or returns false if there is none, with `out`
     /// unchanged. If memory runs out, `out` is unchanged. It decodes the block of the string up to the string.
-    #[tactic(auto, unfolding(crate::specs::LayoutView::layout_view, crate::specs::LayoutPartsViews::parts_of_layout))]
     pub fn string_of(
         &self,
         role: Role,
@@ -192,9 +196,20 @@ impl<'a> Layout<'a> {
         self.triples.find(pattern)
     }
 
+    /// The matches of a pattern, or none without a pattern.
+    #[tactic(auto, unfolding(hdt_triples::specs::Remaining::remaining_matches))]
+    pub(crate) fn search_if_given(&self, pattern: Option<Pattern>) -> Matches<'a>
+        ensures items { remaining_matches result ≡ matches_if_given (layout_view self.now) pattern }
+        ensures fits { length (remaining_matches result) < 2 ^ 64 }
+    {
+        match pattern {
+            Some(pattern) => self.search(pattern),
+            None => Matches::Empty,
+        }
+    }
+
     /// Returns the number of matches of a pattern, or `most` if there are more. It scans the triples, in at most four
     /// steps each, until `most` are counted, unless nothing is given. It allocates nothing.
-    #[tactic(auto, unfolding(crate::specs::LayoutView::layout_view, crate::specs::LayoutPartsViews::parts_of_layout))]
     pub fn matching_up_to(&self, pattern: Pattern, most: u64, steps: &mut Steps) -> u64
         ensures is { result ≡ min most (length (matches pattern (layout_view self.now).triples)) }
         ensures cost { steps.new ≤ steps.old + scan_steps (parts_bitmap (parts_of_layout self.now)) pattern }
@@ -205,7 +220,6 @@ impl<'a> Layout<'a> {
 
     /// Returns the number of matches of a pattern. It scans all triples, in at most four steps each, unless nothing is
     /// given. It allocates nothing.
-    #[tactic(auto, unfolding(crate::specs::LayoutView::layout_view, crate::specs::LayoutPartsViews::parts_of_layout))]
     pub fn matching(&self, pattern: Pattern, steps: &mut Steps) -> u64
         ensures is { result ≡ length (matches pattern (layout_view self.now).triples) }
         ensures cost { steps.new ≤ steps.old + scan_steps (parts_bitmap (parts_of_layout self.now)) pattern }

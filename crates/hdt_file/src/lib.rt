@@ -35,7 +35,6 @@ mod layout;
 mod non_terms;
 mod opening;
 mod paging;
-mod prefix;
 mod rendering;
 mod search;
 mod skipping;

@@ -2,16 +2,16 @@
 ghost use Rattle.std.specs.Prelude.{◌≡◌, ◌<◌, ◌+◌, ◌^◌, ◌++◌, List, length, OnOk, IfOk, IfErr, IfSome, Err};
 ghost use Rattle.hdt_file.specs.Faults.{open_fault_of};
 ghost use Rattle.hdt_file.specs.File.{decode_graph};
-ghost use Rattle.hdt_file.specs.Inside.NonTermIteration.{AreNonTermsIn};
-ghost use Rattle.hdt_file.specs.LayoutParts.{parts_dictionary};
-ghost use Rattle.hdt_file.specs.LayoutPartsViews.{parts_of_layout};
+ghost use Rattle.hdt_dict.specs.Dictionary.{section_by_index};
+ghost use Rattle.hdt_dict.specs.Views.{dictionary_of};
+ghost use Rattle.hdt_file.specs.LayoutParts.{parts_dictionary, parts_of_layout};
 ghost use Rattle.hdt_file.specs.declared.non_terms.NonTerm.{NonTerm as NonTermOf};
-ghost use Rattle.hdt_file.specs.NonTerms.{AreNonTerms, IsTermVerdict};
+ghost use Rattle.hdt_file.specs.NonTerms.{AreNonTerms, AreNonTermsOf, IsTermVerdict};
 
 use crate::fault::OpenFault;
 use crate::layout::Layout;
 use crate::term_flags::is_term;
-use hdt_dict::{Role, SectionIter};
+use hdt_dict::{Dictionary, Role};
 use std::alloc::{AllocError, Global};
 
 /// A string that is not a term which its role allows.
@@ -35,18 +35,21 @@ pub struct TermVerdict {
     pub non_terms: Vec<NonTerm>,
 }
 
-/// Appends the strings of a section that are not terms which the role allows. Their IDs follow `before` other ones.
+/// Appends the strings of a section, by its index, that are not terms which the role allows. Their IDs follow `before`
+/// other ones.
 fn append_non_terms(
     alloc: Global,
-    strings: SectionIter<'_>,
+    dictionary: &Dictionary<'_>,
+    section: usize,
     role: Role,
     before: u64,
     found: &mut Vec<NonTerm>,
 ) -> Result<(), AllocError>
-    requires { before + length strings.ahead < 2 ^ 64 }
-    ensures { OnOk result ((more : List NonTermOf) × AreNonTermsIn role before strings.entry.ahead more × (found.new.items ≡ found.old.items ++ more)) }
+    requires index { section < 4 }
+    requires fits { before + length (section_by_index (dictionary_of dictionary.now) section).strings < 2 ^ 64 }
+    ensures { OnOk result ((more : List NonTermOf) × AreNonTermsOf role before (section_by_index (dictionary_of dictionary.now) section) more × (found.new.items ≡ found.old.items ++ more)) }
 {
-    let mut strings = strings;
+    let mut strings = dictionary.located_strings(alloc, section);
     let mut text = Vec::new(alloc);
     let mut number = before;
     'strings: while let Some(place) = strings.next()? {
@@ -70,41 +73,11 @@ fn non_terms(alloc: Global, layout: &Layout<'_>) -> Result<Vec<NonTerm>, AllocEr
     let [_, shared, _, _, _] = layout.lens();
     let dictionary = &layout.dictionary;
     let mut found = Vec::new(alloc);
-    append_non_terms(
-        alloc,
-        dictionary.located_strings(alloc, 0),
-        Role::Subject,
-        0,
-        &mut found,
-    )?;
-    append_non_terms(
-        alloc,
-        dictionary.located_strings(alloc, 1),
-        Role::Subject,
-        shared,
-        &mut found,
-    )?;
-    append_non_terms(
-        alloc,
-        dictionary.located_strings(alloc, 2),
-        Role::Predicate,
-        0,
-        &mut found,
-    )?;
-    append_non_terms(
-        alloc,
-        dictionary.located_strings(alloc, 0),
-        Role::Object,
-        0,
-        &mut found,
-    )?;
-    append_non_terms(
-        alloc,
-        dictionary.located_strings(alloc, 3),
-        Role::Object,
-        shared,
-        &mut found,
-    )?;
+    append_non_terms(alloc, dictionary, 0, Role::Subject, 0, &mut found)?;
+    append_non_terms(alloc, dictionary, 1, Role::Subject, shared, &mut found)?;
+    append_non_terms(alloc, dictionary, 2, Role::Predicate, 0, &mut found)?;
+    append_non_terms(alloc, dictionary, 0, Role::Object, 0, &mut found)?;
+    append_non_terms(alloc, dictionary, 3, Role::Object, shared, &mut found)?;
     Ok(found)
 }
 

@@ -1,13 +1,13 @@
 //! Opening and verifying a file.
-ghost use Rattle.std.specs.Prelude.{◌≡◌, ◌⊎◌, ◌<◌, ◌^◌, ℕ, List, length, Ok, IfOk};
+ghost use Rattle.std.specs.Prelude.{◌≡◌, ◌⊎◌, ◌<◌, ◌^◌, ℕ, List, length, Ok, IfOk, IfErr};
 ghost use Rattle.hdt_wire.specs.Exact.{Exactly, UniqueFault, UniqueValue, IsViewOf, viewed};
 ghost use Rattle.hdt_wire.specs.Checks.{ReadsUnlessOom, IsBytes};
 ghost use Rattle.hdt_file.specs.Faults.{open_fault_of};
+ghost use Rattle.hdt_file.specs.declared.fault.OpenFault.TheVariants as opens;
 ghost use Rattle.hdt_file.specs.File.{FileParts, IsFile, GraphParts, IsLayout, decode_graph};
 ghost use Rattle.hdt_file.specs.Graph.{IsGraph};
 ghost use Rattle.hdt_file.specs.LayoutView.{layout_view};
-ghost use Rattle.hdt_file.specs.LayoutParts.{graph_of_parts, parts_of_file, decode_parts};
-ghost use Rattle.hdt_file.specs.LayoutPartsViews.{parts_of_graph, parts_of_layout};
+ghost use Rattle.hdt_file.specs.LayoutParts.{graph_of_parts, parts_of_file, decode_parts, parts_of_graph, parts_of_layout};
 ghost use Rattle.hdt_file.specs.GraphView.{graph_view, graph_counts};
 
 use crate::fault::OpenFault;
@@ -16,10 +16,10 @@ use crate::layout::Layout;
 use std::alloc::Global;
 
 /// The graph of a layout: builds the indexes of its triples.
-#[tactic(auto, unfolding(crate::specs::GraphView::graph_view, crate::specs::LayoutPartsViews::parts_of_graph, crate::specs::LayoutView::layout_view, crate::specs::LayoutPartsViews::parts_of_layout))]
+#[tactic(auto, unfolding(crate::specs::LayoutParts::parts_of_graph, crate::specs::LayoutParts::parts_of_layout))]
 pub(crate) fn index_layout(alloc: Global, layout: Layout<'_>) -> Result<Graph<'_>, OpenFault>
-    ensures viewed { ReadsUnlessOom open_fault_of graph_view result (Ok (layout_view layout.entry)) }
-    ensures parts { ReadsUnlessOom open_fault_of parts_of_graph result (Ok (parts_of_layout layout.entry)) }
+    ensures graph { IfOk result (λ graph. parts_of_graph graph ≡ parts_of_layout layout.entry) }
+    ensures err { IfErr result (λ e. e ≡ opens.OutOfMemory) }
 {
     let Ok(indexed) = layout.triples.with_directories(alloc) else {
         return Err(OpenFault::OutOfMemory);
@@ -34,15 +34,6 @@ pub(crate) fn index_layout(alloc: Global, layout: Layout<'_>) -> Result<Graph<'_
     })
 }
 
-/// Opens a file, one check after another.
-fn open_by_checks<'a>(alloc: Global, bytes: &'a [u8]) -> Result<Graph<'a>, OpenFault>
-    ensures viewed { ReadsUnlessOom open_fault_of graph_view result (decode_graph bytes.now) }
-    ensures parts { ReadsUnlessOom open_fault_of parts_of_graph result (decode_parts bytes.now) }
-{
-    let layout = Layout::read(alloc, bytes)?;
-    index_layout(alloc, layout)
-}
-
 /// Opens a file: returns its graph, or its first error.
 ///
 /// It reads the bytes once, then builds the indexes of the triples. Linear time in the bytes. The graph borrows the
@@ -52,6 +43,7 @@ fn open_by_checks<'a>(alloc: Global, bytes: &'a [u8]) -> Result<Graph<'a>, OpenF
 /// let graph = open(alloc, bytes)?;
 /// let subjects = graph.count(Role::Subject);
 /// ```
+#[tactic(auto, unfolding(crate::specs::GraphView::graph_view, crate::specs::LayoutView::layout_view))]
 pub fn open<'a>(alloc: Global, bytes: &'a [u8]) -> Result<Graph<'a>, OpenFault>
     // The bytes encode the graph that is returned.
     ensures found { IfOk result (λ graph. IsLayout bytes.now (graph_view graph)) }
@@ -62,15 +54,8 @@ pub fn open<'a>(alloc: Global, bytes: &'a [u8]) -> Result<Graph<'a>, OpenFault>
     // Its parts are those that the bytes encode; the costs of its calls depend on them.
     ensures parts { ReadsUnlessOom open_fault_of parts_of_graph result (decode_parts bytes.now) }
 {
-    open_by_checks(alloc, bytes)
-}
-
-/// Verifies a file, one check after another.
-fn verify_by_checks(alloc: Global, bytes: &[u8]) -> Result<[u64; 5], OpenFault>
-    ensures { ReadsUnlessOom open_fault_of (λ lens. lens) result (viewed graph_counts (decode_graph bytes.now)) }
-{
     let layout = Layout::read(alloc, bytes)?;
-    Ok(layout.lens())
+    Ok(index_layout(alloc, layout)?)
 }
 
 /// Verifies a file: returns its number of triples, and of the strings of each section (shared, subjects, predicates,
@@ -83,11 +68,13 @@ pub fn verify(alloc: Global, bytes: &[u8]) -> Result<[u64; 5], OpenFault>
     // Otherwise it is the first error.
     ensures exact { ReadsUnlessOom open_fault_of (λ lens. lens) result (viewed graph_counts (decode_graph bytes.now)) }
 {
-    verify_by_checks(alloc, bytes)
+    let layout = Layout::read(alloc, bytes)?;
+    Ok(layout.lens())
 }
 
 /// Bytes encode at most one graph. Either they encode one, or they have a first error. The parts of a file are those of
 /// its graph.
+#[tactic(auto, using(crate::proofs::FileLaws::layout_exact, crate::proofs::FileLaws::layout_unique, crate::proofs::FileLaws::file_unique, crate::proofs::FileLaws::layout_or_fault, crate::proofs::FileLaws::file_parts, crate::specs::Laws::LayoutParts::graph_is))]
 pub fn one_layout()
     ensures exact { (bytes : List ℕ) → IsBytes bytes → length bytes < 2 ^ 64 → Exactly (decode_graph bytes) (IsLayout bytes) }
     ensures one { (bytes : List ℕ) (g h : GraphParts) → IsBytes bytes → length bytes < 2 ^ 64 → IsLayout bytes g → IsLayout bytes h → g ≡ h }

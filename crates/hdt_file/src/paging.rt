@@ -1,10 +1,9 @@
 //! Pages of matches.
-ghost use Rattle.std.specs.Prelude.{◌≡◌, ◌≤◌, ◌<◌, ◌+◌, ◌*◌, ◌^◌, ◌++◌, [], ℕ, None, IfOk, IfSome, OnErr, length, take, drop, slice_get};
+ghost use Rattle.std.specs.Prelude.{◌≡◌, ◌≤◌, ◌<◌, ◌+◌, ◌*◌, ◌^◌, ◌++◌, [], None, IfOk, IfSome, OnErr, length, take, drop};
 ghost use Rattle.hdt_triples.specs.Bounds.{most_steps, shorter_list_steps, start_cost};
 ghost use Rattle.hdt_triples.specs.Remaining.{remaining_matches, step_limit, shorter_list_step_limit, steps_taken};
 ghost use Rattle.hdt_triples.specs.Patterns.{matches};
-ghost use Rattle.hdt_file.specs.LayoutParts.{parts_bitmap};
-ghost use Rattle.hdt_file.specs.LayoutPartsViews.{parts_of_graph};
+ghost use Rattle.hdt_file.specs.LayoutParts.{parts_bitmap, parts_of_graph};
 ghost use Rattle.std.specs.Prelude.{IfErr, OnOk};
 ghost use Rattle.hdt_file.specs.CachedTerms.{CachesTerms};
 ghost use Rattle.hdt_file.specs.Paging.{IsNextMatch};
@@ -13,41 +12,18 @@ ghost use Rattle.hdt_file.specs.GraphView.{graph_view};
 
 use crate::fault::DumpFault;
 use crate::graph::Graph;
-use crate::rendering::append_triples;
+use crate::rendering::{append_first, append_triples};
 use crate::term_writing::TermWriter;
 use hdt_seq::Steps;
 use hdt_triples::{Matches, Pattern};
 use hdt_wire::truncate_on_error;
 use std::alloc::{AllocError, Global};
 
-/// Appends the first `most` matches, or all of them, and returns the next one. If memory runs out, `out` may have some
-/// of them.
-fn append_first(
-    found: Matches<'_>,
-    most: u64,
-    out: &mut Vec<(u64, u64, u64)>,
-) -> Result<Option<(u64, u64, u64)>, AllocError>
-    ensures ok { IfOk result (λ next. out.new.items ≡ out.old.items ++ take most (remaining_matches found.entry)) }
-    ensures next { IfOk result (λ next. next ≡ slice_get (drop most (remaining_matches found.entry)) 0) }
-    ensures err { OnErr result (take (length out.old.items) out.new.items ≡ out.old.items) }
-{
-    let mut matches = found;
-    let mut remaining = most;
-    'triples: while remaining > 0 {
-        let Some(triple) = matches.next() else {
-            return Ok(None);
-        };
-        out.push(triple)?;
-        remaining -= 1;
-    }
-    Ok(matches.next())
-}
-
 impl<'a> Graph<'a> {
     /// Returns the matches of a pattern from triple `from` on, from 0, in the order of the file: those of
     /// [`Graph::search`] without the ones before it. From the number of triples on there are none. It finds the first
     /// one by binary search and allocates nothing.
-    #[tactic(auto, unfolding(crate::specs::GraphView::graph_view, crate::specs::LayoutPartsViews::parts_of_graph))]
+    #[tactic(auto, unfolding(crate::specs::GraphView::graph_view, crate::specs::LayoutParts::parts_of_graph))]
     pub fn search_from(&self, pattern: Pattern, from: u64, steps: &mut Steps) -> Matches<'_>
         ensures items { remaining_matches result ≡ matches pattern (drop from (graph_view self.now).triples) }
         ensures fits { length (remaining_matches result) < 2 ^ 64 }
@@ -77,7 +53,7 @@ impl<'a> Graph<'a> {
     ///     from = graph.page(pattern, at, 100, &mut page, &mut steps)?;
     /// }
     /// ```
-    #[tactic(auto, unfolding(crate::specs::GraphView::graph_view, crate::specs::LayoutPartsViews::parts_of_graph))]
+    #[tactic(auto, unfolding(crate::specs::GraphView::graph_view, crate::specs::LayoutParts::parts_of_graph))]
     pub fn page(
         &self,
         pattern: Pattern,
@@ -94,15 +70,12 @@ impl<'a> Graph<'a> {
         ensures cost { steps.new ≤ steps.old + 2 * start_cost (parts_bitmap (parts_of_graph self.now)) }
         ensures more { steps.old ≤ steps.new }
     {
-        let start = out.len();
-        match append_first(self.search_from(pattern, from, steps), most, out) {
-            Ok(Some(triple)) => Ok(self.triples.indexed().index_of(triple, steps)),
-            Ok(None) => Ok(None),
-            Err(error) => {
-                out.truncate(start);
-                Err(error)
-            }
-        }
+        let mut matches = self.search_from(pattern, from, steps);
+        append_first(&mut matches, most, out)?;
+        let Some(triple) = matches.next() else {
+            return Ok(None);
+        };
+        Ok(self.triples.indexed().index_of(triple, steps))
     }
 
     /// Appends the N-Triples text of [`Graph::page`] to `out`: one line for each of the first `most` matches of a

@@ -1,9 +1,7 @@
 //! N-Triples text of matches: string by string for a few, by tables of rendered terms for many.
-ghost use Rattle.std.specs.Prelude.{◌≡◌, ◌<◌, ◌+◌, ◌^◌, Option, OnOk, OnErr, IfOk, IfErr, Some, length};
+ghost use Rattle.std.specs.Prelude.{◌≡◌, ◌<◌, ◌^◌, ◌++◌, OnOk, OnErr, IfOk, IfErr, length, take, drop};
 ghost use Rattle.hdt_wire.specs.Control.{IsPrefixOf};
-ghost use Rattle.hdt_wire.specs.declared.role.Role.{Role};
 ghost use Rattle.hdt_triples.specs.Remaining.{remaining_matches};
-ghost use Rattle.hdt_triples.specs.Patterns.{matches};
 ghost use Rattle.hdt_file.specs.Denoted.{denoted};
 ghost use Rattle.hdt_file.specs.CachedTerms.{CachesTerms};
 ghost use Rattle.hdt_file.specs.LayoutView.{layout_view};
@@ -15,7 +13,7 @@ use crate::layout::Layout;
 use crate::term_tables::{append_lines, build_tables, total_line_len};
 use crate::term_writing::{TermWriter, append_line};
 use hdt_dict::{Dictionary, Role};
-use hdt_triples::{Matches, Pattern};
+use hdt_triples::Matches;
 use hdt_wire::truncate_on_error;
 use std::alloc::{AllocError, Global};
 use std::io::Write;
@@ -23,26 +21,29 @@ use std::io::Write;
 /// The initial capacity of a list of matches.
 const LIST_CAPACITY: usize = 16;
 
-/// The first `most` matches, or all of them.
-fn collect_matches(
-    alloc: Global,
-    found: Matches<'_>,
-    most: Option<u64>,
-) -> Result<Vec<(u64, u64, u64)>, AllocError>
-    requires fits { length (remaining_matches found) < 2 ^ 64 }
-    ensures { IfOk result (λ triples. triples.items ≡ limited most (remaining_matches found.entry)) }
+/// Appends the next `most` matches to `out`, or all that are left. If memory runs out, `out` is unchanged.
+pub(crate) fn append_first(
+    matches: &mut Matches<'_>,
+    most: u64,
+    out: &mut Vec<(u64, u64, u64)>,
+) -> Result<(), AllocError>
+    ensures ok { OnOk result (out.new.items ≡ out.old.items ++ take most (remaining_matches matches.old)) }
+    ensures left { OnOk result (remaining_matches matches.new ≡ drop most (remaining_matches matches.old)) }
+    ensures err { OnErr result (out.new.items ≡ out.old.items) }
 {
-    let mut matches = found;
-    let mut remaining = most.unwrap_or(u64::MAX);
-    let mut triples = Vec::with_capacity(alloc, LIST_CAPACITY)?;
+    let start = out.len();
+    let mut remaining = most;
     'triples: while remaining > 0 {
         let Some(triple) = matches.next() else {
-            return Ok(triples);
+            return Ok(());
         };
-        triples.push(triple)?;
+        let Ok(()) = out.push(triple) else {
+            out.truncate(start);
+            return Err(AllocError);
+        };
         remaining -= 1;
     }
-    Ok(triples)
+    Ok(())
 }
 
 /// If more bytes of blocks than this would be decoded for each string of the dictionary, decoding all strings once is
@@ -245,7 +246,9 @@ pub(crate) fn append_matches(
     ensures err { IfErr result (ReportsFirstNonTerm (layout_view layout.now) (limited most (remaining_matches found.entry))) }
     ensures left { OnErr result (out.new.items ≡ out.old.items) }
 {
-    let triples = collect_matches(alloc, found, most)?;
+    let mut matches = found;
+    let mut triples = Vec::with_capacity(alloc, LIST_CAPACITY)?;
+    append_first(&mut matches, most.unwrap_or(u64::MAX), &mut triples)?;
     let start = out.len();
     let appended = append_triples(alloc, layout, &triples, term_writer, out);
     truncate_on_error(appended, start, out)
@@ -272,22 +275,4 @@ pub(crate) fn matches_text(
         &mut text,
     )?;
     Ok(text)
-}
-
-/// The text of the matches of a pattern with a subject. It finds them by rank/select indexes, or by a scan if there is
-/// no memory for the indexes.
-#[tactic(auto, unfolding(crate::specs::LayoutView::layout_view))]
-pub(crate) fn indexed_text(
-    alloc: Global,
-    layout: &Layout<'_>,
-    pattern: Pattern,
-    most: Option<u64>,
-) -> Result<Vec<u8>, DumpFault>
-    ensures ok { IfOk result (λ text. IsTextOf (denoted (layout_view layout.now) (limited most (matches pattern (layout_view layout.now).triples))) text.items) }
-    ensures err { IfErr result (ReportsFirstNonTerm (layout_view layout.now) (limited most (matches pattern (layout_view layout.now).triples))) }
-{
-    match layout.triples.with_directories(alloc) {
-        Ok(indexed) => matches_text(alloc, layout, indexed.find(pattern), most),
-        Err(triples) => matches_text(alloc, layout, triples.find(pattern), most),
-    }
 }

@@ -4,17 +4,17 @@ ghost use Rattle.hdt_triples.specs.Bounds.{counting_steps, most_steps, shorter_l
 ghost use Rattle.hdt_triples.specs.Remaining.{remaining_matches, step_limit, shorter_list_step_limit};
 ghost use Rattle.hdt_triples.specs.Patterns.{matches};
 ghost use Rattle.hdt_file.specs.Denoted.{denoted};
-ghost use Rattle.hdt_file.specs.LayoutParts.{parts_bitmap, parts_dictionary};
-ghost use Rattle.hdt_file.specs.LayoutPartsViews.{parts_of_graph};
+ghost use Rattle.hdt_file.specs.LayoutParts.{parts_bitmap, parts_dictionary, parts_of_graph};
 ghost use Rattle.hdt_file.specs.Search.{IsPattern, pattern_steps};
 ghost use Rattle.hdt_file.specs.StringTriples.{has_given_strings};
+ghost use Rattle.hdt_file.specs.TextWriting.{matches_if_given};
 ghost use Rattle.hdt_file.specs.GraphView.{graph_view};
 
 use crate::graph::Graph;
 use hdt_seq::Steps;
 use hdt_triples::{Matches, Pattern};
 
-#[tactic(auto, unfolding(crate::specs::GraphView::graph_view, crate::specs::LayoutPartsViews::parts_of_graph))]
+#[tactic(auto, unfolding(crate::specs::GraphView::graph_view, crate::specs::LayoutParts::parts_of_graph))]
 impl<'a> Graph<'a> {
     /// Returns the matches of a pattern: exactly the triples with each given ID, once each, in the order of the file.
     /// The clauses `few` and `short` bound its steps. It allocates nothing.
@@ -27,6 +27,18 @@ impl<'a> Graph<'a> {
         ensures short { shorter_list_step_limit result ≤ shorter_list_steps (parts_bitmap (parts_of_graph self.now)) pattern }
     {
         self.triples.find(pattern)
+    }
+
+    /// The matches of a pattern, or none without a pattern.
+    #[tactic(auto, unfolding(hdt_triples::specs::Remaining::remaining_matches))]
+    pub(crate) fn search_if_given(&self, pattern: Option<Pattern>) -> Matches<'_>
+        ensures items { remaining_matches result ≡ matches_if_given (graph_view self.now) pattern }
+        ensures fits { length (remaining_matches result) < 2 ^ 64 }
+    {
+        match pattern {
+            Some(pattern) => self.search(pattern),
+            None => Matches::Empty,
+        }
     }
 
     /// Returns the number of matches of a pattern, or `most` if there are more: with 1, whether there is a match. Its
@@ -68,7 +80,7 @@ impl<'a> Graph<'a> {
 
     /// Returns the triples that have each given string in its role, as [`Graph::search`] does; there are none if a
     /// string is not one of its role. It allocates nothing.
-    #[tactic(auto, unfolding(crate::specs::GraphView::graph_view, crate::specs::LayoutPartsViews::parts_of_graph, hdt_triples::specs::Remaining::remaining_matches, hdt_triples::specs::Remaining::step_limit, hdt_triples::specs::Remaining::shorter_list_step_limit))]
+    #[tactic(auto, unfolding(crate::specs::GraphView::graph_view, crate::specs::LayoutParts::parts_of_graph, hdt_triples::specs::Remaining::remaining_matches, hdt_triples::specs::Remaining::step_limit, hdt_triples::specs::Remaining::shorter_list_step_limit))]
     pub fn find(&self, given: [Option<&[u8]>; 3], steps: &mut Steps) -> Matches<'_>
         // As triples of strings: exactly those of the denoted graph that have each given string in its role, in order.
         ensures answers { denoted (graph_view self.now) (remaining_matches result) ≡ filter (has_given_strings given.entry) (denoted (graph_view self.now) (graph_view self.now).triples) }

@@ -3,8 +3,7 @@ ghost use Rattle.std.specs.Prelude.{◌≡◌, ◌↔◌, ◌≤◌, ◌<◌, �
 ghost use Rattle.hdt_triples.specs.Bounds.{most_steps, shorter_list_steps, start_cost};
 ghost use Rattle.hdt_triples.specs.Remaining.{remaining_matches, step_limit, shorter_list_step_limit, steps_taken};
 ghost use Rattle.hdt_triples.specs.Patterns.{matches};
-ghost use Rattle.hdt_file.specs.LayoutParts.{parts_bitmap};
-ghost use Rattle.hdt_file.specs.LayoutPartsViews.{parts_of_graph};
+ghost use Rattle.hdt_file.specs.LayoutParts.{parts_bitmap, parts_of_graph};
 ghost use Rattle.hdt_file.specs.Paging.{HasPositions, IsNextMatch};
 ghost use Rattle.hdt_file.specs.Inside.Consecutive.{HasConsecutiveMatches};
 ghost use Rattle.hdt_file.specs.GraphView.{graph_view};
@@ -41,7 +40,7 @@ fn skip_matches(found: Matches<'_>, skip: u64) -> Matches<'_>
     matches
 }
 
-#[tactic(auto, unfolding(crate::specs::GraphView::graph_view, crate::specs::LayoutPartsViews::parts_of_graph))]
+#[tactic(auto, unfolding(crate::specs::GraphView::graph_view, crate::specs::LayoutParts::parts_of_graph))]
 impl<'a> Graph<'a> {
     /// The index of the first match, from 0.
     fn first_match(&self, pattern: Pattern, steps: &mut Steps) -> Option<u64>

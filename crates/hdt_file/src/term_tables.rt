@@ -1,9 +1,9 @@
 //! Writing many lines of N-Triples from tables that have each string once, as it is written in a line.
-ghost use Rattle.std.specs.Prelude.{◌≡◌, ◌++◌, ℕ, List, map, IfOk, IfErr, OnOk};
+ghost use Rattle.std.specs.Prelude.{◌≡◌, ℕ, List, map, IfOk, IfErr, OnOk};
 ghost use Rattle.hdt_file.specs.File.{GraphParts};
 ghost use Rattle.hdt_wire.specs.Control.{IsPrefixOf};
 ghost use Rattle.hdt_triples.specs.Uses.{role_component};
-ghost use Rattle.hdt_file.specs.Inside.RenderedTerms.{AreMarked, AreRendered, RendersRole, AreTables, AppendsRenderedIfMarked, AppendsRendered, RendersTriple, IsRendered, is_marked, rendered_string};
+ghost use Rattle.hdt_file.specs.Inside.RenderedTerms.{AreMarked, AreRendered, RendersRole, AreTables, AppendsRenderedIfMarked, RendersTriple, IsRendered, is_marked, rendered_string};
 ghost use Rattle.hdt_file.specs.TextWriting.{AppendsLine, AppendsTerm, AppendsText, ReportsFirstNonTerm, ReportsNonTermOfTriple, ReportsNonTerm};
 ghost use Rattle.hdt_file.specs.LayoutView.{layout_view};
 ghost use Rattle.hdt_dict.specs.Dictionary.{role_strings};
@@ -22,17 +22,6 @@ pub(crate) struct TermTables {
     subjects: Arena,
     predicates: Arena,
     objects: Arena,
-}
-
-/// Appends a string of a role as it is written in a line, or nothing if it is not a term that the role allows.
-fn put_rendered(role: Role, string: &[u8], out: &mut Vec<u8>) -> Result<(), AllocError>
-    ensures { OnOk result (AppendsRendered role string.now out.old.items out.new.items) }
-{
-    match render_term(role, string, out) {
-        Ok(()) => Ok(()),
-        Err(StringFault::NotATerm) => Ok(()),
-        Err(StringFault::OutOfMemory) => Err(AllocError),
-    }
 }
 
 /// The ID of a triple in a role.
@@ -75,7 +64,7 @@ fn is_marked(marks: &[bool], number: u64) -> bool
     }
 }
 
-/// Appends a string of a role as it is written in a line, if its ID is marked.
+/// Appends a string of a role as it is written in a line, if its ID is marked and it is a term that the role allows.
 fn put_rendered_if_marked(
     marked: bool,
     role: Role,
@@ -84,10 +73,13 @@ fn put_rendered_if_marked(
 ) -> Result<(), AllocError>
     ensures { OnOk result (AppendsRenderedIfMarked marked role string.now out.old.items out.new.items) }
 {
-    if marked {
-        put_rendered(role, string, out)?;
+    if !marked {
+        return Ok(());
     }
-    Ok(())
+    match render_term(role, string, out) {
+        Ok(()) | Err(StringFault::NotATerm) => Ok(()),
+        Err(StringFault::OutOfMemory) => Err(AllocError),
+    }
 }
 
 /// The table of the strings of a role whose IDs are marked. Each string of the role is decoded once.

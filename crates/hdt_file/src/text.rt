@@ -12,7 +12,7 @@ ghost use Rattle.hdt_file.specs.GraphView.{graph_view};
 use crate::fault::DumpFault;
 use crate::graph::Graph;
 use crate::layout::Layout;
-use crate::rendering::{append_matches, indexed_text, matches_text};
+use crate::rendering::{append_matches, matches_text};
 use crate::term_writing::TermWriter;
 use hdt_dict::Role;
 use hdt_triples::Pattern;
@@ -39,10 +39,7 @@ pub fn graph_text(
     ensures ok { IfOk result (λ text. IsTextOf (denoted (graph_view graph.now) (matches_if_given (graph_view graph.now) pattern)) text.items) }
     ensures err { IfErr result (ReportsFirstNonTerm (graph_view graph.now) (matches_if_given (graph_view graph.now) pattern)) }
 {
-    match pattern {
-        Some(pattern) => matches_text(alloc, &graph.layout(), graph.search(pattern), None),
-        None => Ok(Vec::new(alloc)),
-    }
+    matches_text(alloc, &graph.layout(), graph.search_if_given(pattern), None)
 }
 
 /// Appends the text of the first `most` matches, or of all of them, as [`graph_text`] does, with a writer that is new or
@@ -63,21 +60,13 @@ pub fn append_graph_text(
     ensures err { IfErr result (ReportsFirstNonTerm (graph_view graph.now) (limited most (matches_if_given (graph_view graph.now) pattern))) }
     ensures left { OnErr result (out.new.items ≡ out.old.items) }
 {
-    let Some(pattern) = pattern else {
-        return Ok(());
-    };
-    append_matches(
-        alloc,
-        &graph.layout(),
-        graph.search(pattern),
-        most,
-        term_writer,
-        out,
-    )
+    let found = graph.search_if_given(pattern);
+    append_matches(alloc, &graph.layout(), found, most, term_writer, out)
 }
 
 /// Returns the text of the first `most` matches of a layout, or of all of them, as [`graph_text`] does. It scans the
-/// triples.
+/// triples; with a subject given it makes rank/select indexes for its search, unless there is no memory for them.
+#[tactic(auto, unfolding(crate::specs::LayoutView::layout_view, crate::specs::LayoutParts::parts_of_layout))]
 pub fn layout_text(
     alloc: Global,
     layout: &Layout<'_>,
@@ -87,11 +76,15 @@ pub fn layout_text(
     ensures ok { IfOk result (λ text. IsTextOf (denoted (layout_view layout.now) (limited most (matches_if_given (layout_view layout.now) pattern))) text.items) }
     ensures err { IfErr result (ReportsFirstNonTerm (layout_view layout.now) (limited most (matches_if_given (layout_view layout.now) pattern))) }
 {
-    match pattern {
-        Some(pattern) if pattern.s.is_some() => indexed_text(alloc, layout, pattern, most),
-        Some(pattern) => matches_text(alloc, layout, layout.search(pattern), most),
-        None => Ok(Vec::new(alloc)),
+    let Some(pattern) = pattern else {
+        return Ok(Vec::new(alloc));
+    };
+    if pattern.s.is_some() {
+        if let Ok(indexed) = layout.triples.with_directories(alloc) {
+            return matches_text(alloc, layout, indexed.find(pattern), most);
+        }
     }
+    matches_text(alloc, layout, layout.search(pattern), most)
 }
 
 /// Writes the text of [`graph_text`], after making it in memory. Returns its length in bytes.

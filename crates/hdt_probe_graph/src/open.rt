@@ -133,12 +133,11 @@ fn reply_graph(args: &mut Args<'_>, reply: &mut Reply) {
     }
 }
 
-/// The lengths, the header body, and the counts of the roles.
+/// The lengths, and the counts of the roles.
 fn reply_layout(args: &mut Args<'_>, reply: &mut Reply) {
     if let Some(layout) = layout_of(args, reply) {
         let copy = layout;
         reply_lens(&layout.lens(), reply);
-        reply.bytes(copy.header());
         reply.number(layout.count(Role::Subject));
         reply.number(layout.count(Role::Predicate));
         reply.number(copy.count(Role::Object))

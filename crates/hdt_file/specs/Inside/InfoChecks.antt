@@ -11,7 +11,7 @@ use Rattle.hdt_seq.specs.Numbers.{numbers_at}
 use Rattle.hdt_front.specs.Section.{section_at}
 use Rattle.hdt_file.specs.Head.{decode_head}
 use Rattle.hdt_file.specs.File.{decode_graph}
-use Rattle.hdt_file.specs.StringLengths.{total_len}
+use Rattle.hdt_file.specs.Info.{total_len}
 use Rattle.hdt_file.specs.declared.info.SectionInfo.{SectionInfo}
 use Rattle.hdt_file.specs.declared.info.DictionaryInfo.{DictionaryInfo}
 use Rattle.hdt_file.specs.declared.info.EntryBits.{EntryBits}

@@ -52,13 +52,7 @@ pub record RendersTriple (g : GraphParts) (tables : TermTables) (t : Triple) : T
   pub predicate : IsRendered Predicate (string_of g Predicate t.1) (rendered_string tables.predicates t.1)
   pub object : IsRendered Object (string_of g Object t.2) (rendered_string tables.objects t.2)
 
--- `new` is `old` with the entry of the string appended
-pub record AppendsRendered (role : Role) (string old new : List ℕ) : Type 0 where
-  pub rendered : List ℕ
-  pub is : IsRendered role string rendered
-  pub grown : new ≡ old ++ rendered
-
--- the same, but if the string is not marked anything may be appended
+-- `new` is `old` with the entry of the string appended; if the string is not marked, anything may be appended
 pub record AppendsRenderedIfMarked (marked : Bool) (role : Role) (string old new : List ℕ) : Type 0 where
   pub rendered : List ℕ
   pub is : marked ≡ true → IsRendered role string rendered

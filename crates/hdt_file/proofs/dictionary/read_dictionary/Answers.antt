@@ -2,7 +2,7 @@ use Rattle.std.proofs.Common.{arith}
 use Rattle.hdt_wire.specs.Laws.ExactReading.{reads_unless_oom_found, reads_unless_oom_only}
 use Rattle.hdt_file.specs.Faults.{open_fault_of}
 use Rattle.hdt_file.specs.Dictionary.{IsHeadAndDictionary, head_and_dictionary_of, decode_head_and_dictionary}
-use Rattle.hdt_file.proofs.DictionaryLaws.{front_exact}
+use Rattle.hdt_file.proofs.HeadLaws.{front_exact}
 use Rattle.hdt_file.proofs.dictionary.read_dictionary.Goals as goal
 
 pub returns-clause-found : goal.returns-clause-found

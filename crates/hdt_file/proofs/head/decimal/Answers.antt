@@ -1,27 +1,20 @@
-use Rattle.std.proofs.Common.{sym, ◌∙◌}
-use Rattle.hdt_file.proofs.Digits.{empty, stops, ends}
-use Rattle.std.proofs.lemmas.Int.Digits.{digits_more, digits_value_more}
-use Rattle.std.proofs.lemmas.Bool.{eqb-true, eqb-false}
+use Rattle.std.proofs.Common.{◌∙◌, List, ℕ, arith, subst, sym}
+use Rattle.std.specs.Str.Parse.{ParsesUnsigned}
+use Rattle.std.proofs.lemmas.Bool.{eqb-false, eqb-true}
+use Rattle.hdt_file.proofs.DecimalLaws.{no_number, not_utf8, parsed, with_plus}
 use Rattle.hdt_file.proofs.head.decimal.Goals as goal
 
-pub returns-in_err-value : goal.returns-in_err-value
-returns-in_err-value c =
-    c.from_residual.ensures ∙ stops c.args.text.now c.digits.byte-index c.digits.value c.digits-test.true c.digits.invariant.value c.in_err-value.ensures
-
-pub digits-preserved : goal.digits-preserved
-digits-preserved c =
-    let h = c.in_ok-value.ensures in
-    let text = c.args.text.now in
-    record {
-      digits = digits_more 10 text c.digits.byte-index c.digits-test.true c.digits.invariant.digits h.0.0;
-      value = h.1 ∙ rw c.digits.invariant.value (sym (digits_value_more 10 text c.digits.byte-index c.digits-test.true));
-      small = rw h.1 h.0.1;
-    }
-
 pub returns-then-is_empty : goal.returns-then-is_empty
-returns-then-is_empty c = empty c.args.text.now (eqb-true _ _ (sym c.is_empty.ensures ∙ c.if-is_empty.true))
+returns-then-is_empty c = no_number c.args.text.now (λ v small h. omega (arith, h.digits.0, eqb-true _ _ (sym c.is_empty.ensures ∙ c.if-is_empty.true)))
+
+pub returns-then-text-eq43 : goal.returns-then-text-eq43
+returns-then-text-eq43 c = with_plus c.args.text.now _ c.if-text-eq43.true (omega (arith, eqb-false _ _ (sym c.is_empty.ensures ∙ c.if-is_empty.false)))
+
+pub returns-in_default : goal.returns-in_default
+returns-in_default c = not_utf8 c.args.text.now c.in_default.ensures.cases.0
 
 pub returns : goal.returns
 returns c =
-    ends c.args.text.now c.digits.byte-index c.digits.value (eqb-false _ _ (sym c.is_empty.ensures ∙ c.if-is_empty.false)) c.digits-test.false c.digits.invariant.digits
-    c.digits.invariant.value c.digits.invariant.small
+    c.ok.ensures.value
+    ∙ parsed c.args.text.now _ c.parse.result c.if-text-eq43.false (omega (arith, eqb-false _ _ (sym c.is_empty.ensures ∙ c.if-is_empty.false)))
+    (subst (λ (text : List ℕ). ParsesUnsigned 64 10 text c.parse.result) c.in-Ok.ensures.cases.0 c.parse.ensures.value.0)

@@ -1,22 +1,20 @@
 use Rattle.std.proofs.Common.{ℕ, subst}
-use Rattle.std.specs.Prelude.{slice_index_or}
-use Rattle.hdt_wire.specs.declared.role.Role.TheVariants.{Subject, Predicate, Object}
+use Rattle.hdt_wire.specs.declared.role.Role.TheVariants.{Subject, Object}
 use Rattle.hdt_dict.specs.Views.{dictionary_of}
 use Rattle.hdt_file.specs.NonTerms.{AreNonTermsOf}
-use Rattle.hdt_file.proofs.NonTermLaws.{five, for_layout, objects_fit, of_section, shared_count, subjects_fit}
+use Rattle.hdt_file.proofs.NonTermLaws.{five, for_layout, objects_fit, shared_count, subjects_fit}
 use Rattle.hdt_file.proofs.non_terms.non_terms.Goals as goal
 
-pub append_non_terms-requires-2 : goal.append_non_terms-requires-2
-append_non_terms-requires-2 c = subjects_fit c.args.layout.now c.lens.result c.located_strings-2.result.ahead c.lens.ensures c.located_strings-2.ensures.strings_are
+pub append_non_terms-requires-2-clause-fits : goal.append_non_terms-requires-2-clause-fits
+append_non_terms-requires-2-clause-fits c = subjects_fit c.args.layout.now c.lens.result c.lens.ensures
 
-pub append_non_terms-requires-5 : goal.append_non_terms-requires-5
-append_non_terms-requires-5 c = objects_fit c.args.layout.now c.lens.result c.located_strings-5.result.ahead c.lens.ensures c.located_strings-5.ensures.strings_are
+pub append_non_terms-requires-5-clause-fits : goal.append_non_terms-requires-5-clause-fits
+append_non_terms-requires-5-clause-fits c = objects_fit c.args.layout.now c.lens.result c.lens.ensures
 
 pub returns : goal.returns
 returns c =
     let l = c.args.layout.now in
     let d = dictionary_of l.dictionary in
-    let shared = slice_index_or c.lens.result 1 0 in
     let count = shared_count l c.lens.result c.lens.ensures in
     let one = c.in_ok-append_non_terms.ensures in
     let two = c.in_ok-append_non_terms-2.ensures in
@@ -29,10 +27,10 @@ returns c =
       predicates = three.0;
       shared_objects = four.0;
       objects = last.0;
-      are_shared_subjects = of_section Subject 0 d.shared c.located_strings.result.ahead one.0 c.located_strings.ensures one.1;
-      are_subjects = subst (λ (n : ℕ). AreNonTermsOf Subject n d.subjects two.0) count (of_section Subject shared d.subjects c.located_strings-2.result.ahead two.0 c.located_strings-2.ensures two.1);
-      are_predicates = of_section Predicate 0 d.predicates c.located_strings-3.result.ahead three.0 c.located_strings-3.ensures three.1;
-      are_shared_objects = of_section Object 0 d.shared c.located_strings-4.result.ahead four.0 c.located_strings-4.ensures four.1;
-      are_objects = subst (λ (n : ℕ). AreNonTermsOf Object n d.objects last.0) count (of_section Object shared d.objects c.located_strings-5.result.ahead last.0 c.located_strings-5.ensures last.1);
+      are_shared_subjects = one.1;
+      are_subjects = subst (λ (n : ℕ). AreNonTermsOf Subject n d.subjects two.0) count two.1;
+      are_predicates = three.1;
+      are_shared_objects = four.1;
+      are_objects = subst (λ (n : ℕ). AreNonTermsOf Object n d.objects last.0) count last.1;
       whole = five c.new-found.result.items one.0 two.0 three.0 four.0 last.0 _ _ _ _ _ c.new-found.ensures.items one.2 two.2 three.2 four.2 last.2;
     })

@@ -1,22 +1,18 @@
-use Rattle.std.proofs.Common.{arith, refl, List, ℕ}
-use Rattle.hdt_wire.specs.Exact.{IsViewOf, viewed}
-use Rattle.hdt_wire.specs.Laws.Exact.{viewed_exact}
-use Rattle.hdt_wire.specs.Laws.ExactReading.{reads_unless_oom_found, reads_unless_oom_only}
+use Rattle.std.proofs.Common.{refl, sym}
+use Rattle.std.proofs.lemmas.Option.{IfSome_then}
+use Rattle.std.proofs.lemmas.Result.{err_from_is_err_and}
+use Rattle.hdt_wire.specs.Laws.Exact.{ok_is}
 use Rattle.hdt_file.specs.Faults.{open_fault_of}
-use Rattle.hdt_file.specs.File.{IsLayout, decode_graph}
-use Rattle.hdt_file.proofs.FileLaws.{layout_exact}
-use Rattle.hdt_file.specs.GraphView.{graph_counts}
+use Rattle.hdt_file.specs.LayoutView.{layout_view}
 use Rattle.hdt_file.proofs.opening.verify.Goals as goal
 
+pub returns-in_err-layout-clause-only : goal.returns-in_err-layout-clause-only
+returns-in_err-layout-clause-only c = λ graph h.
+    let p = err_from_is_err_and c.from_residual.result c.from_residual.ensures.1 in
+    rw (p.1, p.2) (IfSome_then (open_fault_of c.in_err-layout.field-0.0) (c.in_err-layout.ensures.only graph h) (λ f e. absurd cc))
+
 pub returns-clause-found : goal.returns-clause-found
-returns-clause-found c =
-    let bytes = c.args.bytes.now in
-    reads_unless_oom_found (λ (lens : List ℕ). lens) (viewed graph_counts (decode_graph bytes)) (IsViewOf graph_counts (IsLayout bytes)) open_fault_of c.verify_by_checks.result
-    (viewed_exact graph_counts (decode_graph bytes) (IsLayout bytes) (layout_exact bytes (λ i. omega (arith, c.type_inv.bytes i)) (omega arith))) c.verify_by_checks.ensures
+returns-clause-found c = record { value = layout_view c.in_ok-layout.layout; is = c.in_ok-layout.ensures.found; viewed_as = sym c.lens.ensures }
 
 pub returns-clause-only : goal.returns-clause-only
-returns-clause-only c = λ graph h.
-    let bytes = c.args.bytes.now in
-    reads_unless_oom_only (λ (lens : List ℕ). lens) (viewed graph_counts (decode_graph bytes)) (IsViewOf graph_counts (IsLayout bytes)) open_fault_of c.verify_by_checks.result
-    (viewed_exact graph_counts (decode_graph bytes) (IsLayout bytes) (layout_exact bytes (λ i. omega (arith, c.type_inv.bytes i)) (omega arith))) c.verify_by_checks.ensures
-    (graph_counts graph) (record { value = graph; is = h; viewed_as = refl })
+returns-clause-only c = λ graph h. rw (c.lens.ensures, ok_is graph (layout_view c.in_ok-layout.layout) (c.in_ok-layout.ensures.only graph h)) refl

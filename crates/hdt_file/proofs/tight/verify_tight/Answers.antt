@@ -1,29 +1,18 @@
-use Rattle.std.proofs.Common.{Result, arith, refl, subst, List, ℕ}
-use Rattle.hdt_wire.specs.declared.fault.Fault.{Fault}
-use Rattle.hdt_wire.specs.Exact.{IsViewOf, viewed}
-use Rattle.hdt_wire.specs.Laws.Exact.{viewed_exact}
-use Rattle.hdt_wire.specs.Laws.ExactReading.{reads_unless_oom_found, reads_unless_oom_only}
-use Rattle.hdt_wire.specs.Checks.{ReadsUnlessOom}
+use Rattle.std.proofs.Common.{◌∙◌, ap, refl, sym}
+use Rattle.std.proofs.lemmas.Option.{IfSome_then}
+use Rattle.std.proofs.lemmas.Result.{err_from_is_err_and}
+use Rattle.hdt_wire.specs.Laws.Exact.{ok_is}
 use Rattle.hdt_file.specs.Faults.{open_fault_of}
-use Rattle.hdt_file.specs.File.{GraphParts}
-use Rattle.hdt_file.specs.Laws.LayoutParts.{tight_is}
-use Rattle.hdt_file.specs.Tight.{IsTightLayout, decode_tight_graph}
-use Rattle.hdt_file.proofs.TightLaws.{tight_exact}
-use Rattle.hdt_file.specs.GraphView.{graph_counts}
+use Rattle.hdt_file.specs.GraphView.{graph_counts, graph_view}
 use Rattle.hdt_file.proofs.tight.verify_tight.Goals as goal
 
-pub returns-clause-exact : goal.returns-clause-exact
-returns-clause-exact c = subst (λ (rows : Result GraphParts Fault). ReadsUnlessOom open_fault_of (λ (lens : List ℕ). lens) c.verify_tight_by_checks.result (viewed graph_counts rows)) (tight_is c.args.bytes.now) c.verify_tight_by_checks.ensures
+pub returns-in_err-open_tight-clause-only : goal.returns-in_err-open_tight-clause-only
+returns-in_err-open_tight-clause-only c = λ graph h.
+    let p = err_from_is_err_and c.from_residual.result c.from_residual.ensures.1 in
+    rw (p.1, p.2) (IfSome_then (open_fault_of c.in_err-open_tight.field-0.0) (c.in_err-open_tight.ensures.only graph h) (λ f e. absurd cc))
 
 pub returns-clause-found : goal.returns-clause-found
-returns-clause-found c =
-    let bytes = c.args.bytes.now in
-    reads_unless_oom_found (λ (lens : List ℕ). lens) (viewed graph_counts (decode_tight_graph bytes)) (IsViewOf graph_counts (IsTightLayout bytes)) open_fault_of c.verify_tight_by_checks.result
-    (viewed_exact graph_counts (decode_tight_graph bytes) (IsTightLayout bytes) (tight_exact bytes (λ i. omega (arith, c.type_inv.bytes i)) (omega arith))) (returns-clause-exact c)
+returns-clause-found c = record { value = graph_view c.in_ok-open_tight.field-0; is = c.in_ok-open_tight.ensures.found; viewed_as = sym (c.lens.ensures ∙ ap graph_counts c.layout.ensures.seen) }
 
 pub returns-clause-only : goal.returns-clause-only
-returns-clause-only c = λ graph h.
-    let bytes = c.args.bytes.now in
-    reads_unless_oom_only (λ (lens : List ℕ). lens) (viewed graph_counts (decode_tight_graph bytes)) (IsViewOf graph_counts (IsTightLayout bytes)) open_fault_of c.verify_tight_by_checks.result
-    (viewed_exact graph_counts (decode_tight_graph bytes) (IsTightLayout bytes) (tight_exact bytes (λ i. omega (arith, c.type_inv.bytes i)) (omega arith))) (returns-clause-exact c)
-    (graph_counts graph) (record { value = graph; is = h; viewed_as = refl })
+returns-clause-only c = λ graph h. rw (c.lens.ensures, c.layout.ensures.seen, ok_is graph (graph_view c.in_ok-open_tight.field-0) (c.in_ok-open_tight.ensures.only graph h)) refl

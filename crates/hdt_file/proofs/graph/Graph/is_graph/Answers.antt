@@ -8,10 +8,11 @@ use Rattle.hdt_triples.specs.Laws.Order.{triples_ascend, triples_in_range}
 use Rattle.hdt_triples.specs.TripleSequences.{triples_of}
 use Rattle.hdt_triples.specs.Views.{triples_view}
 use Rattle.hdt_file.specs.GraphView.{graph_view}
+use Rattle.hdt_file.specs.LayoutParts.{parts_of_graph}
 use Rattle.hdt_file.proofs.graph.Graph.is_graph.Goals as goal
 
 pub returns : goal.returns
-unfolding graph_view triples_view
+unfolding graph_view parts_of_graph triples_view
 returns c =
     let g = c.args.self.now in
     let t = triples_listed g.triples in

@@ -4,12 +4,10 @@ use Rattle.hdt_wire.specs.Laws.ExactReading.{reads_unless_oom_found, reads_unles
 use Rattle.hdt_wire.specs.Checks.{ReadsUnlessOom}
 use Rattle.hdt_file.specs.Faults.{open_fault_of}
 use Rattle.hdt_file.specs.File.{GraphParts, IsLayout, decode_graph}
-use Rattle.hdt_file.proofs.FileLaws.{layout_exact}
 use Rattle.hdt_file.specs.LayoutView.{layout_view}
-use Rattle.hdt_file.specs.LayoutParts.{LayoutParts, decode_parts}
+use Rattle.hdt_file.specs.LayoutParts.{LayoutParts, decode_parts, parts_of_layout}
 use Rattle.hdt_file.specs.Laws.LayoutParts.{rows_are, graph_is}
-use Rattle.hdt_file.specs.LayoutPartsViews.{parts_of_layout}
-use Rattle.hdt_file.proofs.LayoutPartsLaws.{seen_gives}
+use Rattle.hdt_file.proofs.FileLaws.{layout_exact, seen_gives}
 use Rattle.hdt_file.proofs.layout.Layout.read.Goals as goal
 
 pub returns-clause-parts : goal.returns-clause-parts
