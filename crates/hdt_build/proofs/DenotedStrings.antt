@@ -56,11 +56,10 @@ place_text g h Object n from to = text_of_two g.dictionary.shared g.dictionary.o
 pub string_text : (g : GraphParts) → IsGraph g → (role : Role) (n : ℕ) → 1 ≤ n → n ≤ length (role_strings g.dictionary role) → IsDictionaryString (string_of_id (role_strings g.dictionary role) n)
 string_text g h role n from to = subst IsDictionaryString (sym (term_is (role_strings g.dictionary role) n from)) (place_text g h role n from to)
 
--- in each role, the ID of a triple is valid and used
+-- in each role, the ID of a triple is valid
 pub record IsOf (g : GraphParts) (t : Triple) : Type 0 where
   pub from : (role : Role) → 1 ≤ role_component role t
   pub to : (role : Role) → role_component role t ≤ length (role_strings g.dictionary role)
-  pub used : (role : Role) → Uses g.triples role (role_component role t)
 
 pub all_of : (g : GraphParts) → IsGraph g → All (IsOf g) g.triples
 all_of g h k d lt =
@@ -69,7 +68,6 @@ all_of g h k d lt =
     subst (IsOf g) same (record {
       from = from (get_or g.triples k (0, 0, 0)) r.0.0 r.1.0 r.2.0;
       to = to (get_or g.triples k (0, 0, 0)) r.0.1 r.1.1 r.2.1;
-      used = λ role. Contains-map (role_component role) g.triples (get_or g.triples k (0, 0, 0)) (k, lt, get_or_default g.triples k (get_or g.triples k (0, 0, 0)) (0, 0, 0) lt);
     })
   where
     from : (t : Triple) → 1 ≤ t.0 → 1 ≤ t.1 → 1 ≤ t.2 → (role : Role) → 1 ≤ role_component role t

@@ -10,14 +10,14 @@ use Rattle.std.proofs.lemmas.Map.Keys.{Less-from_sorted}
 use Rattle.hdt_dict.specs.Strings.{SameMembers}
 use Rattle.hdt_dict.specs.Split.{IsSplit}
 use Rattle.hdt_dict.specs.Laws.Members.{SameMembers-map, Contains-map, Contains-from_map, All-from_members, All-same_members}
-use Rattle.hdt_build.specs.Inside.Ids.{string_of_id}
+use Rattle.hdt_build.specs.Inside.Ids.{IsIdOf, string_of_id}
 use Rattle.hdt_build.specs.Inside.Filtering.{AreSectionsOf}
 use Rattle.hdt_triples.specs.TripleSequences.{Triple}
 use Rattle.hdt_triples.specs.Uses.{role_component}
 use Rattle.hdt_wire.specs.declared.role.Role.TheVariants.{Subject, Predicate, Object}
 use Rattle.hdt_build.proofs.MappedTriples.{map_along}
 use Rattle.hdt_file.specs.Denoted.{StringTriple}
-use Rattle.hdt_build.specs.Graph.{IsEncodedGraph, string_triple_at, string_triples_of, mapped_triple}
+use Rattle.hdt_build.specs.Graph.{IsEncodedGraph, string_triple_at, string_triples_of, mapped_triple, subjects_of, predicates_of, objects_of}
 use Rattle.hdt_build.proofs.StringsOfIds.{string_triple, same_strings, term_in}
 use Rattle.hdt_build.proofs.Distinct.{number_unique, subjects_distinct}
 use Rattle.hdt_triples.specs.Order.{nth_triple, AreWritable, IsInRange, AreAscending}
@@ -35,33 +35,36 @@ module _ {ss ps os : List (List ℕ)} (d : SectionLists) (h : IsSplit ss ps os d
         | inr b ↦ ((h.subjects x).0 b).0
       ]
 
--- the string triples that the IDs denote
-module _ (xs : List (List ℕ)) (ids : List Triple) (d : SectionLists) (nodes names : List ℕ) (h : AreSectionsOf xs ids d nodes names) where
-  abbrev new : Triple → Triple
-  new t = mapped_triple nodes names nodes t
+-- the IDs of a triple are those of the strings
+abbrev AreIdsOf : SectionLists → StringTriple → Triple → Type 0
+AreIdsOf d x t = IsIdOf (role_strings d Subject) x.0 t.0 × IsIdOf (role_strings d Predicate) x.1 t.1 × IsIdOf (role_strings d Object) x.2 t.2
 
-  one_denoted : (t : Triple) → Contains ids t → string_triple d (new t) ≡ string_triple_at xs t
-  one_denoted t there = same_strings _ _ _ _ _ _
-      (h.subjects_are t.0 (Contains-map (role_component Subject) ids t there)).is
-      (h.predicates_are t.1 (Contains-map (role_component Predicate) ids t there)).is
-      (h.objects_are t.2 (Contains-map (role_component Object) ids t there)).is
+-- triples that stand for string triples, and their IDs in the sections
+module _ (d : SectionLists) (ids : List Triple) (new : Triple → Triple) (strings : Triple → StringTriple) (are : (t : Triple) → Contains ids t → AreIdsOf d (strings t) (new t)) where
+  one_denoted : (t : Triple) → Contains ids t → string_triple d (new t) ≡ strings t
+  one_denoted t there = let r = are t there in same_strings _ _ _ _ _ _ r.0.is r.1.is r.2.is
 
   one_in_range : (t : Triple) → Contains ids t → IsInRange (role_counts d) (new t)
-  one_in_range t there =
-      let s = h.subjects_are t.0 (Contains-map (role_component Subject) ids t there) in
-      let p = h.predicates_are t.1 (Contains-map (role_component Predicate) ids t there) in
-      let o = h.objects_are t.2 (Contains-map (role_component Object) ids t there) in
-      ((s.from_one, s.within), (p.from_one, p.within), (o.from_one, o.within))
+  one_in_range t there = let r = are t there in ((r.0.from_one, r.0.within), (r.1.from_one, r.1.within), (r.2.from_one, r.2.within))
 
-  pub parts_form : (ts : List Triple) → AreAscending ts → SameMembers ts (map (mapped_triple nodes names nodes) ids) → IsEncodedGraph (string_triples_of xs ids) d ts
-  parts_form ts up same = record {
-    sections = h.sections;
+  pub encoded_form : IsSplit (subjects_of (map strings ids)) (predicates_of (map strings ids)) (objects_of (map strings ids)) d → (ts : List Triple) → AreAscending ts → SameMembers ts (map new ids) → IsEncodedGraph (map strings ids) d ts
+  encoded_form sections ts up same = record {
+    sections = sections;
     ascending = up;
     in_range = All-same_members (IsInRange (role_counts d)) (map new ids) ts same (All-map (IsInRange (role_counts d)) new ids (All-from_members (λ t. IsInRange (role_counts d) (new t)) ids one_in_range));
     denotes = subst (SameMembers (map (string_triple d) ts))
-        (map_along (string_triple d) new (string_triple_at xs) ids (All-from_members (λ t. string_triple d (new t) ≡ string_triple_at xs t) ids one_denoted))
+        (map_along (string_triple d) new strings ids (All-from_members (λ t. string_triple d (new t) ≡ strings t) ids one_denoted))
         (SameMembers-map (string_triple d) ts (map new ids) same);
   }
+
+pub parts_form : (xs : List (List ℕ)) (ids : List Triple) (d : SectionLists) (nodes names : List ℕ) → AreSectionsOf xs ids d nodes names
+    → (ts : List Triple) → AreAscending ts → SameMembers ts (map (mapped_triple nodes names nodes) ids) → IsEncodedGraph (string_triples_of xs ids) d ts
+parts_form xs ids d nodes names h =
+    encoded_form d ids (mapped_triple nodes names nodes) (string_triple_at xs) (λ t there. (
+      h.subjects_are t.0 (Contains-map (role_component Subject) ids t there),
+      h.predicates_are t.1 (Contains-map (role_component Predicate) ids t there),
+      h.objects_are t.2 (Contains-map (role_component Object) ids t there),
+    )) h.sections
 
 module _ {g : List StringTriple} (d : SectionLists) (ts : List Triple) (h : IsEncodedGraph g d ts) where
   subject_le : (i j : ℕ) (e : Triple) → i ≤ j → j < length ts → (get_or ts i e).0 ≤ (get_or ts j e).0

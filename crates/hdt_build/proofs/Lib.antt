@@ -6,7 +6,6 @@ pub mod Distinct
 pub mod Equal
 pub mod DocumentExtension
 pub mod Heads
-pub mod KeyOrder
 pub mod Layouts
 pub mod NoTriples
 pub mod OneDocument
@@ -31,4 +30,3 @@ mod DenotedStrings
 mod TightForm
 mod RewrittenFiles
 mod Appending
-mod TwoRuns
