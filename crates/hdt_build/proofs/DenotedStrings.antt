@@ -7,11 +7,10 @@ use Rattle.std.proofs.lemmas.List.Elements.{All-map}
 use Rattle.hdt_wire.specs.declared.role.Role.{Role}
 use Rattle.hdt_wire.specs.declared.role.Role.TheVariants.{Subject, Predicate, Object}
 use Rattle.hdt_front.specs.Section.{AreSectionStrings}
-use Rattle.hdt_dict.specs.Laws.Members.{Contains-map}
 use Rattle.hdt_dict.specs.DictionaryString.{IsDictionaryString}
 use Rattle.hdt_triples.specs.TripleSequences.{Triple}
 use Rattle.hdt_triples.specs.Patterns.{agrees, matches}
-use Rattle.hdt_triples.specs.Uses.{role_component, Uses}
+use Rattle.hdt_triples.specs.Uses.{role_component}
 use Rattle.hdt_triples.specs.declared.pattern.Pattern.{Pattern}
 use Rattle.hdt_file.specs.Denoted.{denoted_triple}
 use Rattle.hdt_file.specs.File.{GraphParts}

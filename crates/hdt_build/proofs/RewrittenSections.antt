@@ -1,19 +1,19 @@
 -- The sections of a graph that is rewritten, and the new IDs of its triples.
-use Rattle.std.proofs.Common.{◌≡◌, ◌∙◌, ◌⊎◌, inl, inr, ℕ, ◌+◌, ◌-◌, ◌<◌, ◌≤◌, List, [], ◌∷◌, ◌++◌, map, length, get_or, refl, ap, sym, subst, arith}
-use Rattle.std.specs.List.{All, Contains}
+use Rattle.std.proofs.Common.{◌≡◌, ◌∙◌, ◌⊎◌, inl, inr, ℕ, ◌+◌, ◌-◌, ◌<◌, ◌≤◌, List, [], ◌++◌, map, length, get_or, refl, ap, sym, subst, arith}
+use Rattle.std.specs.List.{Contains}
 use Rattle.std.proofs.lemmas.Bool.{cases_lt}
 use Rattle.std.proofs.lemmas.List.{get_or_append_left, get_or-append_right, length-append}
-use Rattle.std.proofs.lemmas.List.Elements.{All-head, All-tail, All-map, Contains-get_or}
+use Rattle.std.proofs.lemmas.List.Elements.{Contains-get_or}
 use Rattle.hdt_wire.specs.declared.role.Role.{Role}
 use Rattle.hdt_wire.specs.declared.role.Role.TheVariants.{Subject, Predicate, Object}
-use Rattle.hdt_dict.specs.Laws.Members.{Contains-map, Contains-from_map, SameMembers-map, All-same_members}
+use Rattle.hdt_dict.specs.Laws.Members.{Contains-map, Contains-from_map}
 use Rattle.hdt_dict.specs.Split.{IsSplit}
 use Rattle.hdt_dict.specs.Strings.{SameMembers}
 use Rattle.hdt_dict.specs.Laws.Strings.{member_cases}
 use Rattle.hdt_triples.specs.TripleSequences.{Triple}
 use Rattle.hdt_triples.specs.Uses.{role_component, Uses}
 use Rattle.hdt_file.specs.Denoted.{string_of, denoted_triple}
-use Rattle.hdt_file.specs.File.{GraphParts, role_counts}
+use Rattle.hdt_file.specs.File.{GraphParts}
 use Rattle.hdt_file.specs.Graph.{IsGraph}
 use Rattle.hdt_dict.specs.Dictionary.{role_strings, SectionLists}
 use Rattle.hdt_file.specs.declared.tight.SectionId.{SectionId}
@@ -26,10 +26,9 @@ use Rattle.hdt_build.specs.Inside.Ids.{IsIdOf, string_of_id}
 use Rattle.hdt_build.proofs.Denoting.{encoded_form}
 use Rattle.hdt_build.proofs.Distinct.{Distinct-ascending}
 use Rattle.hdt_build.proofs.RunMerging.{number_in_front, number_behind, has_id}
-use Rattle.hdt_build.proofs.DenotedStrings.{IsOf, all_of}
-use Rattle.hdt_build.proofs.StringsOfIds.{string_triple, same_strings, term_is, term_in}
+use Rattle.hdt_build.proofs.StringsOfIds.{term_is}
 use Rattle.hdt_build.proofs.RunOrder.{used_range, kept_used}
-use Rattle.hdt_triples.specs.Order.{IsInRange, AreAscending}
+use Rattle.hdt_triples.specs.Order.{AreAscending}
 
 -- the position of a string in two concatenated lists
 side : (xs ys : List (List ℕ)) (n : ℕ) → 1 ≤ n → n ≤ length (xs ++ ys) → ((n ≤ length xs) × (get_or xs (n - 1) [] ≡ string_of_id (xs ++ ys) n)) ⊎ Contains ys (string_of_id (xs ++ ys) n)

@@ -5,7 +5,7 @@ use Rattle.hdt_build.specs.Inside.Documents.{AreBelow}
 use Rattle.hdt_build.specs.Graph.{mapped_triple}
 use Rattle.hdt_build.specs.Inside.Rewriting.{lists_of_sections}
 use Rattle.hdt_build.proofs.Denoting.{parts_form}
-use Rattle.hdt_build.proofs.MappedTriples.{moved_is, moved_within}
+use Rattle.hdt_build.proofs.IndexTriples.{moved_is, moved_within}
 use Rattle.hdt_build.proofs.encoding.encode_graph.Goals as goal
 
 pub write_sections-requires-clause-within : goal.write_sections-requires-clause-within
