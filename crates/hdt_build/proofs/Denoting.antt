@@ -21,7 +21,7 @@ use Rattle.hdt_file.specs.Denoted.{StringTriple}
 use Rattle.hdt_file.specs.Tight.{IsTight}
 use Rattle.hdt_build.specs.Layouts.{graph_parts_of}
 use Rattle.hdt_build.specs.Graph.{IsEncodedGraph, string_triple_at, string_triples_of, mapped_triple, subjects_of, predicates_of, objects_of}
-use Rattle.hdt_build.proofs.StringsOfIds.{string_triple, same_strings, term_in}
+use Rattle.hdt_build.proofs.StringsOfIds.{in_role, string_triple, same_strings, term_in}
 use Rattle.hdt_build.proofs.Distinct.{Distinct, number_unique, subjects_distinct, predicates_distinct, objects_distinct}
 use Rattle.hdt_triples.specs.Order.{nth_triple, AreWritable, IsInRange, AreAscending}
 use Rattle.hdt_build.proofs.Order.{triple_total, first_le, triple_cmp, sorted_triples}
@@ -85,11 +85,6 @@ module _ {g : List StringTriple} (d : SectionLists) (ts : List Triple) (h : IsEn
   distinct Predicate = predicates_distinct d h.sections
   distinct Object = objects_distinct d h.sections
 
-  in_role : (role : Role) (t : Triple) → IsInRange (role_counts d) t → (0 < role_component role t) × (role_component role t ≤ length (role_strings d role))
-  in_role Subject t range = range.0
-  in_role Predicate t range = range.1
-  in_role Object t range = range.2
-
   string_is : (role : Role) (t : Triple) → string_of_id (role_strings d role) (role_component role t) ≡ role_component role (string_triple d t)
   string_is Subject t = refl
   string_is Predicate t = refl
@@ -101,7 +96,7 @@ module _ {g : List StringTriple} (d : SectionLists) (ts : List Triple) (h : IsEn
       let x = string_of_id (role_strings d role) n in
       let r = Contains-from_map (role_component role) g x (members role x (term_in (role_strings d role) n a b)) in
       let s = Contains-from_map (string_triple d) ts r.0 ((h.denotes r.0).1 r.1) in
-      let range = in_role role s.0 (All-contains (IsInRange (role_counts d)) ts s.0 h.in_range s.1) in
+      let range = in_role d role s.0 (All-contains (IsInRange (role_counts d)) ts s.0 h.in_range s.1) in
       (s.0, s.1, number_unique (role_strings d role) (distinct role) (role_component role s.0) n range.0 range.1 a b (string_is role s.0 ∙ ap (role_component role) s.2 ∙ r.2))
 
   pub form_tight : (header : List ℕ) → IsTight (graph_parts_of header d ts)
