@@ -25,4 +25,3 @@ mod RewrittenSections
 mod RunOrder
 mod DenotedStrings
 mod RewrittenFiles
-mod Appending
