@@ -29,6 +29,7 @@ pub(crate) fn put_head(alloc: Global, header: &[u8], out: &mut Vec<u8>) -> Resul
 }
 
 /// The bytes of the canonical file. The sections are freed before the triples are written.
+#[tactic(auto, using(std::proofs::Common::append_assoc), unfolding(crate::specs::Canonical::canonical_file))]
 fn canonical_file(alloc: Global, header: &[u8], form: EncodedGraph) -> Result<Vec<u8>, AllocError>
     requires sections { AreSections (lists_of_sections form.sections) }
     requires triples { AreWritable form.triples.items }
