@@ -1,15 +1,13 @@
 -- Dropping duplicates of sorted strings, and the new indices of the strings.
-use Rattle.std.proofs.Common.{◌≡◌, ◌≢◌, ◌∙◌, ℕ, ◌+◌, ◌-◌, ◌<◌, ◌≤◌, List, [], ◌∷◌, ◌++◌, length, get_or, set, refl, ap, sym, subst, inl, inr, arith}
-use Rattle.std.specs.declared.cmp.Ordering.{Ordering}
-use Rattle.std.specs.declared.cmp.Ordering.TheVariants.{Less, Equal, Greater}
+use Rattle.std.proofs.Common.{◌≡◌, ◌∙◌, ℕ, ◌+◌, ◌-◌, ◌<◌, ◌≤◌, List, [], ◌∷◌, ◌++◌, length, get_or, set, refl, ap, sym, subst, inl, inr, arith}
+use Rattle.std.specs.declared.cmp.Ordering.TheVariants.{Less}
 use Rattle.std.specs.Ordering.{ordering_reverse}
 use Rattle.std.specs.Cmp.Lexicographic.{nat_list_cmp_total}
 use Rattle.std.proofs.lemmas.Bool.{cases_lt, cases_eq}
 use Rattle.std.proofs.lemmas.List.{get_or-map, length-map, length-set, length_push, get_or_append_left, get_or_push, get_or-set_same, get_or-set_other}
 use Rattle.std.proofs.lemmas.Map.Keys.{Less-from_sorted, sorted_from_all_adjacent}
 use Rattle.hdt_front.specs.Order.{IsAscending, string_cmp}
-use Rattle.hdt_build.specs.Inside.SortedEntries.{KeyedIndex, AreSortedEntries, AreIndicesOf, IsPushedOnce, IsLast, entry_index, entry_key}
-use Rattle.std.proofs.lemmas.Map.Lookups.{exact_bytes}
+use Rattle.hdt_build.specs.Inside.SortedEntries.{KeyedIndex, AreEntriesOf, AreIndicesOf, IsPushedOnce, IsLast, IsLessThanLast, NeverDescends, entry_index, entry_strings, last_of}
 
 -- x is the string of ys at index v
 abbrev IsAt : List (List ℕ) → List ℕ → ℕ → Type 0
@@ -32,12 +30,8 @@ none_listed xs ps ns long = record {
   each = λ n lt. absurd (omega (arith, lt));
 }
 
-less_by : (x y : List ℕ) (o : Ordering) → string_cmp y x ≡ o → o ≢ Less → (x ≡ y → ⊥) → string_cmp x y ≡ Less
-less_by x y Less e least apart = absurd (least refl)
-less_by x y Equal e least apart = absurd (apart (sym (exact_bytes y x e)))
-less_by x y Greater e least apart = nat_list_cmp_total.antisymm x y ∙ ap ordering_reverse e
-
-ascends_on : (ys : List (List ℕ)) (x : List ℕ) → IsAscending ys → (0 < length ys → string_cmp (get_or ys (length ys - 1) []) x ≡ Less) → IsAscending (ys ++ x ∷ [])
+-- ascending strings, and one that is greater than the last
+pub ascends_on : (ys : List (List ℕ)) (x : List ℕ) → IsAscending ys → (0 < length ys → string_cmp (last_of ys) x ≡ Less) → IsAscending (ys ++ x ∷ [])
 ascends_on ys x up below = sorted_from_all_adjacent nat_list_cmp_total (ys ++ x ∷ []) [] (λ k lt.
     elim (cases_lt (k + 1) (length ys)) [
       | inl inside ↦ rw (get_or_append_left ys (x ∷ []) [] k (omega (arith, inside)), get_or_append_left ys (x ∷ []) [] (k + 1) inside) (Less-from_sorted string_cmp ys k (k + 1) [] up (omega arith) inside)
@@ -48,22 +42,18 @@ ascends_on ys x up below = sorted_from_all_adjacent nat_list_cmp_total (ys ++ x 
     ])
 
 -- one more entry, whose string is the last one of zs
-module _ (xs : List (List ℕ)) (ps : List KeyedIndex) (placed : AreSortedEntries xs ps) (i : ℕ) (in' : i < length ps) (ys : List (List ℕ)) (ns : List ℕ) (h : AreListed xs ps i ys ns) where
+module _ (xs : List (List ℕ)) (ps : List KeyedIndex) (placed : AreEntriesOf xs ps) (i : ℕ) (in' : i < length ps) (ys : List (List ℕ)) (ns : List ℕ) (h : AreListed xs ps i ys ns) where
   abbrev pub x : List ℕ
   x = get_or xs (entry_index ps i) []
 
-  -- no earlier string is greater
-  before : 0 < i → string_cmp x (get_or xs (entry_index ps (i - 1)) []) ≢ Less
-  before some =
+  -- if it is less than the last one, the strings of the entries descend
+  pub descends : IsLessThanLast ys x → NeverDescends (entry_strings xs ps) → ⊥
+  descends less never =
       let text = λ (p : KeyedIndex). get_or xs p.1 [] in
-      rw (sym (get_or-map text ps i (0, 0) [] in'), sym (get_or-map text ps (i - 1) (0, 0) [] (omega (arith, in'))))
-      (placed.ascend (i - 1) i (omega arith) (omega (arith, in', length-map ps text)))
-
-  -- if its key differs from that of the previous entry, its string is not the last one already
-  pub another : (0 < i → entry_key ps i ≢ entry_key ps (i - 1)) → IsLast ys x → ⊥
-  another apart there =
-      let some = h.some there.0 in
-      apart some (sym (placed.same (i - 1) i (omega (arith, in')) in' (sym (h.last some).1 ∙ there.1)))
+      let some = h.some less.0 in
+      let previous : i - 1 < length ps = omega (arith, in') in
+      let least = rw (get_or-map text ps i (0, 0) [] in', get_or-map text ps (i - 1) (0, 0) [] previous) at (never (i - 1) i (omega arith) (omega (arith, in', length-map ps text))) in
+      least (rw (h.last some).1 at less.1)
 
   listed_by : (zs : List (List ℕ)) (v : ℕ) → IsAscending zs → ((n : ℕ) → n < length ys → IsAt zs (get_or ys n []) n) → IsLast zs x → v + 1 ≡ length zs → AreListed xs ps (i + 1) zs (set ns (entry_index ps i) v)
   listed_by zs v up kept last at =
@@ -90,14 +80,13 @@ module _ (xs : List (List ℕ)) (ps : List KeyedIndex) (placed : AreSortedEntrie
   listed_more zs v (inr new) at =
       subst (λ (l : List (List ℕ)). AreListed xs ps (i + 1) l (set ns (entry_index ps i) v)) (sym new.0)
       (listed_by (ys ++ x ∷ []) v
-      (ascends_on ys x h.ascend (λ some. let l = h.last (h.some some) in
-      less_by (get_or ys (length ys - 1) []) x (string_cmp x (get_or ys (length ys - 1) [])) refl (rw l.1 (before (h.some some))) (λ same. new.1 (some, same))))
+      (ascends_on ys x h.ascend (λ some. nat_list_cmp_total.antisymm (last_of ys) x ∙ ap ordering_reverse (new.1 some)))
       (λ n lt. (omega (arith, lt, length_push ys x), get_or_append_left ys (x ∷ []) [] n lt))
       (omega (arith, length_push ys x), get_or_push ys x [] (length (ys ++ x ∷ []) - 1) (omega (arith, length_push ys x)))
       (at ∙ ap length new.0))
 
 -- after all entries, each string of the list has its index
-pub all_listed : (xs : List (List ℕ)) (ps : List KeyedIndex) → AreSortedEntries xs ps → (ys : List (List ℕ)) (ns : List ℕ) (i : ℕ) → length ps ≤ i → AreListed xs ps i ys ns → AreIndicesOf xs ys ns
+pub all_listed : (xs : List (List ℕ)) (ps : List KeyedIndex) → AreEntriesOf xs ps → (ys : List (List ℕ)) (ns : List ℕ) (i : ℕ) → length ps ≤ i → AreListed xs ps i ys ns → AreIndicesOf xs ys ns
 all_listed xs ps placed ys ns i end h = record {
   long = h.long;
   within = λ k lt. (at k lt).0;

@@ -7,14 +7,13 @@ use Rattle.std.proofs.lemmas.List.Elements.{All-map}
 use Rattle.hdt_wire.specs.declared.role.Role.{Role}
 use Rattle.hdt_wire.specs.declared.role.Role.TheVariants.{Subject, Predicate, Object}
 use Rattle.hdt_front.specs.Section.{AreSectionStrings}
-use Rattle.hdt_dict.specs.Laws.Members.{Contains-map}
 use Rattle.hdt_dict.specs.DictionaryString.{IsDictionaryString}
 use Rattle.hdt_triples.specs.TripleSequences.{Triple}
 use Rattle.hdt_triples.specs.Patterns.{agrees, matches}
-use Rattle.hdt_triples.specs.Uses.{role_component, Uses}
 use Rattle.hdt_triples.specs.declared.pattern.Pattern.{Pattern}
 use Rattle.hdt_file.specs.Denoted.{denoted_triple}
-use Rattle.hdt_file.specs.File.{GraphParts}
+use Rattle.hdt_file.specs.File.{GraphParts, role_counts}
+use Rattle.hdt_triples.specs.Order.{IsInRange}
 use Rattle.hdt_file.specs.Graph.{IsGraph}
 use Rattle.hdt_dict.specs.Dictionary.{role_strings}
 use Rattle.hdt_file.specs.Denoted.{StringTriple}
@@ -56,40 +55,17 @@ place_text g h Object n from to = text_of_two g.dictionary.shared g.dictionary.o
 pub string_text : (g : GraphParts) → IsGraph g → (role : Role) (n : ℕ) → 1 ≤ n → n ≤ length (role_strings g.dictionary role) → IsDictionaryString (string_of_id (role_strings g.dictionary role) n)
 string_text g h role n from to = subst IsDictionaryString (sym (term_is (role_strings g.dictionary role) n from)) (place_text g h role n from to)
 
--- in each role, the ID of a triple is valid and used
-pub record IsOf (g : GraphParts) (t : Triple) : Type 0 where
-  pub from : (role : Role) → 1 ≤ role_component role t
-  pub to : (role : Role) → role_component role t ≤ length (role_strings g.dictionary role)
-  pub used : (role : Role) → Uses g.triples role (role_component role t)
-
-pub all_of : (g : GraphParts) → IsGraph g → All (IsOf g) g.triples
-all_of g h k d lt =
-    let same : get_or g.triples k (0, 0, 0) ≡ get_or g.triples k d = get_or_default g.triples k (0, 0, 0) d lt in
-    let r = h.range k lt in
-    subst (IsOf g) same (record {
-      from = from (get_or g.triples k (0, 0, 0)) r.0.0 r.1.0 r.2.0;
-      to = to (get_or g.triples k (0, 0, 0)) r.0.1 r.1.1 r.2.1;
-      used = λ role. Contains-map (role_component role) g.triples (get_or g.triples k (0, 0, 0)) (k, lt, get_or_default g.triples k (get_or g.triples k (0, 0, 0)) (0, 0, 0) lt);
-    })
-  where
-    from : (t : Triple) → 1 ≤ t.0 → 1 ≤ t.1 → 1 ≤ t.2 → (role : Role) → 1 ≤ role_component role t
-    from t s p o Subject = s
-    from t s p o Predicate = p
-    from t s p o Object = o
-
-    to : (t : Triple) → t.0 ≤ length (role_strings g.dictionary Subject) → t.1 ≤ length (role_strings g.dictionary Predicate) → t.2 ≤ length (role_strings g.dictionary Object) → (role : Role) → role_component role t ≤ length (role_strings g.dictionary role)
-    to t s p o Subject = s
-    to t s p o Predicate = p
-    to t s p o Object = o
+pub all_in_range : (g : GraphParts) → IsGraph g → All (IsInRange (role_counts g.dictionary)) g.triples
+all_in_range g h k d lt = subst (IsInRange (role_counts g.dictionary)) (get_or_default g.triples k (0, 0, 0) d lt) (h.range k lt)
 
 pub some_denoted : (g : GraphParts) → IsGraph g → 0 < length (denoted_by g)
 some_denoted g h = omega (arith, h.some, length-map g.triples (denoted_triple g))
 
 pub denoted_texts : (g : GraphParts) → IsGraph g → HasDictionaryStrings (denoted_by g)
 denoted_texts g h =
-    let all = all_of g h in
+    let all = all_in_range g h in
     record {
-      subjects_are = All-map IsDictionaryString (λ (t : StringTriple). t.0) (denoted_by g) (All-map (λ (t : StringTriple). IsDictionaryString t.0) (denoted_triple g) g.triples (λ k d lt. let t = all k d lt in string_text g h Subject _ (t.from Subject) (t.to Subject)));
-      predicates_are = All-map IsDictionaryString (λ (t : StringTriple). t.1) (denoted_by g) (All-map (λ (t : StringTriple). IsDictionaryString t.1) (denoted_triple g) g.triples (λ k d lt. let t = all k d lt in string_text g h Predicate _ (t.from Predicate) (t.to Predicate)));
-      objects_are = All-map IsDictionaryString (λ (t : StringTriple). t.2) (denoted_by g) (All-map (λ (t : StringTriple). IsDictionaryString t.2) (denoted_triple g) g.triples (λ k d lt. let t = all k d lt in string_text g h Object _ (t.from Object) (t.to Object)));
+      subjects_are = All-map IsDictionaryString (λ (t : StringTriple). t.0) (denoted_by g) (All-map (λ (t : StringTriple). IsDictionaryString t.0) (denoted_triple g) g.triples (λ k d lt. let t = all k d lt in string_text g h Subject _ t.0.0 t.0.1));
+      predicates_are = All-map IsDictionaryString (λ (t : StringTriple). t.1) (denoted_by g) (All-map (λ (t : StringTriple). IsDictionaryString t.1) (denoted_triple g) g.triples (λ k d lt. let t = all k d lt in string_text g h Predicate _ t.1.0 t.1.1));
+      objects_are = All-map IsDictionaryString (λ (t : StringTriple). t.2) (denoted_by g) (All-map (λ (t : StringTriple). IsDictionaryString t.2) (denoted_triple g) g.triples (λ k d lt. let t = all k d lt in string_text g h Object _ t.2.0 t.2.1));
     }

@@ -17,8 +17,7 @@ use Rattle.hdt_build.specs.Inside.Ids.{IsIdOf}
 use Rattle.hdt_build.specs.Inside.Filtering.{flag_at, AreUseFlags, HaveIds, AreSectionsOf, IsFilteredSection, IsInFilter}
 use Rattle.hdt_build.specs.Reading.{HasDictionaryStrings}
 use Rattle.hdt_build.proofs.Distinct.{Distinct-ascending}
-use Rattle.hdt_build.proofs.RunMerging.{number_in_front, number_behind}
-use Rattle.hdt_build.proofs.StringsOfIds.{term_in}
+use Rattle.hdt_build.proofs.RunMerging.{number_in_front, number_behind, has_id}
 use Rattle.hdt_build.proofs.DocumentReading.{either}
 
 module _ (xs : List (List ℕ)) (ids : List Triple) where
@@ -66,12 +65,6 @@ module _ (xs : List (List ℕ)) (ids : List Triple) where
       off : (role : Role) (flags : List Bool) → AreUseFlags ids role flags → (k : ℕ) → flag_at flags k ≡ false → Uses ids role k → ⊥
       off role flags u k no' used = let e = (u k).1 used in absurd cc
 
-      -- the section has the string at each index that passes the filter
-      filled_has : (keeps : ℕ → Type 0) (count : ℕ) (strings : List (List ℕ)) (before after : List ℕ) → IsFilteredSection xs keeps count strings before after → (k : ℕ) (x : List ℕ) → keeps k → get_or xs k [] ≡ x → Contains strings x
-      filled_has keeps count strings before after h k x keep is =
-          let e = (h.numbers k keep).is_number in
-          subst (Contains strings) (e.is ∙ is) (term_in strings (h.numbers k keep).number e.from_one e.within)
-
       module _ (sh su pr ob : List (List ℕ)) (n0 n1 n2 n3 m0 m1 : List ℕ)
           (a : IsFilteredSection xs (IsInFilter s o true) 0 sh n0 n1) (b : IsFilteredSection xs (IsInFilter s o false) (length sh) su n1 n2)
           (c : IsFilteredSection xs (IsInFilter p p true) 0 pr m0 m1) (e : IsFilteredSection xs (IsInFilter o s false) (length sh) ob n2 n3) where
@@ -86,7 +79,7 @@ module _ (xs : List (List ℕ)) (ids : List Triple) where
             λ both. let n = placed Subject x both.0 in
                 let m = placed Object x both.1 in
                 let one = meet Subject Object n.0 m.0 n.1 m.1 (n.2 ∙ sym m.2) in
-                filled_has _ _ _ _ _ a n.0 x ((us n.0).1 n.1, subst (λ (k : ℕ). flag_at o k ≡ true) (sym one) ((uo m.0).1 m.1)) n.2,
+                has_id (a.numbers n.0 ((us n.0).1 n.1, subst (λ (k : ℕ). flag_at o k ≡ true) (sym one) ((uo m.0).1 m.1))) n.2,
           );
           subjects = λ x. (
             λ there. let r = b.each x there in (
@@ -97,12 +90,12 @@ module _ (xs : List (List ℕ)) (ids : List Triple) where
             λ own. let n = placed Subject x own.0 in
                 elim (either (flag_at o n.0)) [
                   | inl on ↦ absurd (own.1 (named Object x n.0 ((uo n.0).0 on) n.2))
-                  | inr alone ↦ filled_has _ _ _ _ _ b n.0 x ((us n.0).1 n.1, alone) n.2
+                  | inr alone ↦ has_id (b.numbers n.0 ((us n.0).1 n.1, alone)) n.2
                 ],
           );
           predicates = λ x. (
             λ there. let r = c.each x there in named Predicate x r.0 ((up' r.0).0 r.1.0) r.2,
-            λ there. let n = placed Predicate x there in let on = (up' n.0).1 n.1 in filled_has _ _ _ _ _ c n.0 x (on, on) n.2,
+            λ there. let n = placed Predicate x there in let on = (up' n.0).1 n.1 in has_id (c.numbers n.0 (on, on)) n.2,
           );
           objects = λ x. (
             λ there. let r = e.each x there in (
@@ -113,7 +106,7 @@ module _ (xs : List (List ℕ)) (ids : List Triple) where
             λ own. let m = placed Object x own.0 in
                 elim (either (flag_at s m.0)) [
                   | inl on ↦ absurd (own.1 (named Subject x m.0 ((us m.0).0 on) m.2))
-                  | inr alone ↦ filled_has _ _ _ _ _ e m.0 x ((uo m.0).1 m.1, alone) m.2
+                  | inr alone ↦ has_id (e.numbers m.0 ((uo m.0).1 m.1, alone)) m.2
                 ],
           );
         }

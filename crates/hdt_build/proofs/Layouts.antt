@@ -23,9 +23,8 @@ use Rattle.hdt_build.specs.Graph.{IsEncodedGraph}
 use Rattle.hdt_build.specs.Header.{length_property}
 use Rattle.hdt_build.specs.Layouts.{graph_parts_of, IsLayoutOf}
 use Rattle.hdt_build.proofs.Counts.{dictionary_bytes}
-use Rattle.hdt_build.proofs.Denoting.{some_triple, writable, once}
+use Rattle.hdt_build.proofs.Denoting.{form_tight, some_triple, writable, once}
 use Rattle.hdt_build.proofs.Heads.{length_no_zero, states_length}
-use Rattle.hdt_build.proofs.TightForm.{form_tight}
 
 -- the end of a dictionary
 dictionary_end : (b : ℕ) (d : SectionLists) (at : ℕ) → (canonical_dictionary_parts b d at).objects.end ≡ at + length (canonical_dictionary b d)

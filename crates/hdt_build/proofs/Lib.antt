@@ -1,21 +1,17 @@
 pub mod BuiltForm
-pub mod BuiltLayout
 pub mod Counts
 pub mod Denoting
 pub mod Distinct
 pub mod Equal
-pub mod DocumentExtension
 pub mod Heads
-pub mod KeyOrder
 pub mod Layouts
 pub mod NoTriples
 pub mod OneDocument
 pub mod Order
-pub mod MappedTriples
+pub mod IndexTriples
 pub mod StringsOfIds
 mod SectionFilling
 mod UseFlags
-mod QueuedTriples
 mod FilteredSections
 pub mod EntrySorting
 pub mod Deduplication
@@ -28,7 +24,4 @@ mod SectionOfRuns
 mod RewrittenSections
 mod RunOrder
 mod DenotedStrings
-mod TightForm
 mod RewrittenFiles
-mod Appending
-mod TwoRuns

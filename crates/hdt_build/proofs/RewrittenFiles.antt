@@ -10,10 +10,10 @@ use Rattle.hdt_build.specs.declared.options.Report.{Report}
 use Rattle.hdt_build.specs.Built.{report_of, IsBuilt, IsCanonicalWithReport}
 use Rattle.hdt_build.specs.Canonical.{IsCanonical}
 use Rattle.hdt_file.specs.Denoted.{StringTriple}
+use Rattle.hdt_build.specs.Header.{header_body}
 use Rattle.hdt_build.specs.Layouts.{denoted_by, reported_lens, IsLayoutOf, IsVerified}
 use Rattle.hdt_build.specs.Options.{AreValidOptions, IsBlockSize}
 use Rattle.hdt_build.specs.Rewritten.{IsRewritten}
-use Rattle.hdt_build.proofs.BuiltLayout.{built_layout}
 use Rattle.hdt_build.proofs.Equal.{count_is, one_file}
 use Rattle.hdt_build.proofs.Layouts.{canonical_layout, file_layout, file_tight}
 
@@ -22,6 +22,10 @@ made_layout : (header : List ℕ) (graph : List StringTriple) (b : ℕ) (bytes :
 made_layout header graph b bytes report right h small few =
     let many = count_is h.file.dictionary h.file.triples bytes report h.report_is in
     canonical_layout header graph b bytes h.file right.0 (omega (arith, right.1)) small (omega (arith, many, few))
+
+pub built_layout : (options : Options) (graph : List StringTriple) (bytes : List ℕ) (report : Report) → AreValidOptions options → IsBuilt options graph bytes report
+    → length bytes < 2 ^ 64 → report.triples < 2 ^ 64 → IsLayoutOf (header_body options.base.items report.triples) graph bytes
+built_layout options graph bytes report right h small few = made_layout (header_body options.base.items report.triples) graph options.block_size bytes report (right.some, right.most) h small few
 
 -- the report of a canonical file has the counts that verifying it returns
 abbrev lens_answered : Report → Result (List ℕ) Fault

@@ -1,19 +1,19 @@
 -- The sections of a graph that is rewritten, and the new IDs of its triples.
-use Rattle.std.proofs.Common.{◌≡◌, ◌∙◌, ◌⊎◌, inl, inr, ℕ, ◌+◌, ◌-◌, ◌<◌, ◌≤◌, List, [], ◌∷◌, ◌++◌, map, length, get_or, refl, ap, sym, subst, arith}
-use Rattle.std.specs.List.{All, Contains}
+use Rattle.std.proofs.Common.{◌≡◌, ◌∙◌, ◌⊎◌, inl, inr, ℕ, ◌+◌, ◌-◌, ◌<◌, ◌≤◌, List, [], ◌++◌, map, length, get_or, refl, ap, sym, subst, arith}
+use Rattle.std.specs.List.{Contains}
 use Rattle.std.proofs.lemmas.Bool.{cases_lt}
 use Rattle.std.proofs.lemmas.List.{get_or_append_left, get_or-append_right, length-append}
-use Rattle.std.proofs.lemmas.List.Elements.{All-head, All-tail, All-map, Contains-get_or}
+use Rattle.std.proofs.lemmas.List.Elements.{Contains-get_or}
 use Rattle.hdt_wire.specs.declared.role.Role.{Role}
 use Rattle.hdt_wire.specs.declared.role.Role.TheVariants.{Subject, Predicate, Object}
-use Rattle.hdt_dict.specs.Laws.Members.{Contains-map, Contains-from_map, SameMembers-map, All-same_members}
+use Rattle.hdt_dict.specs.Laws.Members.{Contains-map, Contains-from_map}
 use Rattle.hdt_dict.specs.Split.{IsSplit}
 use Rattle.hdt_dict.specs.Strings.{SameMembers}
 use Rattle.hdt_dict.specs.Laws.Strings.{member_cases}
 use Rattle.hdt_triples.specs.TripleSequences.{Triple}
 use Rattle.hdt_triples.specs.Uses.{role_component, Uses}
 use Rattle.hdt_file.specs.Denoted.{string_of, denoted_triple}
-use Rattle.hdt_file.specs.File.{GraphParts, role_counts}
+use Rattle.hdt_file.specs.File.{GraphParts}
 use Rattle.hdt_file.specs.Graph.{IsGraph}
 use Rattle.hdt_dict.specs.Dictionary.{role_strings, SectionLists}
 use Rattle.hdt_file.specs.declared.tight.SectionId.{SectionId}
@@ -23,12 +23,12 @@ use Rattle.hdt_build.specs.Graph.{IsEncodedGraph, subjects_of, predicates_of, ob
 use Rattle.hdt_build.specs.Inside.Rewriting.{section_role, IsUsedInBoth, RetainsId, IsIdAfter, IsRewrittenSection, AreRewrittenSections, with_new_ids, new_id}
 use Rattle.hdt_build.specs.Layouts.{denoted_by}
 use Rattle.hdt_build.specs.Inside.Ids.{IsIdOf, string_of_id}
+use Rattle.hdt_build.proofs.Denoting.{encoded_form}
 use Rattle.hdt_build.proofs.Distinct.{Distinct-ascending}
-use Rattle.hdt_build.proofs.RunMerging.{number_in_front, number_behind}
-use Rattle.hdt_build.proofs.DenotedStrings.{IsOf, all_of}
-use Rattle.hdt_build.proofs.StringsOfIds.{string_triple, same_strings, term_is, term_in}
+use Rattle.hdt_build.proofs.RunMerging.{number_in_front, number_behind, has_id}
+use Rattle.hdt_build.proofs.StringsOfIds.{term_is}
 use Rattle.hdt_build.proofs.RunOrder.{used_range, kept_used}
-use Rattle.hdt_triples.specs.Order.{IsInRange, AreAscending}
+use Rattle.hdt_triples.specs.Order.{AreAscending}
 
 -- the position of a string in two concatenated lists
 side : (xs ys : List (List ℕ)) (n : ℕ) → 1 ≤ n → n ≤ length (xs ++ ys) → ((n ≤ length xs) × (get_or xs (n - 1) [] ≡ string_of_id (xs ++ ys) n)) ⊎ Contains ys (string_of_id (xs ++ ys) n)
@@ -116,15 +116,10 @@ module _ (g : GraphParts) (h : IsGraph g) where
     put_other n used none = put.others (n - 1) (λ keep. none (subst (RetainsId g p) (back n used) keep))
 
     put_has : (n : ℕ) (x : List ℕ) → RetainsId g p n → string_of g (section_role p) n ≡ x → Contains strings x
-    put_has n x keep is =
-        let e = (put_number n keep).is_number in
-        subst (Contains strings) (e.is ∙ is) (term_in strings (put_number n keep).number e.from_one e.within)
+    put_has n x keep is = has_id (put_number n keep) is
 
   module _ (sh su pr ob : List (List ℕ)) (s0 s1 s2 p0 p1 o0 o1 : List ℕ) (a : IsRewrittenSection g parts.Shared 0 sh s0 s1) (b : IsRewrittenSection g parts.Subjects (length sh) su s1 s2)
       (c : IsRewrittenSection g parts.Predicates 0 pr p0 p1) (e : IsRewrittenSection g parts.Objects (length sh) ob o0 o1) where
-    the_sections : SectionLists
-    the_sections = record { shared = sh; subjects = su; predicates = pr; objects = ob }
-
     both_strings : (x : List ℕ) → Contains sh x → Contains (subjects_of (denoted_by g)) x × Contains (objects_of (denoted_by g)) x
     both_strings x there =
         let r = a.each x there in
@@ -200,28 +195,11 @@ module _ (g : GraphParts) (h : IsGraph g) where
 
   -- ---- the triples with new IDs
 
-  module _ (d : SectionLists) (numbers : NewIds) (r : AreRewrittenSections g d numbers) where
-    one_in_range : (t : Triple) → IsOf g t → IsInRange (role_counts d) (with_new_ids numbers t)
-    one_in_range t of =
-        let s = r.subjects_are t.0 (of.used Subject) in
-        let p = r.predicates_are t.1 (of.used Predicate) in
-        let o = r.objects_are t.2 (of.used Object) in
-        ((s.from_one, s.within), (p.from_one, p.within), (o.from_one, o.within))
-
-    one_denoted : (t : Triple) → IsOf g t → string_triple d (with_new_ids numbers t) ≡ denoted_triple g t
-    one_denoted t of = same_strings _ _ _ _ _ _ (r.subjects_are t.0 (of.used Subject)).is (r.predicates_are t.1 (of.used Predicate)).is (r.objects_are t.2 (of.used Object)).is
-
-    all_denoted : (ts : List Triple) → All (IsOf g) ts → map (string_triple d) (map (with_new_ids numbers) ts) ≡ map (denoted_triple g) ts
-    all_denoted [] all = refl
-    all_denoted (t ∷ ts) all =
-        let e = one_denoted t (All-head (IsOf g) t ts all) in
-        let f = all_denoted ts (All-tail (IsOf g) t ts all) in
-        λ i. e i ∷ f i
-
-    pub rewritten_form : (ts : List Triple) → AreAscending ts → SameMembers ts (map (with_new_ids numbers) g.triples) → IsEncodedGraph (denoted_by g) d ts
-    rewritten_form ts up same = record {
-      sections = r.sections;
-      ascending = up;
-      in_range = All-same_members (IsInRange (role_counts d)) (map (with_new_ids numbers) g.triples) ts same (All-map (IsInRange (role_counts d)) (with_new_ids numbers) g.triples (λ k t lt. one_in_range _ (all_of g h k t lt)));
-      denotes = subst (SameMembers (map (string_triple d) ts)) (all_denoted g.triples (all_of g h)) (SameMembers-map (string_triple d) ts (map (with_new_ids numbers) g.triples) same);
-    }
+  pub rewritten_form : (d : SectionLists) (numbers : NewIds) → AreRewrittenSections g d numbers
+      → (ts : List Triple) → AreAscending ts → SameMembers ts (map (with_new_ids numbers) g.triples) → IsEncodedGraph (denoted_by g) d ts
+  rewritten_form d numbers r =
+      encoded_form d g.triples (with_new_ids numbers) (denoted_triple g) (λ t there. (
+        r.subjects_are t.0 (Contains-map (role_component Subject) g.triples t there),
+        r.predicates_are t.1 (Contains-map (role_component Predicate) g.triples t there),
+        r.objects_are t.2 (Contains-map (role_component Object) g.triples t there),
+      )) r.sections

@@ -6,23 +6,13 @@ use Rattle.std.specs.Cmp.Lexicographic.{nat_list_cmp_total}
 use Rattle.std.proofs.lemmas.Bool.{cases_lt, cases_eq}
 use Rattle.std.proofs.lemmas.List.{get_or_push, get_or_append_left, get_or-append_right, length_push, length-append, length-set, get_or-set_same, get_or-set_other}
 use Rattle.std.proofs.lemmas.List.Elements.{Contains-push_cases, Contains-get_or}
-use Rattle.std.proofs.lemmas.Map.Keys.{Less-from_sorted, sorted_from_all_adjacent}
+use Rattle.std.proofs.lemmas.Map.Keys.{sorted_from_all_adjacent}
 use Rattle.hdt_front.specs.Order.{IsAscending, string_cmp}
-use Rattle.hdt_build.specs.Inside.Rewriting.{IsIdAfter}
+use Rattle.hdt_build.specs.Inside.Rewriting.{IsIdAfter, IsWrittenSection}
 use Rattle.hdt_build.specs.Inside.Ids.{IsIdOf}
-use Rattle.hdt_build.proofs.StringsOfIds.{term_is}
-
--- ---- one more string
-
-ascends_more : (xs : List (List ℕ)) (y : List ℕ) → IsAscending xs → ((x : List ℕ) → Contains xs x → string_cmp x y ≡ Less) → IsAscending (xs ++ y ∷ [])
-ascends_more xs y up below = sorted_from_all_adjacent nat_list_cmp_total (xs ++ y ∷ []) [] (λ k lt.
-    let long = length_push xs y in
-    elim (cases_lt (k + 1) (length xs)) [
-      | inl inside ↦ rw (get_or_append_left xs (y ∷ []) [] k (omega (arith, inside)), get_or_append_left xs (y ∷ []) [] (k + 1) inside) (Less-from_sorted string_cmp xs k (k + 1) [] up (omega arith) inside)
-      | inr last ↦
-          let at : length xs ≡ k + 1 = omega (arith, lt, last, long) in
-          rw (get_or_append_left xs (y ∷ []) [] k (omega (arith, at)), get_or_push xs y [] (k + 1) at) (below (get_or xs k []) (Contains-get_or xs k [] (omega (arith, at))))
-    ])
+use Rattle.hdt_build.specs.Inside.SortedEntries.{last_of}
+use Rattle.hdt_build.proofs.Deduplication.{ascends_on}
+use Rattle.hdt_build.proofs.StringsOfIds.{term_is, term_in}
 
 -- an ID in a list is one in a longer list, and after another list
 pub number_in_front : (xs ys : List (List ℕ)) (x : List ℕ) (n : ℕ) → IsIdOf xs x n → IsIdOf (xs ++ ys) x n
@@ -44,6 +34,9 @@ number_behind xs ys x v h =
       within = omega (arith, to, is, length-append xs ys);
       is = term_is (xs ++ ys) v (omega (arith, from, is)) ∙ (get_or-append_right xs ys (length xs) (v - 1) [] refl (omega (arith, from, is)) ∙ (ap (λ (i : ℕ). get_or ys i []) at ∙ (sym (term_is ys n from) ∙ h.is_number.is)));
     }
+
+pub has_id : {count : ℕ} {strings : List (List ℕ)} {y x : List ℕ} {v : ℕ} → IsIdAfter count strings y v → y ≡ x → Contains strings x
+has_id {strings = strings} h is = subst (Contains strings) (h.is_number.is ∙ is) (term_in strings h.number h.is_number.from_one h.is_number.within)
 
 last_number : (xs : List (List ℕ)) (x : List ℕ) → IsIdOf (xs ++ x ∷ []) x (length xs + 1)
 last_number xs x = record {
@@ -105,13 +98,26 @@ module _ (keeps : ℕ → Type 0) (string : ℕ → List ℕ) (count : ℕ) (bef
     below = λ x there k _. absurd (omega (arith, there.1));
   }
 
+  -- no string remains
+  pub finished : (strings : List (List ℕ)) (after : List ℕ) (ahead : ℕ → Type 0) → InWork keeps string ahead count strings before after → ((k : ℕ) → ahead k → ⊥) → IsWrittenSection keeps string count strings before after
+  finished strings after ahead h none = record {
+    ascend = h.ascend;
+    each = h.each;
+    numbers = λ k keep. elim (h.numbers k keep) [
+      | inl more ↦ absurd (none k more)
+      | inr noted ↦ noted
+    ];
+    others = h.others;
+    long = h.long;
+  }
+
   -- the string at an index is written
   module _ (strings : List (List ℕ)) (after : List ℕ) (ahead rest : ℕ → Type 0) (h : InWork keeps string ahead count strings before after) where
     one_more : (n v : ℕ) → keeps n → ahead n → n < length after → v ≡ count + (length strings + 1)
         → ((k : ℕ) → keeps k → ahead k → (k ≡ n) ⊎ rest k) → ((k : ℕ) → rest k → ahead k) → ((k : ℕ) → rest k → string_cmp (string n) (string k) ≡ Less)
         → InWork keeps string rest count (strings ++ string n ∷ []) before (set after n v)
     one_more n v kept here in' is cases still above = record {
-      ascend = ascends_more strings (string n) h.ascend (λ x there. h.below x there n here);
+      ascend = ascends_on strings (string n) h.ascend (λ some. h.below (last_of strings) (Contains-get_or strings (length strings - 1) [] (omega (arith, some))) n here);
       each = λ x there. elim (Contains-push_cases strings (string n) x there) [
         | inl old ↦ h.each x old
         | inr same ↦ (n, kept, same)

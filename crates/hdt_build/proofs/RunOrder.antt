@@ -9,9 +9,10 @@ use Rattle.hdt_wire.specs.declared.role.Role.TheVariants.{Subject, Predicate, Ob
 use Rattle.hdt_front.specs.Section.{AreSectionStrings}
 use Rattle.hdt_dict.specs.Laws.Members.{Contains-from_map}
 use Rattle.hdt_front.specs.Order.{string_cmp}
+use Rattle.hdt_triples.specs.Order.{IsInRange}
 use Rattle.hdt_triples.specs.Uses.{role_component, Uses}
 use Rattle.hdt_file.specs.Denoted.{string_of}
-use Rattle.hdt_file.specs.File.{GraphParts}
+use Rattle.hdt_file.specs.File.{GraphParts, role_counts}
 use Rattle.hdt_file.specs.Graph.{IsGraph}
 use Rattle.hdt_dict.specs.Dictionary.{role_strings}
 use Rattle.hdt_file.specs.declared.tight.SectionId.{SectionId}
@@ -19,8 +20,8 @@ use Rattle.hdt_file.specs.declared.tight.SectionId.TheVariants as parts
 use Rattle.hdt_build.specs.Inside.Rewriting.{section_role, RetainsId, first_run_end, second_run_end}
 use Rattle.hdt_build.specs.Inside.Ids.{string_of_id}
 use Rattle.hdt_build.proofs.Distinct.{Distinct, Distinct-ascending, Distinct-append}
-use Rattle.hdt_build.proofs.DenotedStrings.{IsOf, all_of}
-use Rattle.hdt_build.proofs.StringsOfIds.{term_is}
+use Rattle.hdt_build.proofs.DenotedStrings.{all_in_range}
+use Rattle.hdt_build.proofs.StringsOfIds.{in_role, term_is}
 
 -- ---- the string at an index, from 0
 
@@ -50,8 +51,8 @@ module _ (g : GraphParts) (h : IsGraph g) where
   pub used_range : (role : Role) (n : ℕ) → Uses g.triples role n → (1 ≤ n) × (n ≤ length (role_strings g.dictionary role))
   used_range role n used =
       let t = Contains-from_map (role_component role) g.triples n used in
-      let of = All-contains (IsOf g) g.triples t.0 (all_of g h) t.1 in
-      (subst (λ (m : ℕ). 1 ≤ m) t.2 (of.from role), subst (λ (m : ℕ). m ≤ length (role_strings g.dictionary role)) t.2 (of.to role))
+      let range = All-contains (IsInRange (role_counts g.dictionary)) g.triples t.0 (all_in_range g h) t.1 in
+      subst (λ (m : ℕ). (1 ≤ m) × (m ≤ length (role_strings g.dictionary role))) t.2 (in_role g.dictionary role t.0 range)
 
   pub distinct : (role : Role) → Distinct (role_strings g.dictionary role)
   distinct Subject = Distinct-append g.dictionary.shared g.dictionary.subjects h.shared_subjects (Distinct-ascending _ h.shared.ascend) (Distinct-ascending _ h.subjects.ascend)

@@ -5,7 +5,7 @@ use Rattle.std.proofs.lemmas.List.{get_or_past}
 use Rattle.std.proofs.lemmas.Map.Keys.{Less-from_sorted}
 use Rattle.hdt_front.specs.Order.{IsAscending, string_cmp}
 use Rattle.hdt_build.specs.Inside.Filtering.{flag_at, IsFilteredSection}
-use Rattle.hdt_build.proofs.RunMerging.{InWork, Ahead, begun, taken}
+use Rattle.hdt_build.proofs.RunMerging.{InWork, Ahead, begun, taken, finished}
 
 -- a flag is true only before the end
 pub flag_before : (flags : List Bool) (k : ℕ) → flag_at flags k ≡ true → k < length flags
@@ -56,16 +56,7 @@ module _ (xs : List (List ℕ)) (up : IsAscending xs) (keeps : ℕ → Type 0) (
         still k (inr m) = inr m
 
     pub all_filled : length xs ≤ i → IsFilteredSection xs keeps count strings before after
-    all_filled end = record {
-      ascend = h.ascend;
-      each = h.each;
-      numbers = λ k keep. elim (h.numbers k keep) [
-        | inl more ↦ absurd (nothing_ahead k more)
-        | inr noted ↦ noted
-      ];
-      others = h.others;
-      long = h.long;
-    }
+    all_filled end = finished keeps text count before strings after (Ahead i (length xs) (length xs) (length xs)) h nothing_ahead
       where
         nothing_ahead : (k : ℕ) → Ahead i (length xs) (length xs) (length xs) k → ⊥
         nothing_ahead k (inl m) = omega (arith, m.0, m.1, end)

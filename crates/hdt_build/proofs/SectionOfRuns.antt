@@ -14,7 +14,7 @@ use Rattle.hdt_file.specs.declared.tight.SectionId.{SectionId}
 use Rattle.hdt_build.specs.declared.section_run.SectionRun.{SectionRun}
 use Rattle.hdt_build.specs.Inside.Rewriting.{section_role, RetainsId, first_run_end, second_run_end, IsValidRun, IsRunFrom, IsRewrittenSection, HasPrefixLength, PrefixesDecideOrder}
 use Rattle.hdt_build.proofs.PrefixOrder.{last_in, tell, last_less}
-use Rattle.hdt_build.proofs.RunMerging.{InWork, Ahead, turn, begun, taken}
+use Rattle.hdt_build.proofs.RunMerging.{InWork, Ahead, turn, begun, taken, finished}
 use Rattle.hdt_build.proofs.RunOrder.{kept_before, cut_before, run_up, run_apart}
 
 greater_by : (x y : List ℕ) (o : Ordering) → string_cmp x y ≡ o → string_cmp x y ≢ Less → x ≢ y → string_cmp y x ≡ Less
@@ -83,16 +83,8 @@ module _ (g : GraphParts) (h : IsGraph g) (p : SectionId) (count : ℕ) (before 
             ]
 
     pub all_put : one.end ≤ one.at → two.end ≤ two.at → IsRewrittenSection g p count strings before after
-    all_put one_over two_over = record {
-      ascend = work.ascend;
-      each = work.each;
-      numbers = λ k keep. elim (work.numbers k keep) [
-        | inl more ↦ elim more [
-          | inl m ↦ absurd (omega (arith, m.0, m.1, one_over, a_end))
-          | inr m ↦ absurd (omega (arith, m.0, m.1, two_over, b_end))
-        ]
-        | inr noted ↦ noted
-      ];
-      others = work.others;
-      long = work.long;
-    }
+    all_put one_over two_over = finished (λ k. RetainsId g p (k + 1)) text count before strings after (Ahead one.at (first_run_end g p) two.at (second_run_end g p)) work over
+      where
+        over : (k : ℕ) → Ahead one.at (first_run_end g p) two.at (second_run_end g p) k → ⊥
+        over k (inl m) = omega (arith, m.0, m.1, one_over, a_end)
+        over k (inr m) = omega (arith, m.0, m.1, two_over, b_end)

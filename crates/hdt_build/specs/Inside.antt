@@ -1,5 +1,4 @@
 pub mod Documents
-pub mod Keys
 pub mod Rewriting
 pub mod Ids
 pub mod Filtering

@@ -8,7 +8,6 @@ ghost use Rattle.hdt_build.specs.Reading.{HasDictionaryStrings};
 use crate::dedup::dedup_strings;
 use crate::section_filter::{SectionsAndIds, write_sections};
 use crate::sections::SectionWriters;
-use crate::string_sort::sort_strings;
 use crate::triples::{map_ids, sort_dedup_triples};
 use hdt_dict::Arena;
 use std::alloc::{AllocError, Global};
@@ -35,9 +34,7 @@ pub(crate) fn encode_graph(
     ensures blocks { IfOk result (λ made. HaveBlockSize block_size made.sections) }
 {
     let mut triples = ids;
-    let ordered = sort_strings(alloc, &list)?;
-    let (strings, ranks) = dedup_strings(alloc, &list, ordered.as_slice())?;
-    drop(ordered);
+    let (strings, ranks) = dedup_strings(alloc, &list)?;
     map_ids(
         &mut triples,
         ranks.as_slice(),

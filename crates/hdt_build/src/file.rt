@@ -17,17 +17,19 @@ use std::alloc::{AllocError, Global};
 
 /// Appends the head of a file: the global control information, that of the header, and the header body. An error may
 /// leave its first bytes.
-#[tactic(auto, using(crate::proofs::Heads::length_no_zero))]
+#[tactic(auto, using(crate::proofs::Heads::length_no_zero, std::proofs::Common::append_assoc), unfolding(crate::specs::Canonical::canonical_head))]
 pub(crate) fn put_head(alloc: Global, header: &[u8], out: &mut Vec<u8>) -> Result<(), AllocError>
     ensures { OnOk result (out.new.items ≡ out.old.items ++ canonical_head header.now) }
 {
     let properties = length_property(alloc, header.len() as u64)?;
     put_control(Kind::Global, b"", out)?;
     put_control(Kind::Header, properties.as_slice(), out)?;
-    out.extend_from_slice(header)
+    out.extend_from_slice(header)?;
+    Ok(())
 }
 
 /// The bytes of the canonical file. The sections are freed before the triples are written.
+#[tactic(auto, using(std::proofs::Common::append_assoc), unfolding(crate::specs::Canonical::canonical_file))]
 fn canonical_file(alloc: Global, header: &[u8], form: EncodedGraph) -> Result<Vec<u8>, AllocError>
     requires sections { AreSections (lists_of_sections form.sections) }
     requires triples { AreWritable form.triples.items }

@@ -14,12 +14,14 @@ const DATASET: &[u8] =
 const TRIPLES: &[u8] = b"> <http://rdfs.org/ns/void#triples> \"";
 
 /// Appends the type line: the base is an `hdt:Dataset`.
+#[tactic(auto, using(std::proofs::Common::append_assoc), unfolding(crate::specs::Header::type_line))]
 fn put_type(base: &[u8], out: &mut Vec<u8>) -> Result<(), AllocError>
     ensures { OnOk result (out.new.items ≡ out.old.items ++ type_line base.now) }
 {
     out.push(b'<')?;
     out.extend_from_slice(base)?;
-    out.extend_from_slice(DATASET)
+    out.extend_from_slice(DATASET)?;
+    Ok(())
 }
 
 /// Appends the count line: the base has this number of triples.

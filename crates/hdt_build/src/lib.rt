@@ -22,9 +22,9 @@
 //! ```
 //!
 //! Modules, in reading order. Building: `options` and `fault`; `interner`, the list of strings; `queue` and
-//! `document`, triples as indices of strings; `reading`, the lines of the input; `keys`, `ties`, `merging` and
-//! `string_sort`, sorting the strings; `prefetch`; `dedup`, dropping duplicates; `section_filter`, the four sections
-//! and the IDs; `triples` and `encoding`, the encoded graph; `header` and `file`, its bytes; `building`.
+//! `document`, triples as indices of strings; `reading`, the lines of the input; `string_sort` and `dedup`, the
+//! strings in order, each once; `prefetch`; `section_filter`, the four sections and the IDs; `triples` and `encoding`,
+//! the encoded graph; `header` and `file`, its bytes; `building`.
 //! Rewriting: `retained`, which strings remain; `section_run`, a cursor over them; `sections` and `id_map`, the new
 //! sections and IDs; `rewriting`. `laws`: properties of both.
 #![tactic(auto)]
@@ -38,9 +38,7 @@ mod file;
 mod header;
 mod id_map;
 mod interner;
-mod keys;
 mod laws;
-mod merging;
 mod options;
 mod prefetch;
 mod queue;
@@ -51,7 +49,6 @@ mod section_filter;
 mod section_run;
 mod sections;
 mod string_sort;
-mod ties;
 mod triples;
 
 pub use building::{build, build_bytes};

@@ -1,7 +1,5 @@
 //! Prefetching strings that are scattered in memory: the first and the last byte of several are loaded without a branch
 //! on them, so that the loads overlap.
-ghost use Rattle.std.specs.Prelude.{◌≢◌, ◌<◌, ◌-◌, length, IsTrue, IsFalse};
-ghost use Rattle.hdt_build.specs.Inside.SortedEntries.{entry_key};
 
 use hdt_dict::Arena;
 
@@ -22,15 +20,6 @@ pub(crate) fn prefetched_to(end: usize, sum: usize) -> usize {
     end.saturating_sub(sum.min(1))
 }
 
-/// Whether an entry has the same key as the previous one.
-pub(crate) fn is_tied(entries: &[(u64, usize)], at: usize) -> bool
-    requires { at < length entries.now }
-    ensures some { IsTrue result → 0 < at }
-    ensures apart { IsFalse result → 0 < at → entry_key entries.now at ≢ entry_key entries.now (at - 1) }
-{
-    at > 0 && entries[at].0 == entries[at - 1].0
-}
-
 /// The same sum for the string at an index; 0 past the end.
 fn touch_ends_at(list: &Arena, place: usize) -> usize {
     if place < list.len() {
@@ -40,9 +29,9 @@ fn touch_ends_at(list: &Arena, place: usize) -> usize {
     }
 }
 
-/// Prefetches the strings of the next entries with equal keys, unless this was done; returns the index up to which
-/// entries are prefetched.
-pub(crate) fn prefetch_tied(
+/// Prefetches the strings of the next entries, unless this was done; returns the index up to which entries are
+/// prefetched.
+pub(crate) fn prefetch_entries(
     list: &Arena,
     entries: &[(u64, usize)],
     at: usize,
@@ -54,11 +43,7 @@ pub(crate) fn prefetch_tied(
     let end = entries.len().min(at.saturating_add(PREFETCH_COUNT));
     let mut sum: usize = 0;
     for next in at..end {
-        if is_tied(entries, next) {
-            sum = sum
-                .wrapping_add(touch_ends_at(list, entries[next - 1].1))
-                .wrapping_add(touch_ends_at(list, entries[next].1));
-        }
+        sum = sum.wrapping_add(touch_ends_at(list, entries[next].1));
     }
     prefetched_to(end, sum)
 }

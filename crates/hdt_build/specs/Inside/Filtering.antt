@@ -1,14 +1,12 @@
 -- The sections of triples over an ascending list of strings.
 use Rattle.std.specs.Prelude.{◌≡◌, ◌↔◌, ℕ, Bool, true, false, List, [], length, slice_index, slice_index_or}
-use Rattle.std.specs.List.{Contains}
 use Rattle.hdt_wire.specs.declared.role.Role.{Role}
 use Rattle.hdt_wire.specs.declared.role.Role.TheVariants.{Subject, Predicate, Object}
 use Rattle.hdt_dict.specs.Split.{IsSplit}
-use Rattle.hdt_front.specs.Order.{IsAscending}
 use Rattle.hdt_triples.specs.TripleSequences.{Triple}
 use Rattle.hdt_triples.specs.Uses.{Uses}
 use Rattle.hdt_build.specs.Graph.{subjects_of, predicates_of, objects_of, string_triples_of}
-use Rattle.hdt_build.specs.Inside.Rewriting.{IsIdAfter}
+use Rattle.hdt_build.specs.Inside.Rewriting.{IsWrittenSection}
 use Rattle.hdt_build.specs.Inside.Ids.{IsIdOf}
 use Rattle.hdt_dict.specs.Dictionary.{SectionLists, role_strings}
 
@@ -24,14 +22,9 @@ AreUseFlags ids role flags = (k : ℕ) → (flag_at flags k ≡ true) ↔ Uses i
 abbrev pub IsInFilter : List Bool → List Bool → Bool → ℕ → Type 0
 IsInFilter used other wanted k = (flag_at used k ≡ true) × (flag_at other k ≡ wanted)
 
--- The strings are those of xs at the indices that pass the filter, in ascending order. Their IDs, after `count` other
--- strings, are stored at these indices; all other entries are unchanged.
-pub record IsFilteredSection (xs : List (List ℕ)) (keeps : ℕ → Type 0) (count : ℕ) (strings : List (List ℕ)) (before after : List ℕ) : Type 0 where
-  pub ascend : IsAscending strings
-  pub each : (x : List ℕ) → Contains strings x → (k : ℕ) × keeps k × (slice_index_or xs k [] ≡ x)
-  pub numbers : (k : ℕ) → keeps k → IsIdAfter count strings (slice_index_or xs k []) (slice_index after k)
-  pub others : (k : ℕ) → (keeps k → ⊥) → slice_index after k ≡ slice_index before k
-  pub long : length after ≡ length before
+-- the strings are those of xs at the indices that pass the filter, with their IDs
+abbrev pub IsFilteredSection : List (List ℕ) → (ℕ → Type 0) → ℕ → List (List ℕ) → List ℕ → List ℕ → Type 0
+IsFilteredSection xs keeps = IsWrittenSection keeps (λ k. slice_index_or xs k [])
 
 -- at each index that triples use in a role, the ID of its string among the terms is stored
 abbrev pub HaveIds : List (List ℕ) → List Triple → Role → List (List ℕ) → List ℕ → Type 0

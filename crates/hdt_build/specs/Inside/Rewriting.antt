@@ -107,14 +107,18 @@ pub record IsIdAfter (count : ℕ) (terms : List (List ℕ)) (x : List ℕ) (v :
   pub is_number : IsIdOf terms x number
   pub value : v ≡ count + number
 
--- The strings are those that the section retains, in ascending order. Their new IDs, after `count` other strings, are
--- stored at their old indices; all other entries are unchanged.
-pub record IsRewrittenSection (g : GraphParts) (part : SectionId) (count : ℕ) (strings : List (List ℕ)) (before after : List ℕ) : Type 0 where
+-- The strings are those at the indices that a section keeps, in ascending order. Their IDs, after `count` other
+-- strings, are stored at these indices; all other entries are unchanged.
+pub record IsWrittenSection (keeps : ℕ → Type 0) (string : ℕ → List ℕ) (count : ℕ) (strings : List (List ℕ)) (before after : List ℕ) : Type 0 where
   pub ascend : IsAscending strings
-  pub each : (x : List ℕ) → Contains strings x → (k : ℕ) × RetainsId g part (k + 1) × (string_of g (section_role part) (k + 1) ≡ x)
-  pub numbers : (k : ℕ) → RetainsId g part (k + 1) → IsIdAfter count strings (string_of g (section_role part) (k + 1)) (slice_index after k)
-  pub others : (k : ℕ) → (RetainsId g part (k + 1) → ⊥) → slice_index after k ≡ slice_index before k
+  pub each : (x : List ℕ) → Contains strings x → (k : ℕ) × keeps k × (string k ≡ x)
+  pub numbers : (k : ℕ) → keeps k → IsIdAfter count strings (string k) (slice_index after k)
+  pub others : (k : ℕ) → (keeps k → ⊥) → slice_index after k ≡ slice_index before k
   pub long : length after ≡ length before
+
+-- the strings are those that the section of a graph retains, with their new IDs at their old indices
+abbrev pub IsRewrittenSection : GraphParts → SectionId → ℕ → List (List ℕ) → List ℕ → List ℕ → Type 0
+IsRewrittenSection g part = IsWrittenSection (λ k. RetainsId g part (k + 1)) (λ k. string_of g (section_role part) (k + 1))
 
 -- the new ID of an old one
 abbrev pub new_id : IdMap → ℕ → ℕ

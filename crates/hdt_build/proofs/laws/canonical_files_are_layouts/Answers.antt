@@ -1,4 +1,4 @@
-use Rattle.hdt_build.proofs.BuiltLayout.{built_layout}
+use Rattle.hdt_build.proofs.RewrittenFiles.{built_layout}
 use Rattle.hdt_build.proofs.Layouts.{canonical_layout}
 use Rattle.hdt_build.proofs.laws.canonical_files_are_layouts.Goals as goal
 

@@ -30,27 +30,14 @@ returns-clause-write g c = λ n is.
 pub returns-clause-unwritten : goal.returns-clause-unwritten
 returns-clause-unwritten g c = λ other. absurd (other c.in-Err.count refl)
 
-pub returns-in_err-bytes-clause-written : goal.returns-in_err-bytes-clause-written
-returns-in_err-bytes-clause-written g c =
+pub returns-in_err-bytes : goal.returns-in_err-bytes
+returns-in_err-bytes g c =
     let p = err_from_is_err_and c.from_residual.result c.from_residual.ensures.1 in
-    rw p.1 tt
-
-pub returns-in_err-bytes-clause-bad : goal.returns-in_err-bytes-clause-bad
-returns-in_err-bytes-clause-bad g c =
-    let p = err_from_is_err_and c.from_residual.result c.from_residual.ensures.1 in
-    rw (p.1, p.2) (λ is. c.in_err-bytes.ensures.bad.0 (cc), λ bad. let is = c.in_err-bytes.ensures.bad.1 bad in cc)
-
-pub returns-in_err-bytes-clause-write : goal.returns-in_err-bytes-clause-write
-returns-in_err-bytes-clause-write g c =
-    let p = err_from_is_err_and c.from_residual.result c.from_residual.ensures.1 in
-    rw (p.1, p.2) (λ n is. absurd (c.in_err-bytes.ensures.unwritten n is))
-
-pub returns-in_err-bytes-clause-well : goal.returns-in_err-bytes-clause-well
-returns-in_err-bytes-clause-well g c =
-    let p = err_from_is_err_and c.from_residual.result c.from_residual.ensures.1 in
-    rw p.1 tt
-
-pub returns-in_err-bytes-clause-unwritten : goal.returns-in_err-bytes-clause-unwritten
-returns-in_err-bytes-clause-unwritten g c =
-    let p = err_from_is_err_and c.from_residual.result c.from_residual.ensures.1 in
-    rw p.1 (λ _. refl)
+    let fault = c.in_err-bytes.ensures in
+    rw (p.1, p.2) (record {
+      written = tt;
+      bad = (λ is. fault.bad.0 (cc), λ bad. let is = fault.bad.1 bad in cc);
+      write = λ n is. absurd (fault.unwritten n is);
+      well = tt;
+      unwritten = λ _. refl;
+    })

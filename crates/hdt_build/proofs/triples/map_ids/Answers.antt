@@ -1,5 +1,5 @@
 use Rattle.std.proofs.Common.{arith}
-use Rattle.hdt_build.proofs.MappedTriples.{all_replaced}
+use Rattle.hdt_build.proofs.IndexTriples.{all_replaced}
 use Rattle.hdt_build.proofs.triples.map_ids.Goals as goal
 
 pub returns : goal.returns

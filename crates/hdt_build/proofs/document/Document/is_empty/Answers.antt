@@ -1,5 +1,5 @@
 use Rattle.std.proofs.Common.{◌≡◌, [], length, ap, arith}
-use Rattle.hdt_build.proofs.QueuedTriples.{no_ids}
+use Rattle.hdt_build.proofs.IndexTriples.{no_ids}
 use Rattle.hdt_build.proofs.document.Document.is_empty.Goals as goal
 
 pub returns-else-is_empty : goal.returns-else-is_empty

@@ -1,7 +1,7 @@
 use Rattle.std.proofs.Common.{◌∙◌, ap, arith}
 use Rattle.hdt_triples.specs.TripleSequences.{Triple}
 use Rattle.hdt_build.specs.Graph.{string_triples_of}
-use Rattle.hdt_build.proofs.DocumentExtension.{goes_on, sound_more, graph_more}
+use Rattle.hdt_build.proofs.IndexTriples.{goes_on, sound_more, graph_more}
 use Rattle.hdt_build.proofs.queue.Queue.add.Goals as goal
 
 pub returns-clause-graph : goal.returns-clause-graph
