@@ -1,7 +1,7 @@
-use Rattle.std.proofs.Common.{◌≡◌, ◌⊎◌, Bool, Err, MatchResult, false, inr}
+use Rattle.std.proofs.Common.{◌≡◌, ◌⊎◌, ℕ, List, Option, Bool, Err, MatchResult, false, inr}
 use Rattle.std.proofs.lemmas.Result.{IfErr-weaker, IfOk-weaker}
 use Rattle.hdt_wire.specs.Counted.{inner}
-use Rattle.hdt_tool.specs.Linting.{Lints, LintsOwnedUntilError}
+use Rattle.hdt_tool.specs.Linting.{Lints, LintsUntilError}
 use Rattle.hdt_tool.specs.declared.fault.ToolFault.{ToolFault}
 use Rattle.hdt_tool.proofs.Statuses.{command_status, if_done, lint_done, lint_status, lint_stopped, opened, refused_memory, refused_unopened}
 use Rattle.hdt_tool.proofs.lint.run_lint.Goals as goal
@@ -45,7 +45,7 @@ returns-clause-stopped g c not =
     let reported = g.T.Write.contents (inner c.args.reported.now) in
     let more_reported = g.T.Write.contents (inner c.lint_input.new.reported) in
     let Whole : Bool → Type 0 = λ faulty. MatchResult c.args.file (λ input. Lints c.args.keep c.args.most (left input) kept more_kept reported more_reported faulty) (λ _. ⊥) in
-    let Cut : ToolFault → Type 0 = λ e. MatchResult c.args.file (λ input. LintsOwnedUntilError c.args.keep (left input) kept more_kept reported more_reported e) (λ _. ⊥) in
+    let Cut : ToolFault → Type 0 = λ e. MatchResult c.args.file (λ input. (given : Option (List ℕ)) × LintsUntilError c.args.keep (left input) given kept more_kept reported more_reported e) (λ _. ⊥) in
     let Nothing : Type 0 = (c.lint_input.new.kept ≡ c.args.kept.now) × (c.lint_input.new.reported ≡ c.args.reported.now) in
     let whole =
     IfOk-weaker c.lint_input.result _ Whole
@@ -53,6 +53,6 @@ returns-clause-stopped g c not =
     c.new-input.ensures.inner h) c.lint_input.ensures.ok in
     let cut =
     IfErr-weaker c.lint_input.result _ (λ e. Nothing ⊎ Cut e)
-    (λ e h. inr (opened (λ input. LintsOwnedUntilError c.args.keep (left input) kept more_kept reported more_reported e) c.args.file c.in-Ok.input (inner c.new-input.result)
-    c.in-Ok.is c.new-input.ensures.inner (record { given = after; lints = h }))) c.lint_input.ensures.stopped in
+    (λ e h. inr (opened (λ input. (given : Option (List ℕ)) × LintsUntilError c.args.keep (left input) given kept more_kept reported more_reported e) c.args.file c.in-Ok.input (inner c.new-input.result)
+    c.in-Ok.is c.new-input.ensures.inner (after, h))) c.lint_input.ensures.stopped in
     lint_stopped {A = Nothing} Whole Cut c.lint_input.result c.lint_status.result c.lint_status.ensures whole cut not

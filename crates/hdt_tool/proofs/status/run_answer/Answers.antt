@@ -1,4 +1,4 @@
-use Rattle.std.proofs.Common.{◌≡◌, Err, MatchResult, false, inl, inr}
+use Rattle.std.proofs.Common.{◌≡◌, ℕ, List, Option, Err, MatchResult, false, inl, inr}
 use Rattle.std.proofs.lemmas.Result.{IfErr-weaker, IfOk-weaker}
 use Rattle.hdt_wire.specs.Counted.{inner, failures}
 use Rattle.hdt_tool.specs.Dialogue.{AnswersOverFile, AnswersOverFileUntilFault, plain_report}
@@ -28,11 +28,8 @@ returns-clause-done g c is =
     let input = g.R.Read.remaining (inner c.args.input.now) in
     let old = g.W.Write.contents (inner c.args.out.now) in
     let new = g.W.Write.contents (inner c.answer_file.new.out) in
-    opened (λ file. AnswersOverFile c.args.options (left file) input old new (plain_report false)) c.args.file c.in-Ok.file (inner c.new-file.result) c.in-Ok.is c.new-file.ensures.inner
-    (record {
-      after = left (inner c.answer_file.new.file);
-      answers = answers_done _ c.answer_file.result c.answers_status.result c.answers_status.ensures c.answer_file.ensures.ok is;
-    })
+    opened (λ file. (after : Option (List ℕ)) × AnswersOverFile c.args.options (left file) after input old new (plain_report false)) c.args.file c.in-Ok.file (inner c.new-file.result) c.in-Ok.is c.new-file.ensures.inner
+    (left (inner c.answer_file.new.file), answers_done _ c.answer_file.result c.answers_status.result c.answers_status.ensures c.answer_file.ensures.ok is)
 
 pub returns-clause-well : goal.returns-clause-well
 returns-clause-well g c is = if_done _ c.answer_file.result c.answers_status.result c.answers_status.ensures c.answer_file.ensures.writer_well is
@@ -48,13 +45,13 @@ returns-clause-stopped g c not =
     let f = failures c.args.out.now in
     let g' = failures c.answer_file.new.out in
     let whole =
-    IfOk-weaker c.answer_file.result _ (λ report. MatchResult c.args.file (λ file. AnswersOverFile c.args.options (left file) input old new report) (λ _. ⊥))
-    (λ report h. opened (λ file. AnswersOverFile c.args.options (left file) input old new report) c.args.file c.in-Ok.file (inner c.new-file.result) c.in-Ok.is
-    c.new-file.ensures.inner (record { after = after; answers = h })) c.answer_file.ensures.ok in
+    IfOk-weaker c.answer_file.result _ (λ report. MatchResult c.args.file (λ file. (after : Option (List ℕ)) × AnswersOverFile c.args.options (left file) after input old new report) (λ _. ⊥))
+    (λ report h. opened (λ file. (after : Option (List ℕ)) × AnswersOverFile c.args.options (left file) after input old new report) c.args.file c.in-Ok.file (inner c.new-file.result) c.in-Ok.is
+    c.new-file.ensures.inner (after, h)) c.answer_file.ensures.ok in
     let cut =
     IfErr-weaker c.answer_file.result _ _ (λ e h. elim h [
       | inl none ↦ inl none.2
-      | inr some ↦ inr (opened (λ file. AnswersOverFileUntilFault c.args.options (left file) input given old new f g' e) c.args.file c.in-Ok.file (inner c.new-file.result)
-          c.in-Ok.is c.new-file.ensures.inner (record { after = after; answers = some }))
+      | inr some ↦ inr (opened (λ file. (after : Option (List ℕ)) × AnswersOverFileUntilFault c.args.options (left file) after input given old new f g' e) c.args.file c.in-Ok.file (inner c.new-file.result)
+          c.in-Ok.is c.new-file.ensures.inner (after, some))
     ]) c.answer_file.ensures.stopped in
     answers_stopped _ _ c.answer_file.result c.answers_status.result c.answers_status.ensures whole cut

@@ -3,7 +3,7 @@ use Rattle.hdt_triples.specs.TripleSequences.{Triple}
 use Rattle.hdt_file.specs.GraphView.{graph_view}
 use Rattle.hdt_file.specs.SkippedLines.{HaveLines}
 use Rattle.hdt_tool.proofs.Dialogues.{kept_answered}
-use Rattle.hdt_tool.proofs.dialogue.kept_answer.Goals as goal
+use Rattle.hdt_tool.proofs.answering.Answerer.matches_answer.Goals as goal
 
 pub append_kept_triples-requires-clause-lines : goal.append_kept_triples-requires-clause-lines
 append_kept_triples-requires-clause-lines c =
