@@ -186,7 +186,7 @@ impl<'g> Model for Answerer<'g> {
 }
 
 impl<'g> Answerer<'g> {
-    /// With `options.skip` it takes a byte for each string of each role.
+    /// Answers requests over this graph. With `options.skip` it tests all strings once, and keeps a byte for each.
     pub(crate) fn new(
         alloc: Global,
         graph: &'g Graph<'g>,

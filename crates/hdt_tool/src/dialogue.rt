@@ -116,8 +116,9 @@ fn flush_if_due<W: Write>(
 /// are buffered. A line above the maximum length, also a comment or a blank line, is answered by `TooLong` and skipped
 /// in linear time.
 ///
-/// Memory: the longest request and the longest answer, what a [`TermWriter`](hdt_file::TermWriter) keeps, and 64 KiB each of input and output.
-/// With `options.skip` also a byte for each string of each role, and 24 bytes for each triple of the longest answer.
+/// Memory: the longest request and the longest answer, what a [`TermWriter`](hdt_file::TermWriter) keeps, and 64 KiB
+/// each of input and output. With `options.skip` also a byte for each string of each role, and 24 bytes for each triple
+/// of the longest answer.
 /// Time per request: that of its search and its text.
 ///
 /// # Errors

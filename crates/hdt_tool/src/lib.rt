@@ -2,8 +2,8 @@
 //! program itself, hdt, is one call of `process_status`.
 //!
 //! Contracts: the output of `run`, `print_output`, `answer_file`, `answer_requests` and `lint_input` is a stated
-//! function of the input, and an error that they return is the first one in the input. `status_of` calls them over files and streams,
-//! and its contract states the exit status.
+//! function of the input, and an error that they return is the first one in the input. `status_of` calls them over files
+//! and streams, and its contract states the exit status.
 //!
 //! Functions that state no cost take time and memory linear in their arguments.
 //!
