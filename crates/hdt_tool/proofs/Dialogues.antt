@@ -75,7 +75,7 @@ kept_answered g format skip count most found kept printed n old mid new counts s
     subst (λ (f : OutputFormat). PrintsTriples f g kept appends.text) (kept_format_is skip format skips)
     (subst (λ (b : Bool). PrintsTriples (kept_format b) g kept appends.text) counts (subst (λ (ts : List Triple). PrintsTriples (kept_format count) g ts appends.text) same appends.prints)) in (
       ended appends.text,
-      subst (λ (b : Bool). AnswersMatches b format g most found (made false n) (ended appends.text)) (sym skips) (refl, kept, skipped, (appends.text, prints, refl)),
+      subst (λ (b : Bool). AnswersMatches b format g most found (made false n) (ended appends.text)) (sym skips) (refl, (kept, skipped, (appends.text, prints, refl))),
       ended_is ∙ ap (λ (x : List ℕ). x ++ 10 ∷ []) appends.appended ∙ append_assoc old appends.text (10 ∷ []),
     )
 

@@ -1,6 +1,5 @@
 //! The answer to one line of requests.
 ghost use Rattle.std.specs.Prelude.{◌≡◌, ◌++◌, ℕ, List, Option, None, Some, true, false, option_map, if◌then◌else◌, IfOk, IfSome, OnErr};
-ghost use Rattle.hdt_file.specs.TermFlags.{AreTermFlags};
 ghost use Rattle.hdt_file.specs.TextWriting.{matches_if_given, limited};
 ghost use Rattle.hdt_file.specs.GraphView.{graph_view};
 ghost use Rattle.hdt_tool.specs.Dialogue.{AnswersFound, AnswersLine, AnswersMatches, AreFlagsIfSkipping, ReadsRequest, bounded_request_in, ended, fault_comment, given_strings, is_count, joined_reports, non_term_comment, plain_report, skips_in};

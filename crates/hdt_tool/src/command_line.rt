@@ -1,5 +1,5 @@
 //! Parsing a command line into a request.
-ghost use Rattle.std.specs.Prelude.{◌≡◌, IfOk, IfErr, codes, map};
+ghost use Rattle.std.specs.Prelude.{IfOk, IfErr, codes, map};
 ghost use Rattle.clap.specs.Words.{found_of, one_of, rows_of, kind_of};
 ghost use Rattle.hdt_tool.specs.Outcomes.{HasOut};
 ghost use Rattle.hdt_tool.specs.CommandLine.{IsFileAction, IsRequestOf, IsFileRequest, IsMakeRequest, IsMakeAction, Refutes, RefutesOrInvalidTerm, IsRefused, HasInvalidTerm, IsExplanation, IsFaultOfCommand, ParsesAsFlag, ParsesAsProgress, IsFaultOfKind, ParsesToRequest, ParsesToInvocation};

@@ -1,12 +1,12 @@
 //! All commands, from a reader to a writer. A command reads the complete input, makes its output, and then writes it.
 //! Only `strings` and `answer` write before their output is complete.
-ghost use Rattle.std.specs.Prelude.{◌≡◌, ◌≢◌, ◌<◌, ◌++◌, ◌+◌, ◌↔◌, ◌⊎◌, ℕ, List, IfOk, IfErr, OnOk, OnErr, IsErrOf, length, take};
+ghost use Rattle.std.specs.Prelude.{◌≡◌, ◌≢◌, ◌<◌, ◌++◌, ◌+◌, ◌↔◌, ◌⊎◌, ℕ, List, IfOk, IfErr, OnOk, OnErr, IsErrOf};
 ghost use Rattle.std.specs.Io.KnownBytes.{Appends};
 ghost use Rattle.hdt_wire.specs.Counted.{inner, failures};
 ghost use Rattle.hdt_build.specs.Options.{AreValidOptions};
 ghost use Rattle.hdt_tool.specs.Dialogue.{AnswersOverFile, AnswersOverFileUntilFault};
 ghost use Rattle.hdt_tool.specs.BuiltText.{counts_line};
-ghost use Rattle.hdt_tool.specs.Outcomes.{IsLayoutWith, ReadsAll, ReadsWith, Prints, IsFaultOfInput, IsFaultOfBytes, YieldsAppended, Completes, WritesOutputPrefix, InterruptsStrings, IfBuild, IsReadOnly, RewritesFile, FailsAfter};
+ghost use Rattle.hdt_tool.specs.Outcomes.{ReadsAll, ReadsWith, Prints, IsFaultOfInput, IsFaultOfBytes, YieldsAppended, Completes, WritesOutputPrefix, InterruptsStrings, IfBuild, IsReadOnly, RewritesFile, FailsAfter};
 ghost use Rattle.hdt_tool.specs.declared.request.Action.TheVariants as Action;
 
 use crate::dialogue::answer_requests;

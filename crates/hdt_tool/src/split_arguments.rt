@@ -1,7 +1,7 @@
 //! Reading the arguments of `split`.
-ghost use Rattle.std.specs.Prelude.{◌≡◌, ℕ, List, [], Option, None, Some, IfOk, IfErr, MatchOption, codes, map, string_bytes};
-ghost use Rattle.clap.specs.Words.{all_of, first_of, found_of, rows_of};
-ghost use Rattle.hdt_tool.specs.CommandLine.{IsDecimalOf, IsFileAction, IsPartCount, IsPartOfParts, IsSplitCommand, ParsesAsBlankNodes, ParsesAsPartCount, ParsesAsSplitOutput, Refutes, further_paths};
+ghost use Rattle.std.specs.Prelude.{◌≡◌, ℕ, Option, None, Some, IfOk, IfErr, MatchOption, codes, map, string_bytes};
+ghost use Rattle.clap.specs.Words.{first_of, found_of, rows_of};
+ghost use Rattle.hdt_tool.specs.CommandLine.{IsDecimalOf, IsFileAction, IsPartOfParts, IsSplitCommand, ParsesAsBlankNodes, ParsesAsPartCount, Refutes, further_paths};
 ghost use Rattle.hdt_tool.specs.declared.request.Action.{Action};
 ghost use Rattle.hdt_tool.specs.declared.request.BlankNodes.{BlankNodes};
 ghost use Rattle.hdt_tool.specs.declared.request.SplitOptions.{SplitOptions};

@@ -8,7 +8,7 @@
 //! | 2 | the command line is not valid, `build` or `lint` would write to its input, or `split` to a FOLDER that exists |
 //! | 3 | reading or writing failed |
 //! | 4 | out of memory |
-ghost use Rattle.std.specs.Prelude.{◌≡◌, ◌≢◌, ◌⊎◌, ◌+◌, ℕ, List, Option, true, false, [], Ok, Err, Some, IfOk, IfErr, OnOk, MatchResult, map, string_bytes, if◌then◌else◌, ◌≤◌};
+ghost use Rattle.std.specs.Prelude.{◌≡◌, ◌≢◌, ◌⊎◌, ◌+◌, ℕ, List, Option, true, false, [], Ok, Err, Some, IfOk, IfErr, MatchResult, map, string_bytes, ◌≤◌};
 ghost use Rattle.std.specs.IoError.{error_kind};
 ghost use Rattle.std.specs.Vec.Iter.{into_iter_items};
 ghost use Rattle.hdt_wire.specs.Counted.{inner, failures};

@@ -26,28 +26,28 @@ returns-in-Strings-clause-unwritten g c =
     rw c.in-Strings.is (IfErr-weaker c.print_file_strings.result _ _
     (λ e h. role_halts _ _ _ _ _ _ _ _ _ e _ c.in_ok-bytes.ensures.ok c.deref.ensures.value h) c.print_file_strings.ensures.err)
 
-pub returns-in_ok-text-clause-ok : goal.returns-in_ok-text-clause-ok
-returns-in_ok-text-clause-ok g c =
+pub returns-in_ok-text-in_default-clause-ok : goal.returns-in_ok-text-in_default-clause-ok
+returns-in_ok-text-in_default-clause-ok g c =
     on_ok_weaker c.write_text.result (λ written. (
-      c.in_ok-text.text.items,
-      record { bytes = c.in_ok-bytes.bytes.items; read = c.in_ok-bytes.ensures.ok; holds = rw c.deref-in_default.ensures.value at c.in_ok-text.ensures.ok },
+      c.in_ok-text-in_default.text.items,
+      record { bytes = c.in_ok-bytes.bytes.items; read = c.in_ok-bytes.ensures.ok; holds = rw c.deref-in_default.ensures.value at c.in_ok-text-in_default.ensures.ok },
       rw c.deref-in_default-2.ensures.value at written,
     )) c.write_text.ensures.ok
 
-pub returns-in_ok-text-clause-told : goal.returns-in_ok-text-clause-told
-returns-in_ok-text-clause-told g c = told_writing c.write_text.result _ _ _ _ _ _ _ _ c.write_text.ensures.failed
+pub returns-in_ok-text-in_default-clause-told : goal.returns-in_ok-text-in_default-clause-told
+returns-in_ok-text-in_default-clause-told g c = told_writing c.write_text.result _ _ _ _ _ _ _ _ c.write_text.ensures.failed
 
-pub returns-in_ok-text-clause-write : goal.returns-in_ok-text-clause-write
-returns-in_ok-text-clause-write g c =
+pub returns-in_ok-text-in_default-clause-write : goal.returns-in_ok-text-in_default-clause-write
+returns-in_ok-text-in_default-clause-write g c =
     let left = g.R.Read.remaining in
-    let text = c.in_ok-text.text.items in
+    let text = c.in_ok-text-in_default.text.items in
     let printed : ReadsWith (left (inner c.args.input.now)) (left (inner c.read_all.new.input)) (λ bytes. Prints c.args.action.now bytes text) = record {
       bytes = c.in_ok-bytes.bytes.items;
       read = c.in_ok-bytes.ensures.ok;
-      holds = rw c.deref-in_default.ensures.value at c.in_ok-text.ensures.ok;
+      holds = rw c.deref-in_default.ensures.value at c.in_ok-text-in_default.ensures.ok;
     } in
     let makes = nothing_built c.args.action.now c.requires _ _ text [] printed in
     writes_prefix c.write_text.result _ _ _ _ _ text makes.built _ _ makes.yields (rw c.deref-in_default-2.ensures.value at c.write_text.ensures.failed)
 
-pub returns-in_ok-text-clause-unwritten : goal.returns-in_ok-text-clause-unwritten
-returns-in_ok-text-clause-unwritten g c = only_writing _ c.write_text.result _ _ _ _ _ c.write_text.ensures.failed
+pub returns-in_ok-text-in_default-clause-unwritten : goal.returns-in_ok-text-in_default-clause-unwritten
+returns-in_ok-text-in_default-clause-unwritten g c = only_writing _ c.write_text.result _ _ _ _ _ c.write_text.ensures.failed

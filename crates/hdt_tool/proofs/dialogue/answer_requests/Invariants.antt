@@ -9,8 +9,8 @@ use Rattle.hdt_tool.proofs.dialogue.answer_requests.Given as goal
 -- The lines that have been read, and the text of their answers.
 abbrev pub invariant-lines : goal.invariant-lines
 invariant-lines g l = (lines : List (ℕ × List ℕ)) × (text : List ℕ) × HasTakenLines l.lines (g.R.Read.remaining (inner l.fn.input)) (left l.lines (g.R.Read.remaining (inner l.input))) lines
-    × AnswersLines (graph_view l.graph) l.options lines l.report text × GainedButFor (g.W.Write.contents (inner l.fn.out)) (g.W.Write.contents (inner l.out)) text l.kept.items × (l.count ≡ length text)
-    × (failures l.out ≡ failures l.fn.out) × (failures l.input ≡ failures l.fn.input) × (l.lines.failed ≡ None) × (l.answerer ≡ (graph_view l.graph, l.options))
+    × AnswersLines (graph_view l.fn.graph) l.options lines l.report text × GainedButFor (g.W.Write.contents (inner l.fn.out)) (g.W.Write.contents (inner l.out)) text l.kept.items × (l.count ≡ length text)
+    × (failures l.out ≡ failures l.fn.out) × (failures l.input ≡ failures l.fn.input) × (l.lines.failed ≡ None) × (l.answerer ≡ (graph_view l.fn.graph, l.options))
     × ((l.kept.items ≡ []) ⊎ HasBufferedLine l.lines)
 
 abbrev pub decreases-lines : goal.decreases-lines

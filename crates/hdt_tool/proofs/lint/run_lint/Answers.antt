@@ -6,20 +6,6 @@ use Rattle.hdt_tool.specs.declared.fault.ToolFault.{ToolFault}
 use Rattle.hdt_tool.proofs.Statuses.{command_status, if_done, lint_done, lint_status, lint_stopped, opened, refused_memory, refused_unopened}
 use Rattle.hdt_tool.proofs.lint.run_lint.Goals as goal
 
-pub returns-in-Err-clause-statuses : goal.returns-in-Err-clause-statuses
-returns-in-Err-clause-statuses g c = command_status (Err c.file_fault.result) c.done.result c.done.ensures
-
-pub returns-in-Err-clause-done : goal.returns-in-Err-clause-done
-returns-in-Err-clause-done g c is = if_done {T = Unit {0}} (λ _. c.done.result ≡ 0) (Err c.file_fault.result) c.done.result c.done.ensures tt is
-
-pub returns-in-Err-clause-memory : goal.returns-in-Err-clause-memory
-returns-in-Err-clause-memory g c =
-    refused_memory _ c.args.file c.in-Err.why c.file_fault.result c.done.result c.in-Err.is c.file_fault.ensures.memory c.done.ensures
-
-pub returns-in-Err-clause-unopened : goal.returns-in-Err-clause-unopened
-returns-in-Err-clause-unopened g c =
-    refused_unopened _ c.args.file c.in-Err.why c.file_fault.result c.done.result c.in-Err.is c.file_fault.ensures.either c.done.ensures
-
 pub returns-clause-statuses : goal.returns-clause-statuses
 returns-clause-statuses g c = lint_status c.lint_input.result c.lint_status.result c.lint_status.ensures
 

@@ -7,23 +7,6 @@ use Rattle.hdt_tool.proofs.Outputs.{nothing_built}
 use Rattle.hdt_tool.proofs.Statuses.{command_status, faulted, if_done, not_one, opened, refused_memory, refused_unopened, still_at_1, stopped, unopened_status}
 use Rattle.hdt_tool.proofs.status.run_query.Goals as goal
 
-pub returns-in-Err-clause-statuses : goal.returns-in-Err-clause-statuses
-returns-in-Err-clause-statuses g c = command_status (Err c.file_fault.result) c.done.result c.done.ensures
-
-pub returns-in-Err-clause-done : goal.returns-in-Err-clause-done
-returns-in-Err-clause-done g c is = if_done {T = Unit {0}} (λ _. c.done.result ≡ 0) (Err c.file_fault.result) c.done.result c.done.ensures tt is
-
-pub returns-in-Err-clause-fault : goal.returns-in-Err-clause-fault
-returns-in-Err-clause-fault g c is = absurd (not_one c.done.result (unopened_status c.file_fault.result c.done.result c.file_fault.ensures.either c.done.ensures) is)
-
-pub returns-in-Err-clause-memory : goal.returns-in-Err-clause-memory
-returns-in-Err-clause-memory g c =
-    refused_memory _ c.args.file c.in-Err.error c.file_fault.result c.done.result c.in-Err.is c.file_fault.ensures.memory c.done.ensures
-
-pub returns-in-Err-clause-unopened : goal.returns-in-Err-clause-unopened
-returns-in-Err-clause-unopened g c =
-    refused_unopened _ c.args.file c.in-Err.error c.file_fault.result c.done.result c.in-Err.is c.file_fault.ensures.either c.done.ensures
-
 pub returns-clause-statuses : goal.returns-clause-statuses
 returns-clause-statuses g c = command_status c.print_output.result c.done-2.result c.done-2.ensures
 

@@ -13,4 +13,4 @@ pub returns-clause-ok : goal.returns-clause-ok
 returns-clause-ok c =
     let pushed : c.truncate_on_error.new.out.items ≡ c.append_kept_triples.new.out.items ++ 10 ∷ [] = search rules in
     rw (← c.self.view_is) (kept_answered _ c.self.inside.options.format c.self.inside.options.skip c.is_count-count.result c.self.inside.options.most _ c.in_ok-kept.kept.triples.items c.deref.result.now c.in_ok-kept.kept.skipped _ _ _
-    c.is_count-count.ensures ? c.in_ok-kept.ensures.kept c.deref.ensures.value c.in_ok-append_kept_triples.ensures.ok pushed)
+    c.is_count-count.ensures (rw c.in-Some.is at c.self.invariant.1).0 c.in_ok-kept.ensures.kept c.deref.ensures.value c.in_ok-append_kept_triples.ensures.ok pushed)
