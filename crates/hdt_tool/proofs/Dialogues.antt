@@ -27,8 +27,7 @@ use Rattle.hdt_tool.specs.TermReports.{kept_format}
 use Rattle.hdt_tool.specs.TriplesText.{AppendsTriples, PrintsTriples}
 use Rattle.hdt_triples.specs.TripleSequences.{Triple}
 use Rattle.hdt_file.specs.SkippedLines.{SkipsNonTerms}
-use Rattle.hdt_file.specs.TextWriting.{limited}
-use Rattle.hdt_tool.specs.Dialogue.{AnswersFound, AnswersLine, AnswersLines, AnswersMatches, AnswersRequest, AnswersUntilFault, AreFirstLines, HasTakenLines, FollowsLines, IsFaultOfLine, StopsAfterAnswers, RequestStrings, bounded_request_in, ended, given_strings, is_count, joined_reports, max_input_bytes, plain_report, skips_in}
+use Rattle.hdt_tool.specs.Dialogue.{AnswersKept, AnswersLine, AnswersLines, AnswersRequest, AnswersUntilFault, AreFirstLines, HasTakenLines, FollowsLines, IsFaultOfLine, StopsAfterAnswers, RequestStrings, bounded_request_in, ended, given_strings, is_count, joined_reports, max_input_bytes, plain_report, skips_in}
 
 -- Reports are joined in any order.
 abbrev made : Bool → ℕ → AnswerReport
@@ -69,20 +68,15 @@ kept_format_is skip Count h = refl
 
 pub kept_answered : (g : GraphParts) (format : OutputFormat) (skip count : Bool) (most : Option ℕ) (found kept printed : List Triple) (n : ℕ) (old mid new : List ℕ) → count ≡ is_count format → skips_in skip format ≡ true
     → SkipsNonTerms g most found kept n → printed ≡ kept → AppendsTriples (kept_format count) g printed old mid → new ≡ mid ++ 10 ∷ []
-    → (answer : List ℕ) × AnswersMatches (skips_in skip format) format g most found (made false n) answer × (new ≡ old ++ answer)
+    → (answer : List ℕ) × AnswersKept format g most found n answer × (new ≡ old ++ answer)
 kept_answered g format skip count most found kept printed n old mid new counts skips skipped same appends ended_is =
     let prints =
     subst (λ (f : OutputFormat). PrintsTriples f g kept appends.text) (kept_format_is skip format skips)
     (subst (λ (b : Bool). PrintsTriples (kept_format b) g kept appends.text) counts (subst (λ (ts : List Triple). PrintsTriples (kept_format count) g ts appends.text) same appends.prints)) in (
       ended appends.text,
-      subst (λ (b : Bool). AnswersMatches b format g most found (made false n) (ended appends.text)) (sym skips) (refl, (kept, skipped, (appends.text, prints, refl))),
+      (kept, skipped, (appends.text, prints, refl)),
       ended_is ∙ ap (λ (x : List ℕ). x ++ 10 ∷ []) appends.appended ∙ append_assoc old appends.text (10 ∷ []),
     )
-
--- The answer for all triples that were found.
-pub full_answered : (g : GraphParts) (format : OutputFormat) (skip : Bool) (most : Option ℕ) (found : List Triple) (fault : Bool) (answer : List ℕ) → skips_in skip format ≡ false → AnswersFound format g (limited most found) fault answer
-    → AnswersMatches (skips_in skip format) format g most found (plain_report fault) answer
-full_answered g format skip most found fault answer skips h = subst (λ (b : Bool). AnswersMatches b format g most found (plain_report fault) answer) (sym skips) (refl, h)
 
 -- One byte more than the maximum length is enough to see that a line is too long: such a prefix has the answer of the
 -- line.

@@ -12,7 +12,7 @@
 //! - `request` and `fault`: requests, and the errors of a command line and of a command;
 //! - `arguments` and `command_line`: parsing a command line with `clap` and hdt_usage's table of commands;
 //! - the modules `printed_*`, `listed_strings` and `counts`: output texts;
-//! - `queries`: the output of each command that only reads; `answering` and `dialogue`: requests over one graph;
+//! - `queries`: the output of each command that only reads; `dialogue`: requests over one graph;
 //! - `commands`: all commands, from a reader to a writer; `lint`: the one with two writers;
 //! - `split_arguments`, `splitting`: the command `split`;
 //! - `term_reports` and `reporting`: commands that count what has no form in N-Triples;
@@ -22,7 +22,6 @@
 //! - `files`, `atomic_replace`, `output_file`, `split_files` and `status`: the same over files and streams.
 #![tactic(auto)]
 
-mod answering;
 mod arguments;
 mod atomic_replace;
 mod command_line;

@@ -12,15 +12,23 @@ returns-in_err-lines-clause-stopped g c =
     let p = err_from_is_err_and c.from_residual.result c.from_residual.ensures.1 in
     rw (p.1, p.2) (nothing_answered c.lines_so_far.ensures.begins _ _ _ _ _ _)
 
-pub returns-in_err-answerer-clause-stopped : goal.returns-in_err-answerer-clause-stopped
-returns-in_err-answerer-clause-stopped g c =
-    let p = err_from_is_err_and c.from_residual-in_err-answerer.result c.from_residual-in_err-answerer.ensures.1 in
+pub returns-in_err-term_writer-clause-stopped : goal.returns-in_err-term_writer-clause-stopped
+returns-in_err-term_writer-clause-stopped g c =
+    let p = err_from_is_err_and c.from_residual-in_err-term_writer.result c.from_residual-in_err-term_writer.ensures.1 in
     rw (p.1, p.2) (nothing_answered c.lines_so_far.ensures.begins _ _ _ _ _ _)
+
+pub returns-in_err-flags-clause-stopped : goal.returns-in_err-flags-clause-stopped
+returns-in_err-flags-clause-stopped g c =
+    let p = err_from_is_err_and c.from_residual-in_err-flags.result c.from_residual-in_err-flags.ensures.1 in
+    rw (p.1, p.2) (nothing_answered c.lines_so_far.ensures.begins _ _ _ _ _ _)
+
+pub add_answer-requires-clause-flags : goal.add_answer-requires-clause-flags
+add_answer-requires-clause-flags g c = c.lines.invariant.11
 
 pub lines-init : goal.lines-init
 lines-init g c =
     let b = begun c.lines_so_far.ensures.begins c.in_ok-lines.lines (g.R.Read.remaining (inner c.args.input.now)) c.in_ok-lines.ensures in
-    ([], [], b.0, (c.plain_report-report.ensures, refl), ([], sym c.new-kept.ensures.items, Appends-nil _), refl, refl, refl, b.1, c.in_ok-answerer.ensures, inl c.new-kept.ensures.items)
+    ([], [], b.0, (c.plain_report-report.ensures, refl), ([], sym c.new-kept.ensures.items, Appends-nil _), refl, refl, refl, b.1, c.in_ok-term_writer.ensures _, inl c.new-kept.ensures.items, c.in_ok-flags.ensures)
 
 pub returns-in_err-write_pending-in-Ok-false-clause-stopped : goal.returns-in_err-write_pending-in-Ok-false-clause-stopped
 returns-in_err-write_pending-in-Ok-false-clause-stopped g c =
@@ -59,7 +67,7 @@ returns-in_err-count-in-Ok-clause-stopped g c =
     let p = err_from_is_err_and c.from_residual-in_err-count-in-Ok.result c.from_residual-in_err-count-in-Ok.ensures.1 in
     let inv = c.lines.invariant in
     let more = c.next_line.ensures.more _ inv.0 inv.2 (c.in-Ok-true.is ∙ ap Ok c.in-Ok-true.field-0-test) in
-    let this = rw (inv.9, c.line_number-line.ensures, c.deref.ensures.value) at c.in-Ok.ensures.ok in
+    let this = rw (c.line_number-line.ensures, c.deref.ensures.value) at c.in-Ok.ensures.ok in
     let whole = front_answered _ c.args.options (line_number c.next_line.new.lines) _ more.0 this.0 this.1 more.1 this.2 in
     rw (p.1, p.2) (cut_answer _ _ _ _ _ _ _ inv.0 (line_number c.next_line.new.lines, more.0) c.lines.report this.0 inv.1 c.lines.kept.items this.1 c.add_answer.new.out.items c.len-start.result c.lines.count _ _ _
     c.in_err-count-in-Ok.field-0.0 (gone_some _ _ _ _ inv.2) (gone_some _ _ _ _ more.2) inv.3 whole inv.4 this.3 (c.len-start.ensures ∙ c.lines.kept.ok.0) inv.5 inv.6 c.in_err-count-in-Ok.ensures.err)
@@ -68,7 +76,7 @@ pub lines-preserved : goal.lines-preserved
 lines-preserved g c =
     let inv = c.lines.invariant in
     let more = c.next_line.ensures.more _ inv.0 inv.2 (c.in-Ok-true.is ∙ ap Ok c.in-Ok-true.field-0-test) in
-    let this = rw (inv.9, c.line_number-line.ensures, c.deref.ensures.value) at c.in-Ok.ensures.ok in
+    let this = rw (c.line_number-line.ensures, c.deref.ensures.value) at c.in-Ok.ensures.ok in
     let answer = this.1 in
     let whole = front_answered _ c.args.options (line_number c.next_line.new.lines) _ more.0 this.0 answer more.1 this.2 in
     let line : ℕ × List ℕ = (line_number c.next_line.new.lines, more.0) in (
@@ -81,8 +89,9 @@ lines-preserved g c =
       c.in_ok-count-in-Ok.ensures.well ∙ inv.6,
       c.in-Ok-true.ensures.count ∙ inv.7,
       c.in-Ok-true.ensures.well,
-      c.in-Ok.ensures.same ∙ inv.9,
+      c.in-Ok.ensures.kept,
       kept_or_held _ c.has_buffered_line.result c.in_ok-count-in-Ok.ensures.none c.has_buffered_line.ensures.yes,
+      inv.11,
     )
 
 pub returns-in_err-write_pending-in-Err-add_answer-clause-stopped : goal.returns-in_err-write_pending-in-Err-add_answer-clause-stopped
