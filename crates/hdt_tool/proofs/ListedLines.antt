@@ -1,12 +1,11 @@
 -- The lines of the strings that begin with a prefix, one after another.
 use Rattle.std.proofs.Common.{◌≡◌, ◌⊎◌, ◌+◌, ◌-◌, ◌<◌, ◌≤◌, ℕ, zero, suc, Bool, true, List, [], ◌∷◌, ◌++◌, Option, None, Some, refl, sym, ap, subst, ◌∙◌, inl, inr, arith, length, take, drop, get_or, append_assoc, append-nil}
-use Rattle.std.proofs.Math.Numerals.{add-one}
-use Rattle.std.proofs.Math.Seq.{get_or-append_right, get_or-append_seam, take-length}
+use Rattle.std.proofs.Math.Seq.{get_or-append_right, take-length}
 use Rattle.std.proofs.Math.ListN.{get_or-append}
 use Rattle.std.proofs.lemmas.Bool.{cases_lt}
 use Rattle.std.proofs.lemmas.Grind.{get_or_default_zero}
 use Rattle.std.proofs.lemmas.List.{length-append, take_more}
-use Rattle.std.proofs.lemmas.Option.{slice_get-get_or, slice_get_within}
+use Rattle.std.proofs.lemmas.Option.{slice_get_within}
 use Rattle.std.proofs.lemmas.List.FromFn.{get_or-range_with_len, length-range_with_len}
 use Rattle.std.specs.List.{range_with_len}
 use Rattle.hdt_wire.specs.declared.role.Role.{Role}
@@ -14,7 +13,7 @@ use Rattle.hdt_dict.specs.Ids.{string_at_id, AppendsString}
 use Rattle.hdt_dict.specs.Iteration.{Progress, next_id}
 use Rattle.hdt_dict.specs.Prefixes.{IsInRanges, RangesAscend, SomeBeginsWith}
 use Rattle.hdt_dict.specs.declared.prefix.PrefixRanges.{PrefixRanges}
-use Rattle.hdt_tool.specs.ListedStrings.{AreAscendingIds, AreLinesOfIds, ArePrefixIds, IsFirstNotListed, IsLineOfId, IsLineFault, IsListedLine, IsListFault, IsNoTermString, range_ids}
+use Rattle.hdt_tool.specs.ListedStrings.{AreAscendingIds, AreLinesOfIds, ArePrefixIds, IsFirstNotListed, IsLineOfId, IsLineFault, IsListedLine, IsNoTermString, range_ids}
 use Rattle.hdt_tool.specs.declared.fault.ToolFault.{ToolFault}
 use Rattle.hdt_tool.specs.declared.fault.ToolFault.TheVariants.{NotATerm, OutOfMemory}
 use Rattle.hdt_tool.proofs.CountLines.{HasReturned, Steps, appended_is, around, lines_on, none_ahead, range_split, returned_on, string_is}

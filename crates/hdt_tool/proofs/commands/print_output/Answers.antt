@@ -1,6 +1,6 @@
-use Rattle.std.proofs.Common.{List, ℕ, []}
+use Rattle.std.proofs.Common.{[]}
 use Rattle.std.proofs.lemmas.Result.{IfErr-weaker, on_ok_weaker}
-use Rattle.hdt_wire.specs.Counted.{inner, failures}
+use Rattle.hdt_wire.specs.Counted.{inner}
 use Rattle.hdt_dict.specs.Dictionary.{role_strings}
 use Rattle.hdt_tool.specs.Outcomes.{Prints, ReadsWith}
 use Rattle.hdt_tool.specs.StringsText.{string_lines}

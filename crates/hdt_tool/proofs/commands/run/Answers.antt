@@ -1,17 +1,17 @@
-use Rattle.std.proofs.Common.{◌≡◌, ◌↔◌, ◌∙◌, ℕ, List, [], Ok, Err, IfErr, IsErrOf, OnErr, OnOk, ap, append-nil, length, refl, rules, subst, sym}
+use Rattle.std.proofs.Common.{◌≡◌, ◌↔◌, ◌∙◌, ℕ, List, Ok, Err, IfErr, IsErrOf, OnErr, OnOk, ap, length, rules, subst, sym}
 use Rattle.std.specs.Io.KnownBytes.{Appends}
-use Rattle.std.proofs.lemmas.Result.{IfErr-weaker, err_from_is_err_and, on_ok_weaker}
+use Rattle.std.proofs.lemmas.Result.{err_from_is_err_and, on_ok_weaker}
 use Rattle.std.specs.declared.alloc.Global.{Global}
 use Rattle.std.specs.declared.vec.Vec.{Vec}
 use Rattle.hdt_wire.specs.Counted.{inner, failures}
 use Rattle.hdt_build.specs.Options.{AreValidOptions}
 use Rattle.hdt_build.specs.declared.options.Options.{Options}
-use Rattle.hdt_tool.specs.Outcomes.{Completes, IfBuild, IsReadOnly, Prints, ReadsWith, IsFaultOfBytes, IsFaultOfInput, WritesOutputPrefix, Yields, YieldsAppended}
+use Rattle.hdt_tool.specs.Outcomes.{IfBuild, IsFaultOfBytes, IsFaultOfInput, Yields, YieldsAppended}
 use Rattle.hdt_tool.specs.declared.request.Action.{Action}
 use Rattle.hdt_tool.specs.declared.request.Action.TheVariants.{Rewrite}
 use Rattle.hdt_tool.specs.declared.fault.ToolFault.TheVariants.{BadOptions}
 use Rattle.hdt_tool.proofs.InputFaults.{fault_of_input}
-use Rattle.hdt_tool.proofs.Outputs.{IsWriteFault, completes, no_options, not_bad_writing, nothing_built, only_writing, read_only, restored, rewrites, told_writing, writes_prefix}
+use Rattle.hdt_tool.proofs.Outputs.{IsWriteFault, completes, no_options, not_bad_writing, nothing_built, only_writing, read_only, restored, rewrites, writes_prefix}
 use Rattle.hdt_tool.proofs.Rewriting.{not_error, same_error, still_bad}
 use Rattle.hdt_tool.proofs.commands.run.Goals as goal
 

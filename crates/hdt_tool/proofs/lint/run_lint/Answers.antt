@@ -1,9 +1,9 @@
-use Rattle.std.proofs.Common.{◌≡◌, ◌⊎◌, ℕ, List, Option, Bool, Err, MatchResult, false, inr}
+use Rattle.std.proofs.Common.{◌≡◌, ◌⊎◌, ℕ, List, Option, Bool, MatchResult, false, inr}
 use Rattle.std.proofs.lemmas.Result.{IfErr-weaker, IfOk-weaker}
 use Rattle.hdt_wire.specs.Counted.{inner}
 use Rattle.hdt_tool.specs.Linting.{Lints, LintsUntilError}
 use Rattle.hdt_tool.specs.declared.fault.ToolFault.{ToolFault}
-use Rattle.hdt_tool.proofs.Statuses.{command_status, if_done, lint_done, lint_status, lint_stopped, opened, refused_memory, refused_unopened}
+use Rattle.hdt_tool.proofs.Statuses.{if_done, lint_done, lint_status, lint_stopped, opened}
 use Rattle.hdt_tool.proofs.lint.run_lint.Goals as goal
 
 pub returns-clause-statuses : goal.returns-clause-statuses

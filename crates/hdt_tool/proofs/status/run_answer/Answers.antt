@@ -1,8 +1,8 @@
-use Rattle.std.proofs.Common.{◌≡◌, ℕ, List, Option, Err, MatchResult, false, inl, inr}
+use Rattle.std.proofs.Common.{ℕ, List, Option, MatchResult, false, inl, inr}
 use Rattle.std.proofs.lemmas.Result.{IfErr-weaker, IfOk-weaker}
 use Rattle.hdt_wire.specs.Counted.{inner, failures}
 use Rattle.hdt_tool.specs.Dialogue.{AnswersOverFile, AnswersOverFileUntilFault, plain_report}
-use Rattle.hdt_tool.proofs.Statuses.{answers_done, answers_status, answers_stopped, command_status, if_done, opened, refused_memory, refused_unopened}
+use Rattle.hdt_tool.proofs.Statuses.{answers_done, answers_status, answers_stopped, if_done, opened}
 use Rattle.hdt_tool.proofs.status.run_answer.Goals as goal
 
 pub returns-clause-statuses : goal.returns-clause-statuses

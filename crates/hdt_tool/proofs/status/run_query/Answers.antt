@@ -1,10 +1,10 @@
-use Rattle.std.proofs.Common.{ℕ, List, [], Option, Err}
+use Rattle.std.proofs.Common.{ℕ, List, [], Option}
 use Rattle.std.proofs.Math.Logic.{⊎_map}
 use Rattle.std.proofs.lemmas.Result.{IfErr-weaker}
 use Rattle.hdt_wire.specs.Counted.{inner, failures}
 use Rattle.hdt_tool.specs.Outcomes.{Completes, HasInputFault, InterruptsStrings, WritesOutputPrefix}
 use Rattle.hdt_tool.proofs.Outputs.{nothing_built}
-use Rattle.hdt_tool.proofs.Statuses.{command_status, faulted, if_done, not_one, opened, refused_memory, refused_unopened, still_at_1, stopped, unopened_status}
+use Rattle.hdt_tool.proofs.Statuses.{command_status, faulted, if_done, opened, still_at_1, stopped}
 use Rattle.hdt_tool.proofs.status.run_query.Goals as goal
 
 pub returns-clause-statuses : goal.returns-clause-statuses
