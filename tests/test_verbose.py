@@ -225,11 +225,14 @@ def test_look_ups(tmp_path: Path) -> None:
 
 
 def test_not_a_term(tmp_path: Path) -> None:
-    """How the string is printed that is no term."""
+    """How the string is printed that is no term, and which option does without it."""
     (tmp_path / "bad.hdt").write_bytes(errors.NOT_A_TERM)
-    assert verbose("dump", "bad.hdt", cwd=tmp_path) == [
-        "hdt: object 3 is not a term", "  bad.hdt", "  object 3: x",
-        "  hdt string FILE object 3 prints the string"]
+    lines = ["hdt: object 3 is not a term", "  bad.hdt", "  object 3: x", "  hdt string FILE object 3 prints the string"]
+    skipping = [*lines, "  --skip-non-terms leaves out its triples"]
+    assert verbose("dump", "bad.hdt", cwd=tmp_path) == skipping
+    assert verbose("find", "bad.hdt", "?", "?", "?", cwd=tmp_path) == skipping
+    assert verbose("count", "bad.hdt", "object", cwd=tmp_path) == [*lines, "  --raw prints strings, not terms"]
+    assert verbose("strings", "bad.hdt", "object", "--terms", cwd=tmp_path) == lines
 
 
 def tight_error(data: bytes, cwd: Path) -> list[str]:

@@ -6,8 +6,8 @@ use crate::open::graph_of;
 use hdt_probe::{Args, Reply};
 use hdt_terms::{LineFault, TermFault};
 use hdt_tool::{
-    AnswerOptions, AnswerReport, OutputFormat, Request, TermArgument, ToolFault, UsageFault,
-    answer_file, answer_requests, fault_line, parse_words, run, run_with_capacity, usage_line,
+    Action, AnswerOptions, AnswerReport, OutputFormat, Request, TermArgument, ToolFault, UsageFault,
+    answer_file, answer_requests, fault_line, parse_words, print_output, run, usage_line,
 };
 use hdt_wire::Fault;
 use std::alloc::AllocError;
@@ -96,9 +96,13 @@ fn reply_run_in(args: &mut Args<'_>, reply: &mut Reply) {
     let Some(request) = request_of(args, reply) else {
         return;
     };
-    if let Err(fault) = run_with_capacity(
-        args.alloc, &request, &mut input, capacity, &mut out, &mut made,
-    ) {
+    let outcome = match &request.action {
+        Action::Build(_) | Action::Rewrite(_) => {
+            run(args.alloc, &request, &mut input, &mut out, &mut made)
+        }
+        action => print_output(args.alloc, action, &mut input, capacity, &mut out),
+    };
+    if let Err(fault) = outcome {
         reply_tool_fault(fault, reply);
     }
     let _left = reply.finish_reader(input);

@@ -15,6 +15,7 @@ use Rattle.hdt_dict.specs.Dictionary.{role_strings}
 use Rattle.hdt_dict.specs.Ids.{string_at_id, AppendsString}
 use Rattle.hdt_dict.specs.Iteration.{Progress, stepped, stepped_by, next_id}
 use Rattle.hdt_file.specs.File.{GraphParts}
+use Rattle.hdt_tool.specs.StringsText.{AreLinesOf}
 use Rattle.hdt_tool.specs.TermCounts.{AreCountedIds, AreCountLines, AreFrequencyKeys, HasNoTermString, IsCountFault, IsCountLine, IsShown, PrintsCounts, frequency_key, role_ids}
 use Rattle.hdt_tool.specs.declared.fault.ToolFault.{ToolFault}
 use Rattle.hdt_tool.specs.declared.fault.ToolFault.TheVariants.{NotATerm, OutOfMemory}
@@ -24,11 +25,10 @@ shown_term raw string old new kind is h =
     subst (λ (b : Bool). (shown : List ℕ) × IsShown b string shown × (new ≡ old ++ shown)) (sym is) (_, (h.term, h.dictionary, h.is, refl), h.puts.grown)
 
 -- One more line.
-pub lines_on : (g : GraphParts) (role : Role) (raw : Bool) (ids : List ℕ) (n : ℕ) (text line : List ℕ) → AreCountLines g role raw ids text → IsCountLine g role raw n line
-    → AreCountLines g role raw (ids ++ n ∷ []) (text ++ line)
-lines_on g role raw [] n text line h one = (line, [], one, refl, ap (λ t. t ++ line) h ∙ sym (append-nil line))
-lines_on g role raw (m ∷ ids) n text line h one =
-    (h.0, h.1 ++ line, h.2, lines_on g role raw ids n h.1 line h.3 one, ap (λ t. t ++ line) h.4 ∙ append_assoc h.0 h.1 line)
+pub lines_on : (IsLine : ℕ → List ℕ → Type 0) (ids : List ℕ) (n : ℕ) (text line : List ℕ) → AreLinesOf IsLine ids text → IsLine n line → AreLinesOf IsLine (ids ++ n ∷ []) (text ++ line)
+lines_on IsLine [] n text line h one = (line, [], one, refl, ap (λ t. t ++ line) h ∙ sym (append-nil line))
+lines_on IsLine (m ∷ ids) n text line h one =
+    (h.0, h.1 ++ line, h.2, lines_on IsLine ids n h.1 line h.3 one, ap (λ t. t ++ line) h.4 ∙ append_assoc h.0 h.1 line)
 
 -- The line of an ID fails.
 abbrev pub LineFails : GraphParts → Role → Bool → ℕ → ToolFault → Type 0
@@ -64,11 +64,15 @@ range_last given =
     let e : 1 + given ≡ given + 1 = omega arith in
     range_split 1 given 1 ∙ ap (λ k. range_with_len 1 given ++ k ∷ []) e
 
+-- The strings that a cursor has returned, and those ahead of it.
+pub record HasReturned (strings : List (List ℕ)) (w : Progress) : Type 0 where
+  pub done : List (List ℕ)
+  pub all : strings ≡ done ++ w.ahead
+  pub given : w.given ≡ length done
+
 -- The strings that were returned have lines.
 pub record AreWalked (g : GraphParts) (role : Role) (raw : Bool) (w : Progress) (text : List ℕ) : Type 0 where
-  pub done : List (List ℕ)
-  pub all : role_strings g.dictionary role ≡ done ++ w.ahead
-  pub given : w.given ≡ length done
+  pub returned : HasReturned (role_strings g.dictionary role) w
   pub lines : AreCountLines g role raw (range_with_len 1 w.given) text
 
 -- One more string is returned.
@@ -92,27 +96,33 @@ steps_by w v (x ∷ xs) n is e step = record {
 pub steps : (w v : Progress) (n : ℕ) → Some n ≡ next_id w w.ahead → v ≡ stepped w → Steps w v n
 steps w v n e step = steps_by w v w.ahead n refl e step
 
+pub returned_on : (strings : List (List ℕ)) (w v : Progress) (n : ℕ) → HasReturned strings w → Steps w v n → HasReturned strings v
+returned_on strings w v n h s = record {
+  done = h.done ++ s.string ∷ [];
+  all = h.all ∙ ap (λ l. h.done ++ l) s.ahead ∙ sym (append_assoc h.done (s.string ∷ []) v.ahead);
+  given = omega (arith, s.given, h.given, length-append h.done (s.string ∷ []));
+}
+
 -- The string that is returned is that of its ID.
-pub string_is : (g : GraphParts) (role : Role) (raw : Bool) (w v : Progress) (n : ℕ) (text last : List ℕ) → AreWalked g role raw w text → Steps w v n → last ≡ v.last → string_at_id (role_strings g.dictionary role) n ≡ Some last
-string_is g role raw w v n text last h s is =
-    let all : role_strings g.dictionary role ≡ h.done ++ s.string ∷ v.ahead = h.all ∙ ap (λ l. h.done ++ l) s.ahead in
+pub string_is : (strings : List (List ℕ)) (w v : Progress) (n : ℕ) (last : List ℕ) → HasReturned strings w → Steps w v n → last ≡ v.last → string_at_id strings n ≡ Some last
+string_is strings w v n last h s is =
+    let all : strings ≡ h.done ++ s.string ∷ v.ahead = h.all ∙ ap (λ l. h.done ++ l) s.ahead in
     let number : n ≡ suc (length h.done) = s.number ∙ ap (λ k. k + 1) h.given ∙ add-one (length h.done) in
     let within : length h.done < length (h.done ++ s.string ∷ v.ahead) = omega (arith, length-append h.done (s.string ∷ v.ahead)) in
     rw (number, all) (slice_get-get_or (h.done ++ s.string ∷ v.ahead) (length h.done) [] within ∙ ap Some (get_or-append_seam h.done s.string v.ahead [] ∙ sym s.last ∙ sym is))
 
 pub walked_on : (g : GraphParts) (role : Role) (raw : Bool) (w v : Progress) (n : ℕ) (text new line : List ℕ) → AreWalked g role raw w text → Steps w v n → IsCountLine g role raw n line → new ≡ text ++ line → AreWalked g role raw v new
 walked_on g role raw w v n text new line h s one added = record {
-  done = h.done ++ s.string ∷ [];
-  all = h.all ∙ ap (λ l. h.done ++ l) s.ahead ∙ sym (append_assoc h.done (s.string ∷ []) v.ahead);
-  given = omega (arith, s.given, h.given, length-append h.done (s.string ∷ []));
+  returned = returned_on (role_strings g.dictionary role) w v n h.returned s;
   lines =
-      rw (s.given, range_last w.given, added) (lines_on g role raw (range_with_len 1 w.given) (w.given + 1) text line h.lines (subst (λ k. IsCountLine g role raw k line) s.number one));
+      rw (s.given, range_last w.given, added) (lines_on (IsCountLine g role raw) (range_with_len 1 w.given) (w.given + 1) text line h.lines (subst (λ k. IsCountLine g role raw k line) s.number one));
 }
 
 pub walk_fails : (g : GraphParts) (role : Role) (raw : Bool) (w v : Progress) (n : ℕ) (text : List ℕ) (e : ToolFault) → AreWalked g role raw w text → Steps w v n → LineFails g role raw n e → IsCountFault g role None raw e
 walk_fails g role raw w v n text e h s fails =
-    let all : role_strings g.dictionary role ≡ h.done ++ s.string ∷ v.ahead = h.all ∙ ap (λ l. h.done ++ l) s.ahead in
-    let len : length (role_strings g.dictionary role) ≡ w.given + suc (length v.ahead) = ap length all ∙ omega (arith, h.given, length-append h.done (s.string ∷ v.ahead)) in
+    let back = h.returned in
+    let all : role_strings g.dictionary role ≡ back.done ++ s.string ∷ v.ahead = back.all ∙ ap (λ l. back.done ++ l) s.ahead in
+    let len : length (role_strings g.dictionary role) ≡ w.given + suc (length v.ahead) = ap length all ∙ omega (arith, back.given, length-append back.done (s.string ∷ v.ahead)) in
     line_fails g role None raw (role_ids g role) (range_with_len 1 w.given) (range_with_len (w.given + 2) (length v.ahead)) text n e refl
     (ap (range_with_len 1) len ∙ range_more w.given v.ahead ∙ ap (λ k. range_with_len 1 w.given ++ k ∷ range_with_len (w.given + 2) (length v.ahead)) (sym s.number)) h.lines fails
 
@@ -152,7 +162,7 @@ decoded g role keys at key d appended old new h lt is empty done =
 pub keys_on : (g : GraphParts) (role : Role) (raw : Bool) (keys : List (ℕ × ℕ)) (at : ℕ) (key d : ℕ × ℕ) (text new line : List ℕ) → at < length keys → key ≡ get_or keys at d
     → AreCountLines g role raw (map (λ (k : ℕ × ℕ). k.1) (take at keys)) text → IsCountLine g role raw key.1 line → new ≡ text ++ line → AreCountLines g role raw (map (λ (k : ℕ × ℕ). k.1) (take (at + 1) keys)) new
 keys_on g role raw keys at key d text new line lt is lines one added =
-    rw (take_more keys at d lt, map-append (λ (k : ℕ × ℕ). k.1) (take at keys) (get_or keys at d ∷ []), ← is, added) (lines_on g role raw (map (λ (k : ℕ × ℕ). k.1) (take at keys)) key.1 text line lines one)
+    rw (take_more keys at d lt, map-append (λ (k : ℕ × ℕ). k.1) (take at keys) (get_or keys at d ∷ []), ← is, added) (lines_on (IsCountLine g role raw) (map (λ (k : ℕ × ℕ). k.1) (take at keys)) key.1 text line lines one)
 
 -- A list around one of its elements.
 pub around : {X : Type 0} (xs : List X) (i : ℕ) (d : X) → i < length xs → xs ≡ take i xs ++ get_or xs i d ∷ drop (suc i) xs

@@ -31,10 +31,7 @@ fault_of_input action before after bytes (Write n) read h = absurd h
 fault_of_input action before after bytes OutOfMemory read h = tt
 fault_of_input action before after bytes fault read h = record { bytes = bytes; read = read; holds = h }
 
--- An error for the bytes is never a read or write error.
-pub not_read : (action : Action) (bytes : List ℕ) (e : ToolFault) → IsFaultOfBytes action bytes e → e ≡ Read → ⊥
-not_read action bytes e h is = subst (IsFaultOfBytes action bytes) is h
-
+-- An error for the bytes is never a write error.
 pub not_write : (action : Action) (bytes : List ℕ) (e : ToolFault) (n : ℕ) → IsFaultOfBytes action bytes e → e ≡ Write n → ⊥
 not_write action bytes e n h is = subst (IsFaultOfBytes action bytes) is h
 

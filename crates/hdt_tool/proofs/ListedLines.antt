@@ -1,12 +1,11 @@
 -- The lines of the strings that begin with a prefix, one after another.
 use Rattle.std.proofs.Common.{◌≡◌, ◌⊎◌, ◌+◌, ◌-◌, ◌<◌, ◌≤◌, ℕ, zero, suc, Bool, true, List, [], ◌∷◌, ◌++◌, Option, None, Some, refl, sym, ap, subst, ◌∙◌, inl, inr, arith, length, take, drop, get_or, append_assoc, append-nil}
-use Rattle.std.proofs.Math.Numerals.{add-one}
-use Rattle.std.proofs.Math.Seq.{get_or-append_right, get_or-append_seam, take-length}
+use Rattle.std.proofs.Math.Seq.{get_or-append_right, take-length}
 use Rattle.std.proofs.Math.ListN.{get_or-append}
 use Rattle.std.proofs.lemmas.Bool.{cases_lt}
 use Rattle.std.proofs.lemmas.Grind.{get_or_default_zero}
 use Rattle.std.proofs.lemmas.List.{length-append, take_more}
-use Rattle.std.proofs.lemmas.Option.{slice_get-get_or, slice_get_within}
+use Rattle.std.proofs.lemmas.Option.{slice_get_within}
 use Rattle.std.proofs.lemmas.List.FromFn.{get_or-range_with_len, length-range_with_len}
 use Rattle.std.specs.List.{range_with_len}
 use Rattle.hdt_wire.specs.declared.role.Role.{Role}
@@ -14,10 +13,10 @@ use Rattle.hdt_dict.specs.Ids.{string_at_id, AppendsString}
 use Rattle.hdt_dict.specs.Iteration.{Progress, next_id}
 use Rattle.hdt_dict.specs.Prefixes.{IsInRanges, RangesAscend, SomeBeginsWith}
 use Rattle.hdt_dict.specs.declared.prefix.PrefixRanges.{PrefixRanges}
-use Rattle.hdt_tool.specs.ListedStrings.{AreAscendingIds, AreLinesOfIds, ArePrefixIds, IsFirstNotListed, IsLineOfId, IsLineFault, IsListedLine, IsListFault, IsNoTermString, range_ids}
+use Rattle.hdt_tool.specs.ListedStrings.{AreAscendingIds, AreLinesOfIds, ArePrefixIds, IsFirstNotListed, IsLineOfId, IsLineFault, IsListedLine, IsNoTermString, range_ids}
 use Rattle.hdt_tool.specs.declared.fault.ToolFault.{ToolFault}
 use Rattle.hdt_tool.specs.declared.fault.ToolFault.TheVariants.{NotATerm, OutOfMemory}
-use Rattle.hdt_tool.proofs.CountLines.{Steps, appended_is, around, none_ahead, range_split}
+use Rattle.hdt_tool.proofs.CountLines.{HasReturned, Steps, appended_is, around, lines_on, none_ahead, range_split, returned_on, string_is}
 
 -- ---- ranges
 
@@ -107,18 +106,12 @@ decoded_id strings ids at number d appended old new h lt is empty done =
 -- ---- lines
 
 -- One more line.
-lines_on : (strings : List (List ℕ)) (terms : Bool) (ids : List ℕ) (n : ℕ) (text line : List ℕ) → AreLinesOfIds strings terms ids text → IsLineOfId strings terms n line
-    → AreLinesOfIds strings terms (ids ++ n ∷ []) (text ++ line)
-lines_on strings terms [] n text line h one = (line, [], one, refl, ap (λ t. t ++ line) h ∙ sym (append-nil line))
-lines_on strings terms (m ∷ ids) n text line h one =
-    (h.0, h.1 ++ line, h.2, lines_on strings terms ids n h.1 line h.3 one, ap (λ t. t ++ line) h.4 ∙ append_assoc h.0 h.1 line)
-
 pub ids_on : (strings : List (List ℕ)) (terms : Bool) (ids : List ℕ) (at number d : ℕ) (text new line string : List ℕ) → at < length ids → number ≡ get_or ids at d
     → AreLinesOfIds strings terms (take at ids) text → string_at_id strings number ≡ Some string → IsListedLine terms number string line → new ≡ text ++ line
     → AreLinesOfIds strings terms (take (at + 1) ids) new
 ids_on strings terms ids at number d text new line string lt is lines there one added =
     rw (take_more ids at d lt, ← is, added)
-    (lines_on strings terms (take at ids) number text line lines (record { string = string; there = there; listed = one }))
+    (lines_on (IsLineOfId strings terms) (take at ids) number text line lines (record { string = string; there = there; listed = one }))
 
 pub ids_all : (strings : List (List ℕ)) (terms : Bool) (ids : List ℕ) (at : ℕ) (text : List ℕ) → at ≡ length ids → AreLinesOfIds strings terms (take at ids) text → AreLinesOfIds strings terms ids text
 ids_all strings terms ids at text is lines = subst (λ (l : List ℕ). AreLinesOfIds strings terms l text) (ap (λ n. take n ids) is ∙ take-length ids) lines
@@ -152,18 +145,14 @@ any_default xs i d e lt = get_or_default_zero xs i d lt ∙ sym (get_or_default_
 
 -- The IDs up to the last string have lines, and the next one is behind it.
 pub record AreWalkedIds (strings : List (List ℕ)) (terms : Bool) (ids : List ℕ) (w : Progress) (at : ℕ) (text : List ℕ) : Type 0 where
-  pub done : List (List ℕ)
-  pub all : strings ≡ done ++ w.ahead
-  pub given : w.given ≡ length done
+  pub returned : HasReturned strings w
   pub within : at ≤ length ids
   pub next : (d : ℕ) → at < length ids → w.given < get_or ids at d
   pub lines : AreLinesOfIds strings terms (take at ids) text
 
 pub starts : (strings : List (List ℕ)) (terms : Bool) (ids : List ℕ) → AreAscendingIds strings ids → AreWalkedIds strings terms ids (record { given = 0; last = []; ahead = strings }) 0 []
 starts strings terms ids h = record {
-  done = [];
-  all = refl;
-  given = refl;
+  returned = record { done = []; all = refl; given = refl };
   within = omega arith;
   next = λ d lt. some_is_positive strings (get_or ids 0 d) (h.there 0 d lt).0 (h.there 0 d lt).1;
   lines = refl;
@@ -173,21 +162,11 @@ starts strings terms ids h = record {
     some_is_positive strings zero string is = absurd cc
     some_is_positive strings (suc n) string is = omega arith
 
--- The string that is returned is that of its ID.
-pub walked_string : (strings : List (List ℕ)) (terms : Bool) (ids : List ℕ) (w v : Progress) (at n : ℕ) (text last : List ℕ) → AreWalkedIds strings terms ids w at text → Steps w v n → last ≡ v.last → string_at_id strings n ≡ Some last
-walked_string strings terms ids w v at n text last h s is =
-    let all : strings ≡ h.done ++ s.string ∷ v.ahead = h.all ∙ ap (λ l. h.done ++ l) s.ahead in
-    let number : n ≡ suc (length h.done) = s.number ∙ ap (λ k. k + 1) h.given ∙ add-one (length h.done) in
-    let within : length h.done < length (h.done ++ s.string ∷ v.ahead) = omega (arith, length-append h.done (s.string ∷ v.ahead)) in
-    rw (number, all) (slice_get-get_or (h.done ++ s.string ∷ v.ahead) (length h.done) [] within ∙ ap Some (get_or-append_seam h.done s.string v.ahead [] ∙ sym s.last ∙ sym is))
-
 -- The string's ID is none of the IDs.
 pub passed : (strings : List (List ℕ)) (terms : Bool) (ids : List ℕ) (w v : Progress) (at n d : ℕ) (text : List ℕ) → AreWalkedIds strings terms ids w at text → Steps w v n → at < length ids → (n ≡ get_or ids at d → ⊥)
     → AreWalkedIds strings terms ids v at text
 passed strings terms ids w v at n d text h s lt other = record {
-  done = h.done ++ s.string ∷ [];
-  all = h.all ∙ ap (λ l. h.done ++ l) s.ahead ∙ sym (append_assoc h.done (s.string ∷ []) v.ahead);
-  given = omega (arith, s.given, h.given, length-append h.done (s.string ∷ []));
+  returned = returned_on strings w v n h.returned s;
   within = h.within;
   next = λ e below. let same : get_or ids at e ≡ get_or ids at d = any_default ids at e d lt in let apart = not_equal n (get_or ids at d) other in omega (arith, same, s.given, s.number, h.next d lt, apart);
   lines = h.lines;
@@ -206,12 +185,10 @@ passed strings terms ids w v at n d text h s lt other = record {
 pub kept : (strings : List (List ℕ)) (terms : Bool) (ids : List ℕ) (w v : Progress) (at n d : ℕ) (text new line last : List ℕ) → AreAscendingIds strings ids → AreWalkedIds strings terms ids w at text → Steps w v n
     → at < length ids → n ≡ get_or ids at d → last ≡ v.last → IsListedLine terms n last line → new ≡ text ++ line → AreWalkedIds strings terms ids v (at + 1) new
 kept strings terms ids w v at n d text new line last up h s lt same is one added = record {
-  done = h.done ++ s.string ∷ [];
-  all = h.all ∙ ap (λ l. h.done ++ l) s.ahead ∙ sym (append_assoc h.done (s.string ∷ []) v.ahead);
-  given = omega (arith, s.given, h.given, length-append h.done (s.string ∷ []));
+  returned = returned_on strings w v n h.returned s;
   within = omega (arith, lt);
   next = λ e below. let more : suc at ≡ at + 1 = omega arith in let above = subst (λ k. get_or ids at d < get_or ids k d) more (up.ascend at d (omega (arith, below))) in omega (arith, above, same, s.given, s.number, any_default ids (at + 1) e d below);
-  lines = ids_on strings terms ids at n d text new line last lt same h.lines (walked_string strings terms ids w v at n text last h s is) one added;
+  lines = ids_on strings terms ids at n d text new line last lt same h.lines (string_is strings w v n last h.returned s is) one added;
 }
 
 -- All strings were returned.
@@ -219,9 +196,10 @@ pub walked_to_the_end : (strings : List (List ℕ)) (terms : Bool) (ids : List �
     → ((n : ℕ) → r ≡ Some n → ⊥) → AreLinesOfIds strings terms ids text
 walked_to_the_end strings terms ids w r at text up h e not = elim (cases_lt at (length ids)) [
   | inl lt ↦
-      let all : strings ≡ h.done = h.all ∙ ap (λ l. h.done ++ l) (none_ahead w w.ahead r e not) ∙ append-nil h.done in
+      let back = h.returned in
+      let all : strings ≡ back.done = back.all ∙ ap (λ l. back.done ++ l) (none_ahead w w.ahead r e not) ∙ append-nil back.done in
       let last = within (get_or ids at 0) (up.there at 0 lt).0 (up.there at 0 lt).1 in
-      absurd (omega (arith, h.next 0 lt, h.given, ap length all, last))
+      absurd (omega (arith, h.next 0 lt, back.given, ap length all, last))
   | inr le ↦ ids_all strings terms ids at text (omega (arith, le, h.within)) h.lines
 ]
   where

@@ -11,7 +11,7 @@ use Rattle.hdt_tool.specs.declared.fault.ToolFault.{ToolFault}
 use Rattle.hdt_tool.specs.declared.fault.ToolFault.TheVariants.{BadOptions, Read, Write}
 use Rattle.hdt_tool.specs.declared.request.Action.{Action}
 use Rattle.hdt_tool.specs.declared.request.Action.TheVariants.{Build, Rewrite}
-use Rattle.hdt_tool.specs.Outcomes.{Completes, CompletesOwned, FailsAfter, IfBuild, IsFaultOfInput, IsReadOnly, Prints, ReadsAll, ReadsWith, RewritesFile, WritesOutputPrefix, Yields, YieldsAppended}
+use Rattle.hdt_tool.specs.Outcomes.{Completes, FailsAfter, IfBuild, IsFaultOfInput, IsReadOnly, Prints, ReadsAll, ReadsWith, RewritesFile, WritesOutputPrefix, Yields, YieldsAppended}
 use Rattle.hdt_tool.specs.Faults.{build_fault_of, fault_of_reason}
 
 -- If the command's error is not a read error, neither is that of the builder.
@@ -40,16 +40,6 @@ rewrites b before after bytes seen text made more read same h = record {
   yields = record { bytes = bytes; read = read; holds = subst (λ (bytes : List ℕ). RewritesFile b bytes text h.0) same h.1 };
   made = h.2;
 }
-
-nothing_made : (action : Action) → IsReadOnly action → (before after : Option (List ℕ)) (text made more : List ℕ) → YieldsAppended action before after text made more → more ≡ made
-nothing_made (Build options) is before after text made more h = absurd is
-nothing_made (Rewrite b) is before after text made more h = absurd is
-nothing_made action is before after text made more h = h.made ∙ ap (λ (b : List ℕ). made ++ b) h.yields.1 ∙ append-nil made
-
-pub nothing_lost : (action : Action) → IsReadOnly action → (before old new : Option (List ℕ)) (more : List ℕ) → CompletesOwned action before old new [] more → CompletesOwned action before old new [] []
-nothing_lost action is before old new more h =
-    let none = nothing_made action is before h.after h.answers.text [] more h.answers.makes in
-    subst (λ (made : List ℕ). CompletesOwned action before old new [] made) none h
 
 -- It has no options of `build`.
 pub no_options : (action : Action) (Holds : Options → Type 0) → IsReadOnly action → IfBuild action Holds

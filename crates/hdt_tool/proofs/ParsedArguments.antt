@@ -14,7 +14,7 @@ use Rattle.hdt_build.specs.declared.options.Options.{Options}
 use Rattle.hdt_tool.specs.declared.request.Action.{Action}
 use Rattle.hdt_tool.specs.declared.request.Request.{Request}
 use Rattle.hdt_tool.specs.declared.request.Action.TheVariants as action
-use Rattle.hdt_tool.specs.declared.split_options.SplitOptions.{SplitOptions}
+use Rattle.hdt_tool.specs.declared.request.SplitOptions.{SplitOptions}
 use Rattle.hdt_tool.specs.CommandLine.{IsFileAction, IsSplitCommand, IsRequestOf, IsFileRequest, IsMakeRequest, IsMakeAction, Refutes, RefutesOrInvalidTerm, IsFaultOfArgument, IsInvalidTerm, IsInvalidPart, IsUsed, HasInvalidTerm, ParsesAsOptions, IsFaultOfTerm}
 use Rattle.hdt_tool.specs.ErrorLines.{argument_name}
 

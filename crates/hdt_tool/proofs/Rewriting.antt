@@ -6,7 +6,7 @@ use Rattle.hdt_build.specs.Options.{AreValidOptions, IsBlockSize}
 use Rattle.hdt_build.specs.declared.fault.RewriteFault.{RewriteFault}
 use Rattle.hdt_build.specs.declared.fault.RewriteFault.TheVariants as rewriting
 use Rattle.hdt_tool.specs.declared.fault.ToolFault.{ToolFault}
-use Rattle.hdt_tool.specs.declared.fault.ToolFault.TheVariants.{BadOptions, Write}
+use Rattle.hdt_tool.specs.declared.fault.ToolFault.TheVariants.{BadOptions}
 use Rattle.hdt_tool.specs.declared.request.Action.{Action}
 use Rattle.hdt_tool.specs.declared.request.Action.TheVariants.{Build, Rewrite}
 use Rattle.hdt_tool.specs.Outcomes.{IfBuild, IsFaultOfBytes}

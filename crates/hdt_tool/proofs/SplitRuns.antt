@@ -3,7 +3,7 @@ use Rattle.std.proofs.Common.{◌≡◌, ◌∷◌, ℕ, List, [], Option, None,
 use Rattle.hdt_terms.specs.Split.{SplitsInput, SplitsUntilFault}
 use Rattle.hdt_terms.specs.declared.split.SplitFault.{SplitFault}
 use Rattle.hdt_terms.specs.declared.split.SplitReport.{SplitReport}
-use Rattle.hdt_tool.specs.declared.split_options.BlankNodes.{BlankNodes}
+use Rattle.hdt_tool.specs.declared.request.BlankNodes.{BlankNodes}
 use Rattle.hdt_tool.specs.declared.splitting.SplitStop.{SplitStop}
 use Rattle.hdt_tool.specs.declared.splitting.SplitStop.TheVariants as stop
 use Rattle.hdt_tool.specs.SplitInputs.{IsScopeFault, StopsHere, input_prefix}

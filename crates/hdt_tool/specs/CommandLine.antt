@@ -27,11 +27,11 @@ use Rattle.hdt_tool.specs.declared.request.OutputFormat.TheVariants.{NTriples, N
 use Rattle.hdt_tool.specs.declared.request.Progress.{Progress}
 use Rattle.hdt_tool.specs.declared.request.Progress.TheVariants.{Automatic, Lines, Off}
 use Rattle.hdt_tool.specs.declared.request.Request.{Request}
-use Rattle.hdt_tool.specs.declared.split_options.BlankNodes.{BlankNodes}
-use Rattle.hdt_tool.specs.declared.split_options.BlankNodes.TheVariants as blank
-use Rattle.hdt_tool.specs.declared.split_options.SplitOptions.{SplitOptions}
-use Rattle.hdt_tool.specs.declared.split_options.SplitOutput.{SplitOutput}
-use Rattle.hdt_tool.specs.declared.split_options.SplitOutput.TheVariants as split
+use Rattle.hdt_tool.specs.declared.request.BlankNodes.{BlankNodes}
+use Rattle.hdt_tool.specs.declared.request.BlankNodes.TheVariants as blank
+use Rattle.hdt_tool.specs.declared.request.SplitOptions.{SplitOptions}
+use Rattle.hdt_tool.specs.declared.request.SplitOutput.{SplitOutput}
+use Rattle.hdt_tool.specs.declared.request.SplitOutput.TheVariants as split
 use Rattle.hdt_tool.specs.ErrorLines.{argument_name}
 use Rattle.hdt_usage.specs.CommandTable.{Names, AreRoles, role_name, table}
 use Rattle.hdt_usage.specs.Explanations.{explanation_of}

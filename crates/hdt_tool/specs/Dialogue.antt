@@ -216,14 +216,14 @@ pub record AnswersUntilFault (g : GraphParts) (options : AnswerOptions) (input g
   pub answers : AnswersLines g options lines report text
   pub stopped : StopsAfterAnswers fault text written_before written_after failed_before failed_after
 
--- ---- the same over a file whose reader is owned by the run
+-- ---- the same over a file
 
 -- The file is valid, and the writer has gained the answers to all lines of the requests over its graph.
-pub record AnswersOverFile (options : AnswerOptions) (file input written_before written_after : Option (List ℕ)) (report : AnswerReport) : Type 0 where
-  pub after : Option (List ℕ)
-  pub answers : ReadsWith file after (λ bytes. IsLayoutWith bytes (λ graph. AnswersInput graph options input written_before written_after report))
+abbrev pub AnswersOverFile : AnswerOptions → Option (List ℕ) → Option (List ℕ) → Option (List ℕ) → Option (List ℕ) → Option (List ℕ) → AnswerReport → Type 0
+AnswersOverFile options before after input written_before written_after report =
+    ReadsWith before after (λ bytes. IsLayoutWith bytes (λ graph. AnswersInput graph options input written_before written_after report))
 
 -- The file is valid, and an error ended the answers to the requests over its graph.
-pub record AnswersOverFileUntilFault (options : AnswerOptions) (file input given written_before written_after : Option (List ℕ)) (failed_before failed_after : ℕ) (fault : ToolFault) : Type 0 where
-  pub after : Option (List ℕ)
-  pub answers : ReadsWith file after (λ bytes. IsLayoutWith bytes (λ graph. AnswersUntilFault graph options input given written_before written_after failed_before failed_after fault))
+abbrev pub AnswersOverFileUntilFault : AnswerOptions → Option (List ℕ) → Option (List ℕ) → Option (List ℕ) → Option (List ℕ) → Option (List ℕ) → Option (List ℕ) → ℕ → ℕ → ToolFault → Type 0
+AnswersOverFileUntilFault options before after input given written_before written_after failed_before failed_after fault =
+    ReadsWith before after (λ bytes. IsLayoutWith bytes (λ graph. AnswersUntilFault graph options input given written_before written_after failed_before failed_after fault))

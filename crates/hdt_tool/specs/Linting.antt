@@ -36,8 +36,3 @@ pub record LintsUntilError (keep : Bool) (input given kept_before kept_after rep
   pub fault : LintFault
   pub is : error ≡ lint_fault_of fault
   pub lints : LintsUntilFault keep input given kept_before kept_after reported_before reported_after fault
-
--- The same for a run that takes ownership of its reader, so that `given` is only known to exist.
-pub record LintsOwnedUntilError (keep : Bool) (input kept_before kept_after reported_before reported_after : Option (List ℕ)) (error : ToolFault) : Type 0 where
-  pub given : Option (List ℕ)
-  pub lints : LintsUntilError keep input given kept_before kept_after reported_before reported_after error

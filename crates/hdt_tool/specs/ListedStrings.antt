@@ -7,7 +7,7 @@ use Rattle.hdt_terms.specs.Terms.{IsDictionaryTerm, dictionary_string}
 use Rattle.hdt_dict.specs.Ids.{string_at_id}
 use Rattle.hdt_dict.specs.Prefixes.{IsInRanges, RangesAscend, SomeBeginsWith}
 use Rattle.hdt_dict.specs.declared.prefix.PrefixRanges.{PrefixRanges}
-use Rattle.hdt_tool.specs.StringsText.{string_line}
+use Rattle.hdt_tool.specs.StringsText.{AreLinesOf, string_line}
 use Rattle.hdt_tool.specs.TermCounts.{IsShown}
 use Rattle.hdt_tool.specs.declared.fault.ToolFault.{ToolFault}
 use Rattle.hdt_tool.specs.declared.fault.ToolFault.TheVariants.{NotATerm, OutOfMemory}
@@ -45,8 +45,7 @@ pub record IsLineOfId (strings : List (List ℕ)) (terms : Bool) (n : ℕ) (line
 
 -- The text has the lines of these IDs, in order.
 abbrev pub AreLinesOfIds : List (List ℕ) → Bool → List ℕ → List ℕ → Type 0
-AreLinesOfIds strings terms [] text = text ≡ []
-AreLinesOfIds strings terms (n ∷ ns) text = (line : List ℕ) × (more : List ℕ) × IsLineOfId strings terms n line × AreLinesOfIds strings terms ns more × (text ≡ line ++ more)
+AreLinesOfIds strings terms ids text = AreLinesOf (IsLineOfId strings terms) ids text
 
 -- The text has a line for each string that begins with the prefix.
 pub record PrintsListed (strings : List (List ℕ)) (prefix : List ℕ) (terms : Bool) (text : List ℕ) : Type 0 where

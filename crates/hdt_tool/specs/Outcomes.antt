@@ -256,11 +256,6 @@ pub record WritesReport (action : Action) (before after written_before written_a
   pub reports : ReadsWith before after (λ bytes. Reports action bytes text n)
   pub written : Appends written_before written_after text
 
--- The same for a run that takes ownership of its reader.
-pub record ReportsOwned (action : Action) (before written_before written_after : Option (List ℕ)) (n : ℕ) : Type 0 where
-  pub after : Option (List ℕ)
-  pub writes : WritesReport action before after written_before written_after n
-
 -- The message on standard error with the number of triples that were skipped.
 abbrev pub skipped_line : ℕ → List ℕ
 skipped_line n = codes "hdt: triples skipped: " ++ decimal n
@@ -305,30 +300,11 @@ pub record InterruptsStrings (action : Action) (before after written_before writ
   pub well : failed_after ≡ failed_before
   pub written : AppendsPrefix written_before written_after text
 
--- ---- the same for a run that takes ownership of its reader, so that `after` is only known to exist
-
--- The run succeeded: the writer has gained the command's output for the input, and `made` the new file.
-pub record CompletesOwned (action : Action) (before written_before written_after : Option (List ℕ)) (made_before made_after : List ℕ) : Type 0 where
-  pub after : Option (List ℕ)
-  pub answers : Completes action before after written_before written_after made_before made_after
-
--- The writer has gained exactly the first n bytes of the command's output for the input.
-pub record WritesPrefixOwned (action : Action) (before written_before written_after : Option (List ℕ)) (n : ℕ) : Type 0 where
-  pub after : Option (List ℕ)
-  pub writes_prefix : WritesOutputPrefix action before after written_before written_after n
-
--- `strings` ran out of memory after a prefix of its output for the input.
-pub record InterruptsStringsOwned (action : Action) (before written_before written_after : Option (List ℕ)) (failed_before failed_after : ℕ) : Type 0 where
-  pub after : Option (List ℕ)
-  pub interrupts : InterruptsStrings action before after written_before written_after failed_before failed_after
-
--- The error is one that the command may return for the input.
-pub record IsFaultOfOwnedInput (action : Action) (before : Option (List ℕ)) (fault : ToolFault) : Type 0 where
-  pub after : Option (List ℕ)
-  pub is_fault : IsFaultOfInput action before after fault
+-- ---- errors of a run that takes ownership of its reader, so that `after` is only known to exist
 
 -- The command has an error of status 1 for the input.
 pub record HasInputFault (action : Action) (before : Option (List ℕ)) : Type 0 where
   pub fault : ToolFault
   pub status : fault_status fault ≡ 1
-  pub is_fault_of_input : IsFaultOfOwnedInput action before fault
+  pub after : Option (List ℕ)
+  pub is_fault : IsFaultOfInput action before after fault

@@ -3,8 +3,8 @@ use Rattle.std.specs.Prelude.{◌≡◌, ◌+◌, ◌⊎◌, ℕ, Bool, true, fa
 use Rattle.std.specs.Fmt.{decimal}
 use Rattle.hdt_terms.specs.Split.{SplitsInput, SplitsUntilFault}
 use Rattle.hdt_terms.specs.declared.split.SplitReport.{SplitReport}
-use Rattle.hdt_tool.specs.declared.split_options.BlankNodes.{BlankNodes}
-use Rattle.hdt_tool.specs.declared.split_options.BlankNodes.TheVariants as blank
+use Rattle.hdt_tool.specs.declared.request.BlankNodes.{BlankNodes}
+use Rattle.hdt_tool.specs.declared.request.BlankNodes.TheVariants as blank
 use Rattle.hdt_tool.specs.declared.splitting.SplitStop.{SplitStop}
 use Rattle.hdt_tool.specs.declared.splitting.SplitStop.TheVariants as stop
 

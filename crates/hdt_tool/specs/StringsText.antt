@@ -24,3 +24,8 @@ pub record PrintsNumber (strings : List (List ℕ)) (x text : List ℕ) : Type 0
   pub number : ℕ
   pub there : string_at_id strings number ≡ Some x
   pub printed : text ≡ decimal number ++ 10 ∷ []
+
+-- The text has these lines, one for each ID, in order.
+abbrev pub AreLinesOf : (ℕ → List ℕ → Type 0) → List ℕ → List ℕ → Type 0
+AreLinesOf IsLine [] text = text ≡ []
+AreLinesOf IsLine (n ∷ ns) text = (line : List ℕ) × (more : List ℕ) × IsLine n line × AreLinesOf IsLine ns more × (text ≡ line ++ more)

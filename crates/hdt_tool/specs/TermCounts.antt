@@ -17,6 +17,7 @@ use Rattle.hdt_triples.specs.Patterns.{matches}
 use Rattle.hdt_triples.specs.declared.pattern.Pattern.{Pattern}
 use Rattle.hdt_file.specs.File.{GraphParts}
 use Rattle.hdt_tool.specs.Escaping.{escaped}
+use Rattle.hdt_tool.specs.StringsText.{AreLinesOf}
 use Rattle.hdt_tool.specs.declared.fault.ToolFault.{ToolFault}
 use Rattle.hdt_tool.specs.declared.fault.ToolFault.TheVariants.{NotATerm, OutOfMemory}
 
@@ -53,8 +54,7 @@ pub record IsCountLine (g : GraphParts) (role : Role) (raw : Bool) (n : ℕ) (li
 
 -- The text has the lines of these IDs, in order.
 abbrev pub AreCountLines : GraphParts → Role → Bool → List ℕ → List ℕ → Type 0
-AreCountLines g role raw [] text = text ≡ []
-AreCountLines g role raw (n ∷ ns) text = (line : List ℕ) × (more : List ℕ) × IsCountLine g role raw n line × AreCountLines g role raw ns more × (text ≡ line ++ more)
+AreCountLines g role raw ids text = AreLinesOf (IsCountLine g role raw) ids text
 
 -- ---- the order of lines
 

@@ -1,9 +1,9 @@
 //! Reading the arguments that `clap` has parsed.
-ghost use Rattle.std.specs.Prelude.{◌≡◌, ◌≢◌, ℕ, List, [], false, IfOk, IfErr, IsSome, MatchOption, None, Some, codes, option_map, string_bytes};
+ghost use Rattle.std.specs.Prelude.{◌≡◌, ◌≢◌, ℕ, false, IfOk, IfErr, IsSome, MatchOption, None, Some, codes, option_map, string_bytes};
 ghost use Rattle.clap.specs.Words.{first_of, one_of, found_of, rows_of};
 ghost use Rattle.hdt_build.specs.declared.options.Options.{Options};
 ghost use Rattle.hdt_wire.specs.declared.role.Role.{Role};
-ghost use Rattle.hdt_tool.specs.CommandLine.{IsFileAction, Refutes, RefutesOrInvalidTerm, IsFaultOfArgument, IsInvalidTerm, IsInvalidPart, IsStringOfText, IsExplanation, IsFindAction, HasInvalidTerm, ParsesAsFlag, ParsesAsFormat, ParsesAsProgress, ParsesAsNumber, ParsesAsNumberOrNone, ParsesAsOptions, ParsesAsString, ParsesAsPart, IsFaultOfTerm, ParsesAsPrefix};
+ghost use Rattle.hdt_tool.specs.CommandLine.{IsFileAction, Refutes, RefutesOrInvalidTerm, IsFaultOfArgument, IsInvalidTerm, IsInvalidPart, IsStringOfText, IsFindAction, HasInvalidTerm, ParsesAsFlag, ParsesAsFormat, ParsesAsProgress, ParsesAsNumber, ParsesAsNumberOrNone, ParsesAsOptions, ParsesAsString, ParsesAsPart, IsFaultOfTerm, ParsesAsPrefix};
 ghost use Rattle.hdt_tool.specs.ErrorLines.{argument_name};
 ghost use Rattle.hdt_usage.specs.CommandTable.{role_name};
 
@@ -13,7 +13,6 @@ use clap::ArgMatches;
 use hdt_build::Options;
 use hdt_dict::Role;
 use hdt_terms::{LineReason, TermFault, parse_string};
-use hdt_usage::explain;
 use std::alloc::{AllocError, Global};
 
 /// The error for a required argument without a valid value.
@@ -392,22 +391,5 @@ pub(crate) fn lint_action<'m>(matches: &ArgMatches<'m>) -> Action
     Action::Lint {
         keep: has_flag(matches, "keep"),
         most: optional_number(matches, "most"),
-    }
-}
-
-const NO_SUCH_REASON: &str =
-    "error: no error of a file or a text has this number or name; see docs/ERRORS.md";
-
-/// The explanation that `explain` prints of its argument REASON, as help.
-pub(crate) fn explanation<'m>(alloc: Global, matches: &ArgMatches<'m>) -> UsageFault
-    ensures { IsExplanation (rows_of (found_of matches.now)) result }
-{
-    let Some(word) = argument_text(matches, "REASON") else {
-        return missing(alloc);
-    };
-    match explain(alloc, word) {
-        Ok(Some(text)) => UsageFault::Help(text),
-        Ok(None) => UsageFault::text(alloc, NO_SUCH_REASON),
-        Err(AllocError) => UsageFault::OutOfMemory,
     }
 }

@@ -1,23 +1,23 @@
 //! Parsing a command line into a request.
-ghost use Rattle.std.specs.Prelude.{◌≡◌, IfOk, IfErr, codes, map};
+ghost use Rattle.std.specs.Prelude.{IfOk, IfErr, codes, map};
 ghost use Rattle.clap.specs.Words.{found_of, one_of, rows_of, kind_of};
 ghost use Rattle.hdt_tool.specs.Outcomes.{HasOut};
-ghost use Rattle.hdt_tool.specs.CommandLine.{IsFileAction, IsRequestOf, IsFileRequest, IsMakeRequest, IsMakeAction, Refutes, RefutesOrInvalidTerm, IsRefused, HasInvalidTerm, IsFaultOfCommand, ParsesAsFlag, ParsesAsProgress, IsFaultOfKind, ParsesToRequest, ParsesToInvocation};
+ghost use Rattle.hdt_tool.specs.CommandLine.{IsFileAction, IsRequestOf, IsFileRequest, IsMakeRequest, IsMakeAction, Refutes, RefutesOrInvalidTerm, IsRefused, HasInvalidTerm, IsExplanation, IsFaultOfCommand, ParsesAsFlag, ParsesAsProgress, IsFaultOfKind, ParsesToRequest, ParsesToInvocation};
 ghost use Rattle.hdt_usage.specs.CommandTable.{AreRoles};
 ghost use Rattle.hdt_tool.specs.declared.request.Action.{Action};
 ghost use Rattle.hdt_tool.specs.declared.request.Request.{Request};
 
 use crate::arguments::{
-    answer_action, argument_text, build_options, count_action, dump_action, explanation,
-    find_action, has_flag, info_action, lint_action, missing, progress_option, required_block_size,
-    required_id, required_role, required_term, required_text, strings_action, verify_action,
+    answer_action, argument_text, build_options, count_action, dump_action, find_action, has_flag,
+    info_action, lint_action, missing, progress_option, required_block_size, required_id,
+    required_role, required_term, required_text, strings_action, verify_action,
 };
 use crate::fault::{TermArgument, UsageFault};
 use crate::request::{Action, Invocation, Request};
 use crate::split_arguments::split_action;
 use clap::error::ErrorKind;
 use clap::{ArgMatches, Error};
-use hdt_usage::make_command_table;
+use hdt_usage::{explain, make_command_table};
 use std::alloc::{AllocError, Global};
 
 /// The message of a `clap` error, without trailing whitespace.
@@ -152,6 +152,23 @@ fn invocation_of<'m>(
         progress: progress_option(matches),
         verbose: has_flag(matches, "verbose"),
     })
+}
+
+const NO_SUCH_REASON: &str =
+    "error: no error of a file or a text has this number or name; see docs/ERRORS.md";
+
+/// The explanation that `explain` prints of its argument REASON, as help.
+fn explanation<'m>(alloc: Global, matches: &ArgMatches<'m>) -> UsageFault
+    ensures { IsExplanation (rows_of (found_of matches.now)) result }
+{
+    let Some(word) = argument_text(matches, "REASON") else {
+        return missing(alloc);
+    };
+    match explain(alloc, word) {
+        Ok(Some(text)) => UsageFault::Help(text),
+        Ok(None) => UsageFault::text(alloc, NO_SUCH_REASON),
+        Err(AllocError) => UsageFault::OutOfMemory,
+    }
 }
 
 /// The invocation of a command, or the explanation that `explain` prints, as help.

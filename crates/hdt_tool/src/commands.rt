@@ -1,12 +1,12 @@
 //! All commands, from a reader to a writer. A command reads the complete input, makes its output, and then writes it.
 //! Only `strings` and `answer` write before their output is complete.
-ghost use Rattle.std.specs.Prelude.{◌≡◌, ◌≢◌, ◌<◌, ◌++◌, ◌+◌, ◌↔◌, ◌⊎◌, ℕ, List, IfOk, IfErr, OnOk, OnErr, IsErrOf, length, take};
+ghost use Rattle.std.specs.Prelude.{◌≡◌, ◌≢◌, ◌<◌, ◌++◌, ◌+◌, ◌↔◌, ◌⊎◌, ℕ, List, IfOk, IfErr, OnOk, OnErr, IsErrOf};
 ghost use Rattle.std.specs.Io.KnownBytes.{Appends};
 ghost use Rattle.hdt_wire.specs.Counted.{inner, failures};
 ghost use Rattle.hdt_build.specs.Options.{AreValidOptions};
-ghost use Rattle.hdt_tool.specs.Dialogue.{AnswersInput, AnswersUntilFault};
+ghost use Rattle.hdt_tool.specs.Dialogue.{AnswersOverFile, AnswersOverFileUntilFault};
 ghost use Rattle.hdt_tool.specs.BuiltText.{counts_line};
-ghost use Rattle.hdt_tool.specs.Outcomes.{IsLayoutWith, ReadsAll, ReadsWith, Prints, IsFaultOfInput, IsFaultOfBytes, YieldsAppended, Completes, WritesOutputPrefix, InterruptsStrings, IfBuild, RewritesFile, FailsAfter};
+ghost use Rattle.hdt_tool.specs.Outcomes.{ReadsAll, ReadsWith, Prints, IsFaultOfInput, IsFaultOfBytes, YieldsAppended, Completes, WritesOutputPrefix, InterruptsStrings, IfBuild, IsReadOnly, RewritesFile, FailsAfter};
 ghost use Rattle.hdt_tool.specs.declared.request.Action.TheVariants as Action;
 
 use crate::dialogue::answer_requests;
@@ -15,7 +15,6 @@ use crate::printed_reports::counts_line;
 use crate::queries::{file_text, print_file_strings};
 use crate::request::{Action, AnswerOptions, AnswerReport, Request};
 use hdt_build::{Options, Report, build_bytes, rewrite_bytes};
-use hdt_dict::Role;
 use hdt_file::open;
 use hdt_wire::{Counted, Failed, truncate_on_error};
 use std::alloc::{AllocError, Global};
@@ -124,30 +123,38 @@ pub(crate) fn write_text<W: Write>(text: &[u8], out: &mut Counted<W>) -> Result<
     out.write_all(text).map_err(ToolFault::Write)
 }
 
-/// Runs `strings`, which writes its lines in pieces.
-fn run_strings<R: Read, W: Write>(
+/// Runs a command that writes no file, as [`run`] does: reads `input` to its end, into a buffer of this initial capacity,
+/// and writes the command's output. Only `strings` writes in pieces.
+pub fn print_output<R: Read, W: Write>(
     alloc: Global,
-    role: Role,
+    action: &Action,
     input: &mut Counted<R>,
     capacity: usize,
     out: &mut Counted<W>,
 ) -> Result<(), ToolFault>
+    requires { IsReadOnly action.now }
     ensures ok { OnOk result ((text : List ℕ) × ReadsWith (R.remaining (inner input.old)) (R.remaining (inner input.new))
-        (λ bytes. Prints (Action.Strings role) bytes text) × Appends (W.contents (inner out.old)) (W.contents (inner out.new)) text) }
-    ensures told { IfErr result (IsFaultOfInput (Action.Strings role) (R.remaining (inner input.old)) (R.remaining (inner input.new))) }
+        (λ bytes. Prints action.now bytes text) × Appends (W.contents (inner out.old)) (W.contents (inner out.new)) text) }
+    ensures told { IfErr result (IsFaultOfInput action.now (R.remaining (inner input.old)) (R.remaining (inner input.new))) }
     ensures read { IsErrOf result ToolFault.Read → failures input.new ≡ failures input.old + 1 }
     ensures reader_well { OnOk result (failures input.new ≡ failures input.old) }
     ensures reader_told { IfErr result (λ e. e ≢ ToolFault.Read → failures input.new ≡ failures input.old) }
     ensures write { IfErr result (λ e. (n : ℕ) → e ≡ ToolFault.Write n → (failures out.new ≡ failures out.old + 1)
-        × WritesOutputPrefix (Action.Strings role) (R.remaining (inner input.old)) (R.remaining (inner input.new))
+        × WritesOutputPrefix action.now (R.remaining (inner input.old)) (R.remaining (inner input.new))
         (W.contents (inner out.old)) (W.contents (inner out.new)) n) }
     ensures writer_well { OnOk result (failures out.new ≡ failures out.old) }
     ensures unwritten { IfErr result (λ e. ((n : ℕ) → e ≢ ToolFault.Write n) → (out.new ≡ out.old) ⊎ ((e ≡ ToolFault.OutOfMemory)
-        × InterruptsStrings (Action.Strings role) (R.remaining (inner input.old)) (R.remaining (inner input.new))
+        × InterruptsStrings action.now (R.remaining (inner input.old)) (R.remaining (inner input.new))
         (W.contents (inner out.old)) (W.contents (inner out.new)) (failures out.old) (failures out.new))) }
 {
     let bytes = read_all(alloc, input, capacity)?;
-    print_file_strings(alloc, bytes.as_slice(), role, out)
+    match action {
+        Action::Strings(role) => print_file_strings(alloc, &bytes, *role, out),
+        action => {
+            let text = file_text(alloc, action, &bytes)?;
+            write_text(&text, out)
+        }
+    }
 }
 
 /// Runs a request: reads `input` to its end and writes the command's output to `out`. `build` and `rewrite` append the
@@ -193,37 +200,7 @@ pub fn run<R: Read, W: Write>(
         (W.contents (inner out.old)) (W.contents (inner out.new)) (failures out.old) (failures out.new))) }
     ensures kept { OnErr result (made.new.items ≡ made.old.items) }
 {
-    run_with_capacity(alloc, request, input, 0, out, made)
-}
-
-/// As [`run`], with an initial capacity for the input: its length in bytes, if that is known.
-pub fn run_with_capacity<R: Read, W: Write>(
-    alloc: Global,
-    request: &Request,
-    input: &mut Counted<R>,
-    capacity: usize,
-    out: &mut Counted<W>,
-    made: &mut Vec<u8>,
-) -> Result<(), ToolFault>
-    ensures ok { OnOk result (Completes request.now.action (R.remaining (inner input.old)) (R.remaining (inner input.new))
-        (W.contents (inner out.old)) (W.contents (inner out.new)) made.old.items made.new.items) }
-    ensures told { IfErr result (IsFaultOfInput request.now.action (R.remaining (inner input.old)) (R.remaining (inner input.new))) }
-    ensures bad { IfBuild request.now.action (λ options. IsErrOf result ToolFault.BadOptions ↔ (AreValidOptions options → ⊥)) }
-    ensures unread { IfBuild request.now.action (λ options. IsErrOf result ToolFault.BadOptions → input.new ≡ input.old) }
-    ensures read { IsErrOf result ToolFault.Read → failures input.new ≡ failures input.old + 1 }
-    ensures reader_well { OnOk result (failures input.new ≡ failures input.old) }
-    ensures reader_told { IfErr result (λ e. e ≢ ToolFault.Read → failures input.new ≡ failures input.old) }
-    ensures write { IfErr result (λ e. (n : ℕ) → e ≡ ToolFault.Write n → (failures out.new ≡ failures out.old + 1)
-        × WritesOutputPrefix request.now.action (R.remaining (inner input.old)) (R.remaining (inner input.new))
-        (W.contents (inner out.old)) (W.contents (inner out.new)) n) }
-    ensures writer_well { OnOk result (failures out.new ≡ failures out.old) }
-    ensures unwritten { IfErr result (λ e. ((n : ℕ) → e ≢ ToolFault.Write n) → (out.new ≡ out.old) ⊎ ((e ≡ ToolFault.OutOfMemory)
-        × InterruptsStrings request.now.action (R.remaining (inner input.old)) (R.remaining (inner input.new))
-        (W.contents (inner out.old)) (W.contents (inner out.new)) (failures out.old) (failures out.new))) }
-    ensures kept { OnErr result (made.new.items ≡ made.old.items) }
-{
     match &request.action {
-        Action::Strings(role) => run_strings(alloc, *role, input, capacity, out),
         Action::Build(options) => {
             let start = made.len();
             let line = build_file(alloc, options, input, made)?;
@@ -231,15 +208,11 @@ pub fn run_with_capacity<R: Read, W: Write>(
         }
         Action::Rewrite(block_size) => {
             let start = made.len();
-            let bytes = read_all(alloc, input, capacity)?;
+            let bytes = read_all(alloc, input, 0)?;
             let line = rewrite_file(alloc, *block_size, &bytes, made)?;
             truncate_on_error(write_text(&line, out), start, made)
         }
-        action => {
-            let bytes = read_all(alloc, input, capacity)?;
-            let text = file_text(alloc, action, &bytes)?;
-            write_text(&text, out)
-        }
+        action => print_output(alloc, action, input, 0, out),
     }
 }
 
@@ -258,21 +231,19 @@ pub fn answer_file<F: Read, R: Read, W: Write>(
     out: &mut Counted<W>,
 ) -> Result<AnswerReport, ToolFault>
     // The file is valid, and `out` has gained the answers to all requests over its graph.
-    ensures ok { IfOk result (λ report. ReadsWith (F.remaining (inner file.old)) (F.remaining (inner file.new)) (λ bytes. IsLayoutWith bytes (λ graph.
-        AnswersInput graph options (R.remaining (inner input.old)) (W.contents (inner out.old)) (W.contents (inner out.new)) report))) }
+    ensures ok { IfOk result (AnswersOverFile options (F.remaining (inner file.old)) (F.remaining (inner file.new)) (R.remaining (inner input.old))
+        (W.contents (inner out.old)) (W.contents (inner out.new))) }
     ensures writer_well { OnOk result (failures out.new ≡ failures out.old) }
     // `Read`: one of the two readers failed once in this call.
     ensures read { IsErrOf result ToolFault.Read → failures file.new + failures input.new ≡ failures file.old + failures input.old + 1 }
     // Either the file is not valid or was not read, and no request was read and nothing written; or the error occurred
     // while answering.
     ensures stopped { IfErr result (λ e. (IsFaultOfInput (Action.Answer options) (F.remaining (inner file.old)) (F.remaining (inner file.new)) e × (input.new ≡ input.old) × (out.new ≡ out.old))
-        ⊎ ReadsWith (F.remaining (inner file.old)) (F.remaining (inner file.new)) (λ bytes. IsLayoutWith bytes (λ graph.
-        AnswersUntilFault graph options (R.remaining (inner input.old)) (R.remaining (inner input.new)) (W.contents (inner out.old)) (W.contents (inner out.new))
-        (failures out.old) (failures out.new) e))) }
+        ⊎ AnswersOverFileUntilFault options (F.remaining (inner file.old)) (F.remaining (inner file.new)) (R.remaining (inner input.old)) (R.remaining (inner input.new))
+        (W.contents (inner out.old)) (W.contents (inner out.new)) (failures out.old) (failures out.new) e) }
     // `Write(n)` occurs only while answering: the writer failed once, after exactly the first n bytes of the answers.
-    ensures write { IfErr result (λ e. (n : ℕ) → e ≡ ToolFault.Write n → ReadsWith (F.remaining (inner file.old)) (F.remaining (inner file.new)) (λ bytes. IsLayoutWith bytes (λ graph.
-        AnswersUntilFault graph options (R.remaining (inner input.old)) (R.remaining (inner input.new)) (W.contents (inner out.old)) (W.contents (inner out.new))
-        (failures out.old) (failures out.new) e))) }
+    ensures write { IfErr result (λ e. (n : ℕ) → e ≡ ToolFault.Write n → AnswersOverFileUntilFault options (F.remaining (inner file.old)) (F.remaining (inner file.new))
+        (R.remaining (inner input.old)) (R.remaining (inner input.new)) (W.contents (inner out.old)) (W.contents (inner out.new)) (failures out.old) (failures out.new) e) }
 {
     let bytes = read_all(alloc, file, capacity)?;
     let graph = open(alloc, &bytes)?;

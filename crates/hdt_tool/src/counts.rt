@@ -1,5 +1,5 @@
 //! The output of `count`.
-ghost use Rattle.std.specs.Prelude.{◌≡◌, ◌++◌, ◌∷◌, [], ◌≢◌, ◌⊎◌, ◌<◌, ◌^◌, List, ℕ, None, Some, OnOk, IfOk, IfErr, false};
+ghost use Rattle.std.specs.Prelude.{◌≡◌, ◌++◌, ◌≢◌, ◌⊎◌, ◌<◌, List, ℕ, None, Some, OnOk, IfOk, IfErr, false};
 ghost use Rattle.hdt_dict.specs.Ids.{string_at_id};
 ghost use Rattle.hdt_dict.specs.Dictionary.{role_strings};
 ghost use Rattle.hdt_file.specs.GraphView.{graph_view};

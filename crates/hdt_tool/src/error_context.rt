@@ -21,6 +21,7 @@ use std::io::{self, BufRead, BufReader, IsTerminal, Read, Write};
 /// What an error message is about.
 #[derive(Clone, Copy)]
 pub(crate) struct Subject<'a> {
+    action: &'a Action,
     /// The path of the input.
     input: &'a str,
     /// The path of the output, or a name for standard output.
@@ -33,6 +34,7 @@ impl<'a> Subject<'a> {
     /// The files of an invocation, and its session.
     pub(crate) fn of(invocation: &'a Invocation, session: &'a Session<'a>) -> Subject<'a> {
         Subject {
+            action: &invocation.request.action,
             input: invocation.request.file.as_str(),
             output: match &invocation.request.out {
                 Some(path) => path.as_str(),
@@ -48,17 +50,15 @@ impl<'a> Subject<'a> {
     pub(crate) fn of_input(self, path: &'a str) -> Subject<'a> {
         Subject {
             input: path,
-            output: self.output,
-            session: self.session,
+            ..self
         }
     }
 
     /// The same with another output.
     pub(crate) fn of_output(self, path: &'a str) -> Subject<'a> {
         Subject {
-            input: self.input,
             output: path,
-            session: self.session,
+            ..self
         }
     }
 }
@@ -276,6 +276,15 @@ fn put_file_error(rt: &HostRuntime, path: &str, fault: Fault, out: &mut Vec<u8>)
     put_text(hint_in(&front(rt, path)?, FILE_HINTS), out)
 }
 
+/// The option that helps if a string is not a term; empty if none does.
+fn non_term_remedy<'a>(action: &Action) -> &'a str {
+    match action {
+        Action::Find { .. } | Action::Search { .. } => "--skip-non-terms leaves out its triples",
+        Action::Count { .. } => "--raw prints strings, not terms",
+        _ => "",
+    }
+}
+
 /// What it means that a document has no triples.
 const NO_TRIPLES: &str = "The input is empty, or has only blank lines and comments.";
 
@@ -296,7 +305,8 @@ fn put_context(
             put_term_string(rt, subject.input, *role, *number, out)?;
             let role = role_name(*role);
             let text = format!(in rt.alloc(); "hdt string FILE {role} {number} prints the string")?;
-            put_text(text.as_str(), out)
+            put_text(text.as_str(), out)?;
+            put_text(non_term_remedy(subject.action), out)
         }
         ToolFault::NoTriples => {
             put_path_line(subject.input, out)?;

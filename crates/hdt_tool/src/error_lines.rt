@@ -1,6 +1,5 @@
 //! Exit statuses, and the error messages on standard error.
-ghost use Rattle.std.specs.Prelude.{◌≡◌, ◌++◌, IfOk, string_bytes};
-ghost use Rattle.std.specs.Fmt.{decimal};
+ghost use Rattle.std.specs.Prelude.{◌≡◌, IfOk, string_bytes};
 ghost use Rattle.hdt_tool.specs.ErrorLines.{fault_status, fault_line, usage_status, usage_line, invalid_term_line};
 ghost use Rattle.hdt_usage.specs.CommandTable.{role_name};
 

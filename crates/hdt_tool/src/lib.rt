@@ -1,9 +1,9 @@
 //! The command `hdt`: parses arguments, runs a command, prints one line if it fails, and returns the exit status. The
 //! program itself, hdt, is one call of `process_status`.
 //!
-//! Contracts: the output of `run`, `run_with_capacity`, `answer_file`, `answer_requests` and `lint_input` is a stated
-//! function of the input, and an error that they return is the first one in the input. `status_of` calls them over files and streams,
-//! and its contract states the exit status.
+//! Contracts: the output of `run`, `print_output`, `answer_file`, `answer_requests` and `lint_input` is a stated
+//! function of the input, and an error that they return is the first one in the input. `status_of` calls them over files
+//! and streams, and its contract states the exit status.
 //!
 //! Functions that state no cost take time and memory linear in their arguments.
 //!
@@ -14,7 +14,7 @@
 //! - the modules `printed_*`, `listed_strings` and `counts`: output texts;
 //! - `queries`: the output of each command that only reads; `dialogue`: requests over one graph;
 //! - `commands`: all commands, from a reader to a writer; `lint`: the one with two writers;
-//! - `split_options`, `split_arguments`, `splitting`: the command `split`;
+//! - `split_arguments`, `splitting`: the command `split`;
 //! - `term_reports` and `reporting`: commands that count what has no form in N-Triples;
 //! - `error_lines`: exit statuses and error messages; `error_context` and `error_strings`: the lines that follow a message;
 //! - `session`: what a command shows on standard error beside its message; `progress`, `progress_text`, `watched` and
@@ -50,14 +50,13 @@ mod request;
 mod session;
 mod split_arguments;
 mod split_files;
-mod split_options;
 mod splitting;
 mod status;
 mod term_reports;
 mod watched;
 
 pub use command_line::{parse_invocation, parse_words};
-pub use commands::{answer_file, run, run_with_capacity};
+pub use commands::{answer_file, print_output, run};
 pub use counts::count_lines;
 pub use dialogue::answer_requests;
 pub use error_lines::{fault_line, usage_line};
@@ -65,8 +64,8 @@ pub use fault::{TermArgument, ToolFault, UsageFault};
 pub use lint::lint_input;
 pub use reporting::run_report;
 pub use request::{
-    Action, AnswerOptions, AnswerReport, Invocation, OutputFormat, Progress, Request,
+    Action, AnswerOptions, AnswerReport, BlankNodes, Invocation, OutputFormat, Progress, Request,
+    SplitOptions, SplitOutput,
 };
-pub use split_options::{BlankNodes, SplitOptions, SplitOutput};
 pub use splitting::{SplitStop, split_inputs};
 pub use status::{process_status, status_of};

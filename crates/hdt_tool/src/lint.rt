@@ -1,9 +1,9 @@
 //! The command `lint`: reports every faulty line of a document.
-ghost use Rattle.std.specs.Prelude.{◌≡◌, ◌≢◌, ◌⊎◌, ◌+◌, false, true, if◌then◌else◌, IfOk, IfErr, IsErrOf, MatchResult, OnOk};
+ghost use Rattle.std.specs.Prelude.{◌≡◌, ◌≢◌, ◌⊎◌, ◌+◌, ℕ, List, Option, false, true, if◌then◌else◌, IfOk, IfErr, IsErrOf, MatchResult, OnOk};
 ghost use Rattle.std.specs.IoError.{error_kind};
 ghost use Rattle.hdt_wire.specs.Counted.{inner, failures};
 ghost use Rattle.hdt_tool.specs.ErrorLines.{fault_status};
-ghost use Rattle.hdt_tool.specs.Linting.{IsAny, Lints, LintsOwnedUntilError, LintsUntilError, most_faulty};
+ghost use Rattle.hdt_tool.specs.Linting.{IsAny, Lints, LintsUntilError, most_faulty};
 ghost use Rattle.hdt_tool.specs.Status.{IsCommandStatus};
 
 use crate::error_context::Subject;
@@ -118,7 +118,7 @@ fn run_lint<R: Read + Drop, K: Write, T: Write>(
     ensures stopped { result ≢ 0 → ((kept.new ≡ kept.old) × (reported.new ≡ reported.old))
         ⊎ ((result ≡ 1) × MatchResult file (λ input. Lints keep most (R.remaining input) (K.contents (inner kept.old)) (K.contents (inner kept.new))
         (T.contents (inner reported.old)) (T.contents (inner reported.new)) true) (λ _. ⊥))
-        ⊎ ((e : ToolFault) × ((result ≡ fault_status e) ⊎ (result ≡ 4)) × MatchResult file (λ input. LintsOwnedUntilError keep (R.remaining input)
+        ⊎ ((e : ToolFault) × ((result ≡ fault_status e) ⊎ (result ≡ 4)) × MatchResult file (λ input. (given : Option (List ℕ)) × LintsUntilError keep (R.remaining input) given
         (K.contents (inner kept.old)) (K.contents (inner kept.new)) (T.contents (inner reported.old)) (T.contents (inner reported.new)) e) (λ _. ⊥)) }
 {
     let mut input = match file {

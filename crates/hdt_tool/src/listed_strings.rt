@@ -120,24 +120,6 @@ fn walk_lines(
 /// Up to this many strings are decoded by themselves. So they cost little in any file, whatever its block size.
 const FEW: usize = 64;
 
-/// The lines of these IDs.
-fn id_lines(
-    alloc: Global,
-    layout: &Layout<'_>,
-    role: Role,
-    terms: bool,
-    ids: &[u64],
-) -> Result<Vec<u8>, ToolFault>
-    requires { AreAscendingIds (role_strings (layout_view layout.now).dictionary role) ids.now }
-    ensures ok { IfOk result (λ text. AreLinesOfIds (role_strings (layout_view layout.now).dictionary role) terms ids.now text.items) }
-    ensures err { IfErr result (IsLineFault (role_strings (layout_view layout.now).dictionary role) ids.now role terms) }
-{
-    if ids.len() <= FEW {
-        return look_up_lines(alloc, layout, role, terms, ids);
-    }
-    walk_lines(alloc, layout, role, terms, ids)
-}
-
 /// The lines of the strings of a role that begin with a prefix, in the order of their IDs: with `terms` the terms, else
 /// each ID, a tab and the escaped string.
 ///
@@ -158,5 +140,8 @@ pub(crate) fn listed_text(
     ensures err { IfErr result (IsListFault (role_strings (layout_view layout.now).dictionary role) prefix.now role terms) }
 {
     let ids = prefix_ids(alloc, layout, role, prefix)?;
-    id_lines(alloc, layout, role, terms, &ids)
+    if ids.len() <= FEW {
+        return look_up_lines(alloc, layout, role, terms, &ids);
+    }
+    walk_lines(alloc, layout, role, terms, &ids)
 }

@@ -1,9 +1,9 @@
 //! Writing a new file to OUT.
-ghost use Rattle.std.specs.Prelude.{◌≡◌, ◌≢◌, ◌⊎◌, ◌+◌, ℕ, [], Ok, Err, Some, IfOk, IfErr, OnOk, MatchResult};
+ghost use Rattle.std.specs.Prelude.{◌≡◌, ◌≢◌, ◌⊎◌, ◌+◌, ℕ, List, Option, [], Ok, Err, Some, IfOk, IfErr, OnOk, MatchResult};
 ghost use Rattle.std.specs.Io.KnownBytes.{Appends};
 ghost use Rattle.std.specs.IoError.{error_kind};
 ghost use Rattle.hdt_wire.specs.Counted.{inner, failures};
-ghost use Rattle.hdt_tool.specs.Outcomes.{FailsAfter, MakesFile, CompletesOwned, IsFaultOfOwnedInput};
+ghost use Rattle.hdt_tool.specs.Outcomes.{Completes, FailsAfter, IsFaultOfInput, MakesFile};
 
 use crate::atomic_replace::{replace_file, replaceable_path};
 use crate::commands::{build_file, read_all, rewrite_file, write_text};
@@ -26,9 +26,9 @@ fn make_file<R: Read + Drop>(
 ) -> Result<Vec<u8>, ToolFault>
     requires { MakesFile request.now.action }
     // The result is the command's output for the input, and `built` has gained the new file.
-    ensures ok { IfOk result (λ line. MatchResult file (λ input. CompletesOwned request.now.action (R.remaining input)
+    ensures ok { IfOk result (λ line. MatchResult file (λ input. (after : Option (List ℕ)) × Completes request.now.action (R.remaining input) after
         (Some []) (Some line.items) built.old.items built.new.items) (λ _. ⊥)) }
-    ensures told { IfErr result (λ e. IfOk file (λ input. IsFaultOfOwnedInput request.now.action (R.remaining input) e)) }
+    ensures told { IfErr result (λ e. IfOk file (λ input. (after : Option (List ℕ)) × IsFaultOfInput request.now.action (R.remaining input) after e)) }
     ensures memory { IfErr file (λ e. error_kind e ≡ ErrorKind.OutOfMemory → result ≡ Err ToolFault.OutOfMemory) }
     ensures unopened { IfErr file (λ e. error_kind e ≢ ErrorKind.OutOfMemory → result ≡ Err ToolFault.Read) }
     ensures others { IfErr result (λ e. (n : ℕ) → e ≢ ToolFault.Write n) }

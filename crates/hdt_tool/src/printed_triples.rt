@@ -1,5 +1,5 @@
 //! The output of `find` and `dump`, and the triples in the answers of `answer`.
-ghost use Rattle.std.specs.Prelude.{◌≡◌, ◌<◌, ◌^◌, ◌++◌, ◌∷◌, [], OnOk, OnErr, IfOk, IfErr, length};
+ghost use Rattle.std.specs.Prelude.{◌≡◌, ◌<◌, ◌^◌, ◌++◌, OnOk, OnErr, IfOk, IfErr, length};
 ghost use Rattle.hdt_wire.specs.Control.{IsPrefixOf};
 ghost use Rattle.hdt_file.specs.TextWriting.{matches_if_given, limited};
 ghost use Rattle.hdt_file.specs.CachedTerms.{CachesTerms};

@@ -1,10 +1,10 @@
 //! Running `find` and `dump` with `--skip-non-terms`, and `verify --terms`: their status is 1 if anything was left out or
 //! found.
-ghost use Rattle.std.specs.Prelude.{◌≡◌, ◌≢◌, ◌⊎◌, ◌+◌, ℕ, IfOk, IfErr, OnOk, IsErrOf, MatchResult, string_bytes};
+ghost use Rattle.std.specs.Prelude.{◌≡◌, ◌≢◌, ◌⊎◌, ◌+◌, ℕ, List, Option, IfOk, IfErr, OnOk, IsErrOf, MatchResult, string_bytes};
 ghost use Rattle.std.specs.IoError.{error_kind};
 ghost use Rattle.hdt_wire.specs.Counted.{inner, failures};
 ghost use Rattle.hdt_tool.specs.ErrorLines.{fault_status};
-ghost use Rattle.hdt_tool.specs.Outcomes.{CountsNonTerms, HasInputFault, IsFaultOfInput, ReportsOwned, WritesOutputPrefix, WritesPrefixOwned, WritesReport, counted_line, skipped_line};
+ghost use Rattle.hdt_tool.specs.Outcomes.{CountsNonTerms, HasInputFault, IsFaultOfInput, WritesOutputPrefix, WritesReport, counted_line, skipped_line};
 ghost use Rattle.hdt_tool.specs.Status.{IsCommandStatus};
 
 use crate::commands::{read_all, write_text};
@@ -101,11 +101,11 @@ pub(crate) fn run_report_query<R: Read + Drop, W: Write>(
     requires { CountsNonTerms action.now }
     ensures statuses { IsCommandStatus result }
     // 0: `out` has gained the output for the input, and nothing was skipped or found.
-    ensures done { result ≡ 0 → MatchResult file (λ input. ReportsOwned action.now (R.remaining input) (W.contents (inner out.old)) (W.contents (inner out.new)) 0) (λ _. ⊥) }
+    ensures done { result ≡ 0 → MatchResult file (λ input. (after : Option (List ℕ)) × WritesReport action.now (R.remaining input) after (W.contents (inner out.old)) (W.contents (inner out.new)) 0) (λ _. ⊥) }
     ensures well { result ≡ 0 → failures out.new ≡ failures out.old }
     // 1: `out` has gained the output, and something was skipped or found; or the input is not valid, and nothing was
     // written.
-    ensures counted { result ≡ 1 → MatchResult file (λ input. ((n : ℕ) × (n ≢ 0) × ReportsOwned action.now (R.remaining input) (W.contents (inner out.old)) (W.contents (inner out.new)) n)
+    ensures counted { result ≡ 1 → MatchResult file (λ input. ((n : ℕ) × (n ≢ 0) × (after : Option (List ℕ)) × WritesReport action.now (R.remaining input) after (W.contents (inner out.old)) (W.contents (inner out.new)) n)
         ⊎ (HasInputFault action.now (R.remaining input) × (out.new ≡ out.old))) (λ _. ⊥) }
     // If the input could not be opened: 4 if its error is `OutOfMemory`, else 3; or 4 if there is no memory for the
     // message.
@@ -113,8 +113,8 @@ pub(crate) fn run_report_query<R: Read + Drop, W: Write>(
     ensures unopened { IfErr file (λ e. error_kind e ≢ ErrorKind.OutOfMemory → (result ≡ 3) ⊎ (result ≡ 4)) }
     // Any but 0: nothing was written, or all of the output; or the writer failed once, after exactly the first n bytes of it.
     ensures stopped { result ≢ 0 → (out.new ≡ out.old)
-        ⊎ MatchResult file (λ input. (n : ℕ) × ReportsOwned action.now (R.remaining input) (W.contents (inner out.old)) (W.contents (inner out.new)) n) (λ _. ⊥)
-        ⊎ ((failures out.new ≡ failures out.old + 1) × (n : ℕ) × MatchResult file (λ input. WritesPrefixOwned action.now (R.remaining input)
+        ⊎ MatchResult file (λ input. (n : ℕ) × (after : Option (List ℕ)) × WritesReport action.now (R.remaining input) after (W.contents (inner out.old)) (W.contents (inner out.new)) n) (λ _. ⊥)
+        ⊎ ((failures out.new ≡ failures out.old + 1) × (n : ℕ) × MatchResult file (λ input. (after : Option (List ℕ)) × WritesOutputPrefix action.now (R.remaining input) after
         (W.contents (inner out.old)) (W.contents (inner out.new)) n) (λ _. ⊥)) }
 {
     let mut input = match file {

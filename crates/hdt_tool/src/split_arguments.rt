@@ -1,15 +1,14 @@
 //! Reading the arguments of `split`.
-ghost use Rattle.std.specs.Prelude.{◌≡◌, ℕ, List, [], Option, None, Some, IfOk, IfErr, MatchOption, codes, map, string_bytes};
-ghost use Rattle.clap.specs.Words.{all_of, first_of, found_of, rows_of};
-ghost use Rattle.hdt_tool.specs.CommandLine.{IsDecimalOf, IsFileAction, IsPartCount, IsPartOfParts, IsSplitCommand, ParsesAsBlankNodes, ParsesAsPartCount, ParsesAsSplitOutput, Refutes, further_paths};
+ghost use Rattle.std.specs.Prelude.{◌≡◌, ℕ, Option, None, Some, IfOk, IfErr, MatchOption, codes, map, string_bytes};
+ghost use Rattle.clap.specs.Words.{first_of, found_of, rows_of};
+ghost use Rattle.hdt_tool.specs.CommandLine.{IsDecimalOf, IsFileAction, IsPartOfParts, IsSplitCommand, ParsesAsBlankNodes, ParsesAsPartCount, Refutes, further_paths};
 ghost use Rattle.hdt_tool.specs.declared.request.Action.{Action};
-ghost use Rattle.hdt_tool.specs.declared.split_options.BlankNodes.{BlankNodes};
-ghost use Rattle.hdt_tool.specs.declared.split_options.SplitOptions.{SplitOptions};
+ghost use Rattle.hdt_tool.specs.declared.request.BlankNodes.{BlankNodes};
+ghost use Rattle.hdt_tool.specs.declared.request.SplitOptions.{SplitOptions};
 
 use crate::arguments::{argument_text, optional_number};
 use crate::fault::UsageFault;
-use crate::request::Action;
-use crate::split_options::{BlankNodes, SplitOptions, SplitOutput};
+use crate::request::{Action, BlankNodes, SplitOptions, SplitOutput};
 use clap::ArgMatches;
 use std::alloc::{AllocError, Global};
 

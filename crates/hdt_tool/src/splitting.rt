@@ -5,7 +5,7 @@ ghost use Rattle.hdt_terms.specs.Split.{SplitsInput};
 ghost use Rattle.hdt_tool.specs.SplitInputs.{IsScopeFault, SplitsInTurn, StopsHere, StopsInTurn, are_mixed, first_with, input_prefix};
 ghost use Rattle.hdt_tool.specs.declared.splitting.SplitStop.TheVariants as SplitStop;
 
-use crate::split_options::BlankNodes;
+use crate::request::BlankNodes;
 use hdt_terms::{SplitFault, SplitReport, split_document};
 use hdt_wire::Counted;
 use std::alloc::{AllocError, Global};

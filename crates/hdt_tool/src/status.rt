@@ -8,11 +8,11 @@
 //! | 2 | the command line is not valid, `build` or `lint` would write to its input, or `split` to a FOLDER that exists |
 //! | 3 | reading or writing failed |
 //! | 4 | out of memory |
-ghost use Rattle.std.specs.Prelude.{◌≡◌, ◌≢◌, ◌⊎◌, ◌+◌, ℕ, true, false, [], Ok, Err, Some, IfOk, IfErr, OnOk, MatchResult, map, string_bytes, if◌then◌else◌, ◌≤◌};
+ghost use Rattle.std.specs.Prelude.{◌≡◌, ◌≢◌, ◌⊎◌, ◌+◌, ℕ, List, Option, true, false, [], Ok, Err, Some, IfOk, IfErr, MatchResult, map, string_bytes, ◌≤◌};
 ghost use Rattle.std.specs.IoError.{error_kind};
 ghost use Rattle.std.specs.Vec.Iter.{into_iter_items};
 ghost use Rattle.hdt_wire.specs.Counted.{inner, failures};
-ghost use Rattle.hdt_tool.specs.Outcomes.{InterruptsStringsOwned, HasInputFault, HasOut, CompletesOwned, IsReadOnly, WritesPrefixOwned};
+ghost use Rattle.hdt_tool.specs.Outcomes.{Completes, HasInputFault, HasOut, InterruptsStrings, IsReadOnly, WritesOutputPrefix};
 ghost use Rattle.hdt_tool.specs.CommandLine.{IsRefused, IsUsageText, ParsesToInvocation};
 ghost use Rattle.hdt_tool.specs.Dialogue.{AnswersOverFile, AnswersOverFileUntilFault, plain_report};
 ghost use Rattle.hdt_tool.specs.declared.request.AnswerReport.{AnswerReport};
@@ -20,7 +20,7 @@ ghost use Rattle.hdt_tool.specs.ErrorLines.{fault_status};
 ghost use Rattle.hdt_tool.specs.Status.{Ends, IsBuild, IsCommandStatus, IsRefusalStatus, IsReportStatus};
 
 use crate::command_line::parse_invocation;
-use crate::commands::{answer_file, run_with_capacity};
+use crate::commands::{answer_file, print_output};
 use crate::error_context::{Subject, print_context, print_prefix_hint, print_term_context};
 use crate::error_lines::{OUT_OF_MEMORY, fault_line, usage_line};
 use crate::fault::{ToolFault, UsageFault, file_fault};
@@ -155,7 +155,7 @@ fn run_query<R: Read + Drop, W: Write>(
     requires { IsReadOnly request.now.action }
     ensures statuses { IsCommandStatus result }
     // 0: `out` has gained the command's output for the input, and no new file was lost.
-    ensures done { result ≡ 0 → MatchResult file (λ input. CompletesOwned request.now.action (R.remaining input)
+    ensures done { result ≡ 0 → MatchResult file (λ input. (after : Option (List ℕ)) × Completes request.now.action (R.remaining input) after
         (W.contents (inner out.old)) (W.contents (inner out.new)) [] []) (λ _. ⊥) }
     ensures well { result ≡ 0 → failures out.new ≡ failures out.old }
     // 1: the input is not valid or has no triples, a look-up found nothing, or a string is not a term.
@@ -168,20 +168,19 @@ fn run_query<R: Read + Drop, W: Write>(
     // 2, 3 and 4: nothing was written; or the writer failed once, after exactly the first n bytes of the output; or
     // `strings` ran out of memory after a prefix of its output.
     ensures stopped { result ≢ 0 → (out.new ≡ out.old)
-        ⊎ ((failures out.new ≡ failures out.old + 1) × (n : ℕ) × MatchResult file (λ input. WritesPrefixOwned request.now.action (R.remaining input)
+        ⊎ ((failures out.new ≡ failures out.old + 1) × (n : ℕ) × MatchResult file (λ input. (after : Option (List ℕ)) × WritesOutputPrefix request.now.action (R.remaining input) after
         (W.contents (inner out.old)) (W.contents (inner out.new)) n) (λ _. ⊥))
-        ⊎ MatchResult file (λ input. InterruptsStringsOwned request.now.action (R.remaining input)
+        ⊎ MatchResult file (λ input. (after : Option (List ℕ)) × InterruptsStrings request.now.action (R.remaining input) after
         (W.contents (inner out.old)) (W.contents (inner out.new)) (failures out.old) (failures out.new)) (λ _. ⊥) }
 {
     let mut input = match file {
         Ok(input) => Counted::new(input),
         Err(error) => return done(rt, subject, Err(file_fault(&error, ToolFault::Read))),
     };
-    let mut made = Vec::new(rt.alloc());
     done(
         rt,
         subject,
-        run_with_capacity(rt.alloc(), request, &mut input, capacity, out, &mut made),
+        print_output(rt.alloc(), &request.action, &mut input, capacity, out),
     )
 }
 
@@ -252,7 +251,7 @@ fn run_answer<F: Read + Drop, R: Read, W: Write>(
 ) -> u8
     ensures statuses { IsCommandStatus result }
     // 0: `out` has gained the answers to all requests, none of which is an error, and no triple was left out.
-    ensures done { result ≡ 0 → MatchResult file (λ file. AnswersOverFile options (F.remaining file) (R.remaining (inner input.old))
+    ensures done { result ≡ 0 → MatchResult file (λ file. (after : Option (List ℕ)) × AnswersOverFile options (F.remaining file) after (R.remaining (inner input.old))
         (W.contents (inner out.old)) (W.contents (inner out.new)) (plain_report false)) (λ _. ⊥) }
     ensures well { result ≡ 0 → failures out.new ≡ failures out.old }
     // If the file could not be opened: 4 if its error is `OutOfMemory`, else 3; or 4 if there is no memory for the
@@ -263,9 +262,9 @@ fn run_answer<F: Read + Drop, R: Read, W: Write>(
     // or 4 if there is no memory for the message); or an error with this status, or lack of memory for its message, ended
     // the answers.
     ensures stopped { result ≢ 0 → (out.new ≡ out.old)
-        ⊎ ((report : AnswerReport) × IsReportStatus report result × MatchResult file (λ file. AnswersOverFile options (F.remaining file)
+        ⊎ ((report : AnswerReport) × IsReportStatus report result × MatchResult file (λ file. (after : Option (List ℕ)) × AnswersOverFile options (F.remaining file) after
         (R.remaining (inner input.old)) (W.contents (inner out.old)) (W.contents (inner out.new)) report) (λ _. ⊥))
-        ⊎ ((e : ToolFault) × ((result ≡ fault_status e) ⊎ (result ≡ 4)) × MatchResult file (λ file. AnswersOverFileUntilFault options (F.remaining file)
+        ⊎ ((e : ToolFault) × ((result ≡ fault_status e) ⊎ (result ≡ 4)) × MatchResult file (λ file. (after : Option (List ℕ)) × AnswersOverFileUntilFault options (F.remaining file) after
         (R.remaining (inner input.old)) (R.remaining (inner input.new)) (W.contents (inner out.old)) (W.contents (inner out.new))
         (failures out.old) (failures out.new) e) (λ _. ⊥)) }
 {

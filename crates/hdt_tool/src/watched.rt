@@ -54,9 +54,8 @@ impl<R: Read> Read for Watched<'_, R> {
 }
 
 impl<W: Write> Write for Watched<'_, W> {
-    ghost use Rattle.std.specs.Prelude.{OnOk};
     ghost use Rattle.std.specs.Io.{WritesAtMost};
-    ghost use Rattle.std.specs.Io.KnownBytes.{WriteAppends, Keeps, Appends};
+    ghost use Rattle.std.specs.Io.KnownBytes.{WriteAppends, Keeps};
 
     // It passes all bytes on to the writer.
     ghost contents = { λ s. W.contents s.inner };

@@ -18,4 +18,4 @@ returns-in_err-put_count_line-clause-err c =
 pub put_count_line-requires : goal.put_count_line-requires
 put_count_line-requires c =
     let s = steps c.strings.strings c.next.new.self c.in-Some.number (sym c.in-Some.is ∙ c.in_ok-number.ensures.number) c.in_ok-number.ensures.ok in
-    string_is _ _ _ c.strings.strings c.next.new.self c.in-Some.number c.strings.text.items c.last.result.now c.strings.invariant s c.last.ensures
+    string_is _ c.strings.strings c.next.new.self c.in-Some.number c.last.result.now c.strings.invariant.returned s c.last.ensures

@@ -1,24 +1,10 @@
-use Rattle.std.proofs.Common.{◌≡◌, ◌⊎◌, Bool, Err, MatchResult, false, inr}
+use Rattle.std.proofs.Common.{◌≡◌, ◌⊎◌, ℕ, List, Option, Bool, MatchResult, false, inr}
 use Rattle.std.proofs.lemmas.Result.{IfErr-weaker, IfOk-weaker}
 use Rattle.hdt_wire.specs.Counted.{inner}
-use Rattle.hdt_tool.specs.Linting.{Lints, LintsOwnedUntilError}
+use Rattle.hdt_tool.specs.Linting.{Lints, LintsUntilError}
 use Rattle.hdt_tool.specs.declared.fault.ToolFault.{ToolFault}
-use Rattle.hdt_tool.proofs.Statuses.{command_status, if_done, lint_done, lint_status, lint_stopped, opened, refused_memory, refused_unopened}
+use Rattle.hdt_tool.proofs.Statuses.{if_done, lint_done, lint_status, lint_stopped, opened}
 use Rattle.hdt_tool.proofs.lint.run_lint.Goals as goal
-
-pub returns-in-Err-clause-statuses : goal.returns-in-Err-clause-statuses
-returns-in-Err-clause-statuses g c = command_status (Err c.file_fault.result) c.done.result c.done.ensures
-
-pub returns-in-Err-clause-done : goal.returns-in-Err-clause-done
-returns-in-Err-clause-done g c is = if_done {T = Unit {0}} (λ _. c.done.result ≡ 0) (Err c.file_fault.result) c.done.result c.done.ensures tt is
-
-pub returns-in-Err-clause-memory : goal.returns-in-Err-clause-memory
-returns-in-Err-clause-memory g c =
-    refused_memory _ c.args.file c.in-Err.why c.file_fault.result c.done.result c.in-Err.is c.file_fault.ensures.memory c.done.ensures
-
-pub returns-in-Err-clause-unopened : goal.returns-in-Err-clause-unopened
-returns-in-Err-clause-unopened g c =
-    refused_unopened _ c.args.file c.in-Err.why c.file_fault.result c.done.result c.in-Err.is c.file_fault.ensures.either c.done.ensures
 
 pub returns-clause-statuses : goal.returns-clause-statuses
 returns-clause-statuses g c = lint_status c.lint_input.result c.lint_status.result c.lint_status.ensures
@@ -45,7 +31,7 @@ returns-clause-stopped g c not =
     let reported = g.T.Write.contents (inner c.args.reported.now) in
     let more_reported = g.T.Write.contents (inner c.lint_input.new.reported) in
     let Whole : Bool → Type 0 = λ faulty. MatchResult c.args.file (λ input. Lints c.args.keep c.args.most (left input) kept more_kept reported more_reported faulty) (λ _. ⊥) in
-    let Cut : ToolFault → Type 0 = λ e. MatchResult c.args.file (λ input. LintsOwnedUntilError c.args.keep (left input) kept more_kept reported more_reported e) (λ _. ⊥) in
+    let Cut : ToolFault → Type 0 = λ e. MatchResult c.args.file (λ input. (given : Option (List ℕ)) × LintsUntilError c.args.keep (left input) given kept more_kept reported more_reported e) (λ _. ⊥) in
     let Nothing : Type 0 = (c.lint_input.new.kept ≡ c.args.kept.now) × (c.lint_input.new.reported ≡ c.args.reported.now) in
     let whole =
     IfOk-weaker c.lint_input.result _ Whole
@@ -53,6 +39,6 @@ returns-clause-stopped g c not =
     c.new-input.ensures.inner h) c.lint_input.ensures.ok in
     let cut =
     IfErr-weaker c.lint_input.result _ (λ e. Nothing ⊎ Cut e)
-    (λ e h. inr (opened (λ input. LintsOwnedUntilError c.args.keep (left input) kept more_kept reported more_reported e) c.args.file c.in-Ok.input (inner c.new-input.result)
-    c.in-Ok.is c.new-input.ensures.inner (record { given = after; lints = h }))) c.lint_input.ensures.stopped in
+    (λ e h. inr (opened (λ input. (given : Option (List ℕ)) × LintsUntilError c.args.keep (left input) given kept more_kept reported more_reported e) c.args.file c.in-Ok.input (inner c.new-input.result)
+    c.in-Ok.is c.new-input.ensures.inner (after, h))) c.lint_input.ensures.stopped in
     lint_stopped {A = Nothing} Whole Cut c.lint_input.result c.lint_status.result c.lint_status.ensures whole cut not

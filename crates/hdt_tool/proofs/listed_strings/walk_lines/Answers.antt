@@ -1,7 +1,7 @@
 use Rattle.std.proofs.Common.{◌∙◌, sym}
 use Rattle.std.proofs.lemmas.Result.{err_from_is_err_and}
-use Rattle.hdt_tool.proofs.CountLines.{steps}
-use Rattle.hdt_tool.proofs.ListedLines.{id_fails, kept, passed, starts, walked_string, walked_to_the_end}
+use Rattle.hdt_tool.proofs.CountLines.{steps, string_is}
+use Rattle.hdt_tool.proofs.ListedLines.{id_fails, kept, passed, starts, walked_to_the_end}
 use Rattle.hdt_tool.proofs.listed_strings.walk_lines.Goals as goal
 
 pub strings-init : goal.strings-init
@@ -20,7 +20,7 @@ pub returns-in_err-put_listed_line-clause-err : goal.returns-in_err-put_listed_l
 returns-in_err-put_listed_line-clause-err c =
     let p = err_from_is_err_and c.from_residual-in_err-put_listed_line.result c.from_residual-in_err-put_listed_line.ensures.1 in
     let s = steps c.strings.strings c.next.new.self c.in-Some.number (sym c.in-Some.is ∙ c.in_ok-number.ensures.number) c.in_ok-number.ensures.ok in
-    let there = walked_string _ c.args.terms c.args.ids.now c.strings.strings c.next.new.self c.strings.at c.in-Some.number c.strings.text.items c.last.result.now c.strings.invariant s c.last.ensures in
+    let there = string_is _ c.strings.strings c.next.new.self c.in-Some.number c.last.result.now c.strings.invariant.returned s c.last.ensures in
     rw (p.1, p.2) (id_fails _ c.args.role c.args.terms c.args.ids.now c.strings.at c.in-Some.number 0 c.strings.text.items c.last.result.now c.in_err-put_listed_line.field-0.0 c.strings-test.true
     c.if-number-ids.false c.strings.invariant.lines there c.in_err-put_listed_line.ensures.err)
 

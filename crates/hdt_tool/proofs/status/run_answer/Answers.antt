@@ -1,23 +1,9 @@
-use Rattle.std.proofs.Common.{◌≡◌, Err, MatchResult, false, inl, inr}
+use Rattle.std.proofs.Common.{ℕ, List, Option, MatchResult, false, inl, inr}
 use Rattle.std.proofs.lemmas.Result.{IfErr-weaker, IfOk-weaker}
 use Rattle.hdt_wire.specs.Counted.{inner, failures}
 use Rattle.hdt_tool.specs.Dialogue.{AnswersOverFile, AnswersOverFileUntilFault, plain_report}
-use Rattle.hdt_tool.proofs.Statuses.{answers_done, answers_status, answers_stopped, command_status, if_done, opened, refused_memory, refused_unopened}
+use Rattle.hdt_tool.proofs.Statuses.{answers_done, answers_status, answers_stopped, if_done, opened}
 use Rattle.hdt_tool.proofs.status.run_answer.Goals as goal
-
-pub returns-in-Err-clause-statuses : goal.returns-in-Err-clause-statuses
-returns-in-Err-clause-statuses g c = command_status (Err c.file_fault.result) c.done.result c.done.ensures
-
-pub returns-in-Err-clause-done : goal.returns-in-Err-clause-done
-returns-in-Err-clause-done g c is = if_done {T = Unit {0}} (λ _. c.done.result ≡ 0) (Err c.file_fault.result) c.done.result c.done.ensures tt is
-
-pub returns-in-Err-clause-memory : goal.returns-in-Err-clause-memory
-returns-in-Err-clause-memory g c =
-    refused_memory _ c.args.file c.in-Err.why c.file_fault.result c.done.result c.in-Err.is c.file_fault.ensures.memory c.done.ensures
-
-pub returns-in-Err-clause-unopened : goal.returns-in-Err-clause-unopened
-returns-in-Err-clause-unopened g c =
-    refused_unopened _ c.args.file c.in-Err.why c.file_fault.result c.done.result c.in-Err.is c.file_fault.ensures.either c.done.ensures
 
 pub returns-clause-statuses : goal.returns-clause-statuses
 returns-clause-statuses g c = answers_status c.answer_file.result c.answers_status.result c.answers_status.ensures
@@ -28,11 +14,8 @@ returns-clause-done g c is =
     let input = g.R.Read.remaining (inner c.args.input.now) in
     let old = g.W.Write.contents (inner c.args.out.now) in
     let new = g.W.Write.contents (inner c.answer_file.new.out) in
-    opened (λ file. AnswersOverFile c.args.options (left file) input old new (plain_report false)) c.args.file c.in-Ok.file (inner c.new-file.result) c.in-Ok.is c.new-file.ensures.inner
-    (record {
-      after = left (inner c.answer_file.new.file);
-      answers = answers_done _ c.answer_file.result c.answers_status.result c.answers_status.ensures c.answer_file.ensures.ok is;
-    })
+    opened (λ file. (after : Option (List ℕ)) × AnswersOverFile c.args.options (left file) after input old new (plain_report false)) c.args.file c.in-Ok.file (inner c.new-file.result) c.in-Ok.is c.new-file.ensures.inner
+    (left (inner c.answer_file.new.file), answers_done _ c.answer_file.result c.answers_status.result c.answers_status.ensures c.answer_file.ensures.ok is)
 
 pub returns-clause-well : goal.returns-clause-well
 returns-clause-well g c is = if_done _ c.answer_file.result c.answers_status.result c.answers_status.ensures c.answer_file.ensures.writer_well is
@@ -48,13 +31,13 @@ returns-clause-stopped g c not =
     let f = failures c.args.out.now in
     let g' = failures c.answer_file.new.out in
     let whole =
-    IfOk-weaker c.answer_file.result _ (λ report. MatchResult c.args.file (λ file. AnswersOverFile c.args.options (left file) input old new report) (λ _. ⊥))
-    (λ report h. opened (λ file. AnswersOverFile c.args.options (left file) input old new report) c.args.file c.in-Ok.file (inner c.new-file.result) c.in-Ok.is
-    c.new-file.ensures.inner (record { after = after; answers = h })) c.answer_file.ensures.ok in
+    IfOk-weaker c.answer_file.result _ (λ report. MatchResult c.args.file (λ file. (after : Option (List ℕ)) × AnswersOverFile c.args.options (left file) after input old new report) (λ _. ⊥))
+    (λ report h. opened (λ file. (after : Option (List ℕ)) × AnswersOverFile c.args.options (left file) after input old new report) c.args.file c.in-Ok.file (inner c.new-file.result) c.in-Ok.is
+    c.new-file.ensures.inner (after, h)) c.answer_file.ensures.ok in
     let cut =
     IfErr-weaker c.answer_file.result _ _ (λ e h. elim h [
       | inl none ↦ inl none.2
-      | inr some ↦ inr (opened (λ file. AnswersOverFileUntilFault c.args.options (left file) input given old new f g' e) c.args.file c.in-Ok.file (inner c.new-file.result)
-          c.in-Ok.is c.new-file.ensures.inner (record { after = after; answers = some }))
+      | inr some ↦ inr (opened (λ file. (after : Option (List ℕ)) × AnswersOverFileUntilFault c.args.options (left file) after input given old new f g' e) c.args.file c.in-Ok.file (inner c.new-file.result)
+          c.in-Ok.is c.new-file.ensures.inner (after, some))
     ]) c.answer_file.ensures.stopped in
     answers_stopped _ _ c.answer_file.result c.answers_status.result c.answers_status.ensures whole cut

@@ -1,40 +1,19 @@
-use Rattle.std.proofs.Common.{◌≡◌, ◌↔◌, ◌∙◌, ℕ, List, [], Ok, Err, IfErr, IsErrOf, OnErr, OnOk, ap, append-nil, length, refl, rules, subst, sym}
+use Rattle.std.proofs.Common.{◌≡◌, ◌↔◌, ◌∙◌, ℕ, List, Ok, Err, IfErr, IsErrOf, OnErr, OnOk, ap, length, rules, subst, sym}
 use Rattle.std.specs.Io.KnownBytes.{Appends}
-use Rattle.std.proofs.lemmas.Result.{IfErr-weaker, err_from_is_err_and, on_ok_weaker}
+use Rattle.std.proofs.lemmas.Result.{err_from_is_err_and, on_ok_weaker}
 use Rattle.std.specs.declared.alloc.Global.{Global}
 use Rattle.std.specs.declared.vec.Vec.{Vec}
 use Rattle.hdt_wire.specs.Counted.{inner, failures}
 use Rattle.hdt_build.specs.Options.{AreValidOptions}
 use Rattle.hdt_build.specs.declared.options.Options.{Options}
-use Rattle.hdt_tool.specs.Outcomes.{Completes, IfBuild, IsReadOnly, Prints, ReadsWith, IsFaultOfBytes, IsFaultOfInput, WritesOutputPrefix, Yields, YieldsAppended}
+use Rattle.hdt_tool.specs.Outcomes.{IfBuild, IsFaultOfBytes, IsFaultOfInput, Yields, YieldsAppended}
 use Rattle.hdt_tool.specs.declared.request.Action.{Action}
 use Rattle.hdt_tool.specs.declared.request.Action.TheVariants.{Rewrite}
 use Rattle.hdt_tool.specs.declared.fault.ToolFault.TheVariants.{BadOptions}
 use Rattle.hdt_tool.proofs.InputFaults.{fault_of_input}
-use Rattle.hdt_tool.proofs.Outputs.{IsWriteFault, completes, no_options, not_bad_writing, nothing_built, only_writing, read_only, restored, rewrites, told_writing, writes_prefix}
+use Rattle.hdt_tool.proofs.Outputs.{IsWriteFault, completes, no_options, not_bad_writing, nothing_built, only_writing, read_only, restored, rewrites, writes_prefix}
 use Rattle.hdt_tool.proofs.Rewriting.{not_error, same_error, still_bad}
-use Rattle.hdt_tool.proofs.commands.run_with_capacity.Goals as goal
-
-pub returns-in-Strings-clause-ok : goal.returns-in-Strings-clause-ok
-returns-in-Strings-clause-ok g c =
-    let left = g.R.Read.remaining in
-    let before = left (inner c.args.input.now) in
-    let after = left (inner c.run_strings.new.input) in
-    let old = g.W.Write.contents (inner c.args.out.now) in
-    let new = g.W.Write.contents (inner c.run_strings.new.out) in
-    let made = c.args.made.now.items in
-    on_ok_weaker c.run_strings.result (λ h. subst (λ (a : Action). Completes a before after old new made made) (sym c.in-Strings.is)
-    (record { text = h.0; makes = record { built = []; yields = (h.1, refl); made = sym (append-nil made) }; written = h.2 })) c.run_strings.ensures.ok
-
-pub returns-in-Strings-clause-write : goal.returns-in-Strings-clause-write
-returns-in-Strings-clause-write g c =
-    let left = g.R.Read.remaining in
-    let before = left (inner c.args.input.now) in
-    let after = left (inner c.run_strings.new.input) in
-    let old = g.W.Write.contents (inner c.args.out.now) in
-    let new = g.W.Write.contents (inner c.run_strings.new.out) in
-    IfErr-weaker c.run_strings.result _ _
-    (λ e h n is. let w = h n is in (w.0, subst (λ (a : Action). WritesOutputPrefix a before after old new n) (sym c.in-Strings.is) w.1)) c.run_strings.ensures.write
+use Rattle.hdt_tool.proofs.commands.run.Goals as goal
 
 pub returns-in_err-line-in-Build-clause-bad : goal.returns-in_err-line-in-Build-clause-bad
 returns-in_err-line-in-Build-clause-bad g c =
@@ -168,66 +147,16 @@ returns-in_ok-line-in-Rewrite-clause-kept g c =
     subst (λ r. OnErr r (last ≡ made)) (sym c.truncate_on_error-in-Rewrite.ensures.same)
     (restored c.write_text-in-Rewrite.result start made made_more.0 more last long made_more.2 c.truncate_on_error-in-Rewrite.ensures.err)
 
-pub returns-in_ok-text-in_default-clause-ok : goal.returns-in_ok-text-in_default-clause-ok
-returns-in_ok-text-in_default-clause-ok g c =
-    let left = g.R.Read.remaining in
-    let action = c.args.request.now.action in
-    let before = left (inner c.args.input.now) in
-    let after = left (inner c.read_all-in_default.new.input) in
-    let old = g.W.Write.contents (inner c.args.out.now) in
-    let new = g.W.Write.contents (inner c.write_text-in_default.new.out) in
-    let made = c.args.made.now.items in
-    let text = c.in_ok-text-in_default.text.items in
-    let only : IsReadOnly action = read_only action c.in_default.not-Build c.in_default.not-Rewrite in
-    let printed : ReadsWith before after (λ bytes. Prints action bytes text) = record {
-      bytes = c.in_ok-bytes-in_default.bytes.items;
-      read = c.in_ok-bytes-in_default.ensures.ok;
-      holds = subst (λ (bytes : List ℕ). Prints action bytes text) c.deref-in_default.ensures.value c.in_ok-text-in_default.ensures.ok;
-    } in
-    completes c.write_text-in_default.result action before after old new text made made made (nothing_built action only before after text made printed)
-    (subst (λ (text : List ℕ). OnOk c.write_text-in_default.result (Appends old new text)) c.deref-in_default-2.ensures.value c.write_text-in_default.ensures.ok)
-    (on_ok_weaker c.write_text-in_default.result (λ h. refl) c.write_text-in_default.ensures.ok)
+pub print_output-requires : goal.print_output-requires
+print_output-requires g c = read_only _ c.in_default.not-Build c.in_default.not-Rewrite
 
-pub returns-in_ok-text-in_default-clause-told : goal.returns-in_ok-text-in_default-clause-told
-returns-in_ok-text-in_default-clause-told g c =
-    let left = g.R.Read.remaining in
-    let old = g.W.Write.contents (inner c.args.out.now) in
-    let new = g.W.Write.contents (inner c.write_text-in_default.new.out) in
-    told_writing c.write_text-in_default.result c.args.request.now.action (left (inner c.args.input.now)) (left (inner c.read_all-in_default.new.input)) old new
-    c.deref-in_default-2.result.now (failures c.args.out.now) (failures c.write_text-in_default.new.out) c.write_text-in_default.ensures.failed
+pub returns-in_default-clause-ok : goal.returns-in_default-clause-ok
+returns-in_default-clause-ok g c =
+    let only = read_only _ c.in_default.not-Build c.in_default.not-Rewrite in
+    on_ok_weaker c.print_output.result (λ h. record { text = h.0; makes = nothing_built _ only _ _ h.0 _ h.1; written = h.2 }) c.print_output.ensures.ok
 
-pub returns-in_ok-text-in_default-clause-bad : goal.returns-in_ok-text-in_default-clause-bad
-returns-in_ok-text-in_default-clause-bad g c =
-    no_options c.args.request.now.action _ (read_only c.args.request.now.action c.in_default.not-Build c.in_default.not-Rewrite)
+pub returns-in_default-clause-bad : goal.returns-in_default-clause-bad
+returns-in_default-clause-bad g c = no_options _ _ (read_only _ c.in_default.not-Build c.in_default.not-Rewrite)
 
-pub returns-in_ok-text-in_default-clause-unread : goal.returns-in_ok-text-in_default-clause-unread
-returns-in_ok-text-in_default-clause-unread g c =
-    no_options c.args.request.now.action _ (read_only c.args.request.now.action c.in_default.not-Build c.in_default.not-Rewrite)
-
-pub returns-in_ok-text-in_default-clause-write : goal.returns-in_ok-text-in_default-clause-write
-returns-in_ok-text-in_default-clause-write g c =
-    let left = g.R.Read.remaining in
-    let action = c.args.request.now.action in
-    let before = left (inner c.args.input.now) in
-    let after = left (inner c.read_all-in_default.new.input) in
-    let old = g.W.Write.contents (inner c.args.out.now) in
-    let new = g.W.Write.contents (inner c.write_text-in_default.new.out) in
-    let f = failures c.args.out.now in
-    let f' = failures c.write_text-in_default.new.out in
-    let text = c.in_ok-text-in_default.text.items in
-    let only : IsReadOnly action = read_only action c.in_default.not-Build c.in_default.not-Rewrite in
-    let printed : ReadsWith before after (λ bytes. Prints action bytes text) = record {
-      bytes = c.in_ok-bytes-in_default.bytes.items;
-      read = c.in_ok-bytes-in_default.ensures.ok;
-      holds = subst (λ (bytes : List ℕ). Prints action bytes text) c.deref-in_default.ensures.value c.in_ok-text-in_default.ensures.ok;
-    } in
-    let makes = nothing_built action only before after text c.args.made.now.items printed in
-    writes_prefix c.write_text-in_default.result action before after old new text makes.built f f' makes.yields
-    (subst (λ (text : List ℕ). IfErr c.write_text-in_default.result (IsWriteFault text old new f f')) c.deref-in_default-2.ensures.value c.write_text-in_default.ensures.failed)
-
-pub returns-in_ok-text-in_default-clause-unwritten : goal.returns-in_ok-text-in_default-clause-unwritten
-returns-in_ok-text-in_default-clause-unwritten g c =
-    let old = g.W.Write.contents (inner c.args.out.now) in
-    let new = g.W.Write.contents (inner c.write_text-in_default.new.out) in
-    only_writing _ c.write_text-in_default.result old new c.deref-in_default-2.result.now (failures c.args.out.now) (failures c.write_text-in_default.new.out)
-    c.write_text-in_default.ensures.failed
+pub returns-in_default-clause-unread : goal.returns-in_default-clause-unread
+returns-in_default-clause-unread g c = no_options _ _ (read_only _ c.in_default.not-Build c.in_default.not-Rewrite)
