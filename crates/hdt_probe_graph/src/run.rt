@@ -6,8 +6,9 @@ use crate::open::graph_of;
 use hdt_probe::{Args, Reply};
 use hdt_terms::{LineFault, TermFault};
 use hdt_tool::{
-    Action, AnswerOptions, AnswerReport, OutputFormat, Request, TermArgument, ToolFault, UsageFault,
-    answer_file, answer_requests, fault_line, parse_words, print_output, run, usage_line,
+    Action, AnswerOptions, AnswerReport, OutputFormat, Request, TermArgument, ToolFault,
+    UsageFault, answer_file, answer_requests, fault_line, parse_words, print_output, run,
+    usage_line,
 };
 use hdt_wire::Fault;
 use std::alloc::AllocError;
