@@ -124,7 +124,12 @@ pub(crate) fn write_text<W: Write>(text: &[u8], out: &mut Counted<W>) -> Result<
 }
 
 /// Runs a command that writes no file, as [`run`] does: reads `input` to its end, into a buffer of this initial capacity,
-/// and writes the command's output. Only `strings` writes in pieces.
+/// and writes the command's output. Only `strings` writes in pieces; `answer`, `lint` and `split` write nothing here.
+/// Memory and time: those of [`run`].
+///
+/// # Errors
+///
+/// Those of [`run`]; its clauses say when each of them occurs, and what was written.
 pub fn print_output<R: Read, W: Write>(
     alloc: Global,
     action: &Action,
@@ -159,7 +164,7 @@ pub fn print_output<R: Read, W: Write>(
 
 /// Runs a request: reads `input` to its end and writes the command's output to `out`. `build` and `rewrite` append the
 /// new file to `made`; other commands leave it unchanged. `run` opens no file: `input` is the content of
-/// `request.file`.
+/// `request.file`. The program itself calls [`print_output`], with the size of the file.
 ///
 /// Memory: the input and the complete output (`strings` writes in pieces). Time: that of the library call, such as
 /// [`verify`](hdt_file::verify), [`graph_text`](hdt_file::graph_text) or [`build`](hdt_build::build).

@@ -21,6 +21,7 @@ use std::io::{self, BufRead, BufReader, IsTerminal, Read, Write};
 /// What an error message is about.
 #[derive(Clone, Copy)]
 pub(crate) struct Subject<'a> {
+    /// The command.
     action: &'a Action,
     /// The path of the input.
     input: &'a str,
