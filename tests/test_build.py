@@ -273,7 +273,7 @@ def unlike_literals(count: int, length: int) -> bytes:
     return b"".join(b'<u:s> <u:p> "%05d%b" .\n' % (i, b"x" * length) for i in range(count))
 
 
-@pytest.mark.parametrize("count", [1, 40, 63, 64])
+@pytest.mark.parametrize("count", [1, 8, 9, 40])
 def test_few_long_strings(tmp_path: Path, count: int) -> None:
     """Few long strings with one beginning take at most thrice the time of as many bytes that share nothing."""
     commands: list[list[Word]] = []
@@ -283,6 +283,26 @@ def test_few_long_strings(tmp_path: Path, count: int) -> None:
     few, many = commands
     measured = measure(lambda: cpu_seconds(many), lambda: cpu_seconds(few), 3, 0.004)
     assert is_linear(measured, 3, 0.004), measured
+
+
+def staged_literals(count: int) -> list[bytes]:
+    """Lines of so many literals that share 400 bytes, and of forty that differ from them after 8, 16, 24, .. bytes."""
+    return [b'<u:s> <u:p> "%bz" .\n' % (b"x" * 8 * i) for i in range(1, 41)] + literals(count, 400).splitlines(True)
+
+
+def test_staged_prefixes(tmp_path: Path) -> None:
+    """If each key tells only one string from the others, all are sorted by comparison in the end, in linear time."""
+    commands: list[list[Word]] = []
+    for count in 2_000, 32_000:
+        source, out = tmp_path / f"{count}.nt", tmp_path / f"{count}.hdt"
+        lines = staged_literals(count)
+        source.write_bytes(b"".join(reversed(lines)))
+        assert hdt("build", source, out).status == 0
+        assert hdt("dump", out).out == b"".join(sorted(lines))
+        commands.append([PROGRAM, "build", source, out])
+    small, large = commands
+    measured = measure(lambda: cpu_seconds(small), lambda: cpu_seconds(large), 32, 0.004)
+    assert is_linear(measured, 32, 0.004), measured
 
 
 # ---- the program: errors
