@@ -227,7 +227,8 @@ def test_look_ups(tmp_path: Path) -> None:
 def test_not_a_term(tmp_path: Path) -> None:
     """How the string is printed that is no term, and which option does without it."""
     (tmp_path / "bad.hdt").write_bytes(errors.NOT_A_TERM)
-    lines = ["hdt: object 3 is not a term", "  bad.hdt", "  object 3: x", "  hdt string FILE object 3 prints the string"]
+    lines = ["hdt: object 3 is not a term", "  bad.hdt", "  object 3: x",
+             "  hdt string FILE object 3 prints the string"]
     skipping = [*lines, "  --skip-non-terms leaves out its triples"]
     assert verbose("dump", "bad.hdt", cwd=tmp_path) == skipping
     assert verbose("find", "bad.hdt", "?", "?", "?", cwd=tmp_path) == skipping
