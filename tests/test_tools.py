@@ -335,12 +335,12 @@ esac
 
 def test_differential(tmp_path: Path) -> None:
     """The same program differs nowhere; another one is found out by what it prints and by the files that it leaves."""
-    status, out, err = tool("differential", BUILT_PROGRAM, BUILT_PROGRAM, "--requests", "60")
-    assert (status, err, out.splitlines()[-1]) == (0, b"", b"60 requests, 0 differences")
+    status, out, err = tool("differential", BUILT_PROGRAM, BUILT_PROGRAM, "--requests", "300")
+    assert (status, err, out.splitlines()[-1]) == (0, b"", b"300 requests, 0 differences")
     changed = tmp_path / "hdt"
     changed.write_text(CHANGED.format(program=BUILT_PROGRAM))
     changed.chmod(0o755)
-    status, out, err = tool("differential", BUILT_PROGRAM, changed, "--requests", "60")
+    status, out, err = tool("differential", BUILT_PROGRAM, changed, "--requests", "300")
     assert (status, err) == (1, b"")
     found = re.findall(rb"^request \d+: \['(\w+)', .*\] differs in (.*?): ", out, re.M)
     assert {(command, what.split(b", ")[-1]) for command, what in found} == {

@@ -153,7 +153,7 @@ def options(draw: random.Random, names: list[str]) -> list[str]:
     chosen = []
     for name in names:
         if draw.random() < 0.25:
-            chosen += [name, str(draw.choice([0, 1, 3, 1000]))] if name == "--most" else [name]
+            chosen += [name, str(draw.choice([0, 1, 3, 1000]))] if name in ("--most", "--top") else [name]
     return chosen
 
 
@@ -179,64 +179,95 @@ def making(draw: random.Random, command: str, source: str) -> list[str]:
     return words
 
 
+COMMANDS = {
+    "answer": 1,
+    "build": 2,
+    "count": 1,
+    "dump": 1,
+    "explain": 1,
+    "find": 2,
+    "head": 1,
+    "info": 1,
+    "lint": 1,
+    "number": 1,
+    "rewrite": 1,
+    "split": 1,
+    "string": 1,
+    "strings": 1,
+    "usage": 1,
+    "verify": 1,
+}
+USAGES: list[list[str]] = [
+    [],
+    ["--version"],
+    ["--help"],
+    ["find"],
+    ["find", "a.hdt", "?"],
+    ["nothing"],
+    ["head", "missing.hdt"],
+    ["strings", "a.hdt", "verb"],
+]
+FINDING = ["--numbers", "--count", "--most", "--skip-non-terms", "--verbose"]
+
+
+def about_terms(draw: random.Random, command: str, graph: list[Strings], raw: bool) -> list[str]:
+    """Return the arguments of a command that takes a role."""
+    role = draw.randrange(3)
+    words = [command, "a.hdt", ROLES[role]]
+    if command == "count":
+        return words + options(draw, ["--raw", "--top", "--verbose"])
+    if command == "strings":
+        prefix = os.fsdecode(term(draw, graph, role)[: draw.randrange(12)])
+        return words + options(draw, ["--terms", "--verbose"]) + draw.choice([[], [], [f"--prefix={prefix}"]])
+    if command == "string":
+        return [*words, str(draw.choice([0, 1, 2, 7, 100, 10**19]))]
+    return [command, "a.hdt", *["--raw"][: int(raw)], ROLES[role], spelled(draw, term(draw, graph, role), raw)]
+
+
+def about_lines(draw: random.Random, command: str) -> list[str]:
+    """Return the arguments of a command that reads N-Triples and prints."""
+    if command == "lint":
+        return [command, "a.nt", *options(draw, ["--keep", "--most", "--verbose"])]
+    words = [command, *draw.choice([["a.nt"], ["a.nt"], ["a.nt", "b.nt"], ["a.nt", "missing.nt"]])]
+    parts = [["--of", "1/3"], ["--of", "2/2"], ["--of", "0/2"], ["parts", "--parts", "3"], ["--parts", "2"]]
+    words += draw.choice(parts)
+    return words + draw.choice([[], [], ["--blank-nodes", draw.choice(["one", "apart", "x"])]])
+
+
+def arguments(draw: random.Random, command: str, graph: list[Strings], raw: bool) -> list[str]:
+    """Return the arguments of a request."""
+    if command in ("count", "number", "string", "strings"):
+        return about_terms(draw, command, graph, raw)
+    if command in ("build", "rewrite"):
+        return making(draw, command, "a.nt" if command == "build" else "a.hdt")
+    if command in ("lint", "split"):
+        return about_lines(draw, command)
+    if command == "find":
+        words = [command, "a.hdt", *pattern(draw, graph, raw), *["--raw"][: int(raw)]]
+        return words + options(draw, [*FINDING, "--quiet"])
+    if command == "explain":
+        return [command, str(draw.randrange(90))]
+    of_file = {
+        "answer": [*FINDING, *["--raw"] * 4],
+        "dump": ["--skip-non-terms", "--verbose"],
+        "info": ["--json", "--verbose"],
+        "verify": ["--tight", "--terms", "--progress", "--no-progress", "--verbose"],
+    }
+    if command == "usage":
+        return draw.choice(USAGES)
+    return [command, "a.hdt", *options(draw, of_file.get(command, []))]
+
+
 def request(draw: random.Random) -> Request:
     """Return a request."""
     graph = triples(draw)
     files = {"a.nt": document(draw, graph), "a.hdt": file(draw, graph), "old.hdt": b"old"}
     raw = draw.random() < 0.4
-    stdin = b""
-    command = draw.choice(
-        [
-            "head",
-            "verify",
-            "strings",
-            "string",
-            "number",
-            "find",
-            "find",
-            "answer",
-            "dump",
-            "build",
-            "build",
-            "rewrite",
-            "usage",
-        ]
-    )
-    words = [command, "a.hdt"]
-    role = draw.randrange(3)
-    if command == "verify":
-        words += options(draw, ["--tight", "--progress", "--no-progress"])
-    elif command == "strings":
-        words += [ROLES[role]]
-    elif command == "string":
-        words += [ROLES[role], str(draw.choice([0, 1, 2, 7, 100, 10**19]))]
-    elif command == "number":
-        words += [*["--raw"][: int(raw)], "--", ROLES[role], spelled(draw, term(draw, graph, role), raw)]
-        words = [command, *[word for word in words[1:] if word != "--"]]
-    elif command == "find":
-        words += [
-            *pattern(draw, graph, raw),
-            *["--raw"][: int(raw)],
-            *options(draw, ["--numbers", "--count", "--most"]),
-        ]
-    elif command == "answer":
-        words += [*["--raw"][: int(raw)], *options(draw, ["--numbers", "--count", "--most"])]
-        stdin = requests_of(draw, graph, raw)
-    elif command in ("build", "rewrite"):
-        words = making(draw, command, "a.nt" if command == "build" else "a.hdt")
-    elif command == "usage":
-        words = draw.choice(
-            [
-                [],
-                ["--version"],
-                ["--help"],
-                ["find"],
-                ["find", "a.hdt", "?"],
-                ["nothing"],
-                ["head", "missing.hdt"],
-                ["strings", "a.hdt", "verb"],
-            ]
-        )
+    command = draw.choices(list(COMMANDS), list(COMMANDS.values()))[0]
+    words = arguments(draw, command, graph, raw)
+    if "b.nt" in words:
+        files["b.nt"] = document(draw, triples(draw))
+    stdin = requests_of(draw, graph, "--raw" in words) if command == "answer" else b""
     return Request([word.replace("\0", "") for word in words], stdin, files)
 
 

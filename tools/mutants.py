@@ -24,8 +24,8 @@ once over the work that a check of the unchanged crate left. The rules:
 
 crates/NAME/wrong/RECORD has a line for each mutant that was refused: its name, a checksum of its inputs, the function
 and the goal that refused it, the date and the kit. The inputs are the mutant's text, the crate's src/, specs/ and
-proofs/, and of the crates below their specs/ and src/ without bodies. Only this command writes it, of mutants that it
-has judged itself in that run.
+proofs/, and of the crates below their specs/ and src/ without bodies, all without comments. Only this command writes
+it, of mutants that it has judged itself in that run.
 
 The last line is 'N refused, M failed', and the status is 1 if one failed.
 """
@@ -66,9 +66,17 @@ class BadMutant(Exception):
 
 
 @lru_cache(maxsize=None)
+def without_comments(name: str, text: str) -> str:
+    """Return what the prover reads of a file with this name: no comments, and a space for each gap of a source."""
+    if name.endswith(".rt"):
+        return rattle_text.without_comments(text)
+    return "\n".join(it for it in text.split("\n") if not it.lstrip().startswith("--"))
+
+
+@lru_cache(maxsize=None)
 def interface(text: str) -> str:
-    """Return a source text without the bodies of its functions."""
-    return rattle_text.split(text)[0]
+    """Return a source text without comments and without the bodies of its functions."""
+    return without_comments(".rt", rattle_text.split(text)[0])
 
 
 class Crate(repository.Crate):
@@ -90,11 +98,13 @@ class Crate(repository.Crate):
         whole = hashlib.sha256()
         for part in ("src", "specs", "proofs"):
             for file in sorted(it for it in (self.folder / part).rglob("*") if it.is_file()):
-                whole.update(repr((str(file.relative_to(self.folder)), file.read_bytes())).encode())
+                read = without_comments(file.name, file.read_text())
+                whole.update(repr((str(file.relative_to(self.folder)), read)).encode())
         for name in self.below():
             folder = self.top / "crates" / name
             for file in sorted(folder.glob("specs/**/*.antt")):
-                whole.update(repr((name, str(file.relative_to(folder)), file.read_bytes())).encode())
+                read = without_comments(file.name, file.read_text())
+                whole.update(repr((name, str(file.relative_to(folder)), read)).encode())
             for file in sorted(folder.glob("src/**/*.rt")):
                 whole.update(repr((name, str(file.relative_to(folder)), interface(file.read_text()))).encode())
         return whole.hexdigest()

@@ -43,6 +43,16 @@ def tokens(text: str) -> Items:
     return found
 
 
+def without_comments(text: str) -> str:
+    """Return the text with one space in place of whitespace and comments."""
+    parts: list[str] = []
+    end = 0
+    for at, token in tokens(text):
+        parts += [" ", token] if at > end else [token]
+        end = at + len(token)
+    return "".join(parts)
+
+
 def after_block(items: Items, i: int) -> int:
     """The index behind the bracket that matches the one at i."""
     depth = 0

@@ -1,7 +1,7 @@
 //! The examples in the documentation of hdt_dict.
 ghost use Rattle.std.specs.Prelude.{All};
 ghost use Rattle.hdt_front.specs.Canonical.{texts};
-ghost use Rattle.hdt_dict.specs.DictionaryString.{IsDictionaryString};
+ghost use Rattle.hdt_dict.specs.Strings.{IsDictionaryString};
 
 use crate::example_fault::ExampleFault;
 use hdt_dict::{Arena, Dictionary, Role, put_dictionary, split};
@@ -21,7 +21,7 @@ pub(crate) fn crate_example(
     let mut objects = dictionary.strings(alloc, Role::Object);
     while let Some(id) = objects.next()? {
         ids.push(id)?;
-        text.extend_from_slice(objects.last())?;
+        text.extend_from_slice(objects.string())?;
     }
     Ok((subject, end))
 }
@@ -50,7 +50,7 @@ pub(crate) fn strings_example(
     let mut subjects = dictionary.strings(alloc, Role::Subject);
     while let Some(id) = subjects.next()? {
         ids.push(id)?;
-        text.extend_from_slice(subjects.last())?;
+        text.extend_from_slice(subjects.string())?;
     }
     Ok(())
 }

@@ -48,7 +48,7 @@ pub(crate) fn section_iter_example(
     let mut strings = SectionIter::new(alloc, &section);
     while let Some(start) = strings.next()? {
         starts.push(start)?;
-        text.extend_from_slice(strings.last())?;
+        text.extend_from_slice(strings.string())?;
     }
     Ok(())
 }
@@ -65,7 +65,7 @@ pub(crate) fn seeker_example(
     for id in ids {
         if *id > 0 && *id <= section.len() {
             seeker.seek(*id, &mut steps)?;
-            text.extend_from_slice(seeker.last())?;
+            text.extend_from_slice(seeker.string())?;
         }
     }
     Ok(())

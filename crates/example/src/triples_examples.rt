@@ -1,5 +1,5 @@
-//! The examples in the documentation of hdt_triples. The counts are what `Triples::read` requires: at most the length of
-//! the input, as those of a dictionary in it are.
+//! The examples in the documentation of hdt_triples. The counts are what `Triples::read` requires: at most the length
+//! of the input, as those of a dictionary in it are.
 ghost use Rattle.std.specs.Prelude.{◌≤◌, length};
 
 use crate::example_fault::ExampleFault;

@@ -15,13 +15,16 @@ use Rattle.hdt_build.specs.Header.{header_body}
 use Rattle.hdt_build.specs.Reading.{HasDictionaryStrings}
 
 -- the sections of strings that are UTF-8 without zero bytes are valid in a dictionary
-pub form_sections : (g : List StringTriple) (d : SectionLists) (ts : List Triple) → IsEncodedGraph g d ts → HasDictionaryStrings g → AreSections d
+pub form_sections : (g : List StringTriple) (d : SectionLists) (ts : List Triple) → IsEncodedGraph g d ts
+    → HasDictionaryStrings g → AreSections d
 form_sections g d ts h t = split_sections _ _ _ d h.sections t.subjects_are t.predicates_are t.objects_are
 
 -- an encoded graph gives the canonical file of the graph, and its report
-pub made_of : (g : List StringTriple) (d : SectionLists) (ts : List Triple) (header : List ℕ) (b : ℕ) (bytes : List ℕ) (report : Report)
-    → 0 < length g → HasDictionaryStrings g → IsEncodedGraph g d ts → bytes ≡ canonical_file header b d ts → report ≡ report_of d ts bytes → IsCanonicalWithReport header g b bytes report
-made_of g d ts header b bytes report some texts form file told = record {
+pub made_of : (g : List StringTriple) (d : SectionLists) (ts : List Triple) (header : List ℕ) (b : ℕ) (bytes : List ℕ)
+    (report : Report)
+    → 0 < length g → HasDictionaryStrings g → IsEncodedGraph g d ts → bytes ≡ canonical_file header b d ts
+    → report ≡ report_of d ts bytes → IsCanonicalWithReport header g b bytes report
+made_of g d ts header b bytes report some texts form file report_is = record {
   file = record {
     dictionary = d;
     triples = ts;
@@ -30,23 +33,47 @@ made_of g d ts header b bytes report some texts form file told = record {
     sections = form_sections g d ts form texts;
     bytes_are = file;
   };
-  report_is = told;
+  report_is = report_is;
 }
 
 -- the report of these section lengths, the number of triples and the length of the file
-pub told_of : (lens : List ℕ) (d : SectionLists) (ts : List Triple) (bytes : List ℕ) (n m : ℕ)
-    → lens ≡ length d.shared ∷ length d.subjects ∷ length d.predicates ∷ length d.objects ∷ [] → n ≡ length ts → m ≡ length bytes
-    → let told : Report = record { triples = n; shared = get_or lens 0 0; subjects = get_or lens 1 0; predicates = get_or lens 2 0; objects = get_or lens 3 0; bytes = m } in told ≡ report_of d ts bytes
+pub report_of_lens : (lens : List ℕ) (d : SectionLists) (ts : List Triple) (bytes : List ℕ) (n m : ℕ)
+    → lens ≡ length d.shared ∷ length d.subjects ∷ length d.predicates ∷ length d.objects ∷ [] → n ≡ length ts
+    → m ≡ length bytes
+    → let report_is : Report =
+    record {
+      triples = n;
+      shared = get_or lens 0 0;
+      subjects = get_or lens 1 0;
+      predicates = get_or lens 2 0;
+      objects = get_or lens 3 0;
+      bytes = m;
+    } in report_is ≡ report_of d ts bytes
 unfolding report_of
-told_of lens d ts bytes n m is count long = λ i. record { triples = count i; shared = get_or (is i) 0 0; subjects = get_or (is i) 1 0; predicates = get_or (is i) 2 0; objects = get_or (is i) 3 0; bytes = long i }
+report_of_lens lens d ts bytes n m is count long =
+    λ i. record {
+      triples = count i;
+      shared = get_or (is i) 0 0;
+      subjects = get_or (is i) 1 0;
+      predicates =
+          get_or (is i) 2 0;
+      objects = get_or (is i) 3 0;
+      bytes = long i;
+    }
 
 -- the header body has the number of triples of the report
-pub all_built : {V E : Type 0} (items : V → List ℕ) (r : Result (V × Report) E) (options : Options) (g : List StringTriple) (d : SectionLists) (ts : List Triple) (header : List ℕ)
-    → 0 < length g → HasDictionaryStrings g → IsEncodedGraph g d ts → header ≡ header_body options.base.items (length ts)
-    → IfOk r (λ made. items made.0 ≡ canonical_file header options.block_size d ts) → IfOk r (λ made. made.1 ≡ report_of d ts (items made.0)) → IfOk r (λ made. IsBuilt options g (items made.0) made.1)
+pub all_built : {V E : Type 0} (items : V
+    → List ℕ) (r : Result (V × Report) E) (options : Options) (g : List StringTriple) (d : SectionLists)
+    (ts : List Triple) (header : List ℕ)
+    → 0 < length g → HasDictionaryStrings g → IsEncodedGraph g d ts
+    → header ≡ header_body options.base.items (length ts)
+    → IfOk r (λ made. items made.0 ≡ canonical_file header options.block_size d ts)
+    → IfOk r (λ made. made.1 ≡ report_of d ts (items made.0))
+    → IfOk r (λ made. IsBuilt options g (items made.0) made.1)
 unfolding report_of
-all_built items (Ok made) options g d ts header some texts form head file told =
-    let count : length ts ≡ made.1.triples = sym (ap (λ (r : Report). r.triples) told) in
-    subst (λ (h : List ℕ). IsCanonicalWithReport h g options.block_size (items made.0) made.1) (head ∙ ap (header_body options.base.items) count)
-    (made_of g d ts header options.block_size (items made.0) made.1 some texts form file told)
-all_built items (Err e) options g d ts header some texts form head file told = tt
+all_built items (Ok made) options g d ts header some texts form head file report_is =
+    let count : length ts ≡ made.1.triples = sym (ap (λ (r : Report). r.triples) report_is) in
+    subst (λ (h : List ℕ). IsCanonicalWithReport h g options.block_size (items made.0) made.1) (head
+    ∙ ap (header_body options.base.items) count)
+    (made_of g d ts header options.block_size (items made.0) made.1 some texts form file report_is)
+all_built items (Err e) options g d ts header some texts form head file report_is = tt

@@ -6,7 +6,7 @@ use Rattle.hdt_seq.specs.Numbers.{numbers_encoding}
 use Rattle.hdt_front.specs.SectionWriting.{section_preamble}
 use Rattle.hdt_wire.specs.Control.{control}
 use Rattle.hdt_wire.specs.declared.control.Kind.TheVariants as kinds
-use Rattle.hdt_front.specs.Canonical.{packed_of, starts_of, canonical}
+use Rattle.hdt_front.specs.Canonical.{packed_of, block_offsets, canonical}
 use Rattle.hdt_front.specs.Laws.Canonical.{enough_bytes}
 use Rattle.hdt_dict.specs.Dictionary.{SectionLists}
 use Rattle.hdt_dict.specs.Writing.{mapping, canonical_dictionary}
@@ -15,13 +15,20 @@ section_bytes : (b : ℕ) (strings : List (List ℕ)) → length strings ≤ len
 unfolding canonical
 section_bytes b strings =
     let P : List ℕ = packed_of b strings in
-    let S : List ℕ = numbers_encoding (starts_of b strings) in
+    let S : List ℕ = numbers_encoding (block_offsets b strings) in
     let H : List ℕ = section_preamble (length strings) (length P) b in
     let C : List ℕ = bytes_low_first 0 4 (crc32 P) in
-    omega (arith, enough_bytes b 0 [] strings, length-append H (crc8 H ∷ (S ++ (P ++ C))), length-append S (P ++ C), length-append P C)
+    omega (
+      arith,
+      enough_bytes b 0 [] strings,
+      length-append H (crc8 H ∷ (S ++ (P ++ C))),
+      length-append S (P ++ C),
+      length-append P C,
+    )
 
 -- the strings of all sections
-pub dictionary_bytes : (b : ℕ) (d : SectionLists) → length d.shared + length d.subjects + length d.predicates + length d.objects ≤ length (canonical_dictionary b d)
+pub dictionary_bytes : (b : ℕ) (d : SectionLists)
+    → length d.shared + length d.subjects + length d.predicates + length d.objects ≤ length (canonical_dictionary b d)
 unfolding canonical_dictionary
 dictionary_bytes b d =
     let block : List ℕ = control kinds.Dictionary mapping in

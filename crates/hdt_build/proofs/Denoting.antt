@@ -10,7 +10,7 @@ use Rattle.std.proofs.lemmas.Map.Keys.{Less-from_sorted}
 use Rattle.hdt_dict.specs.Strings.{SameMembers}
 use Rattle.hdt_dict.specs.Split.{IsSplit}
 use Rattle.hdt_dict.specs.Laws.Members.{SameMembers-map, Contains-map, Contains-from_map, All-from_members, All-same_members}
-use Rattle.hdt_build.specs.Inside.Ids.{IsIdOf, string_of_id}
+use Rattle.hdt_build.specs.Inside.Rewriting.{IsIdOf, string_of_id}
 use Rattle.hdt_build.specs.Inside.Filtering.{AreSectionsOf}
 use Rattle.hdt_triples.specs.TripleSequences.{Triple}
 use Rattle.hdt_triples.specs.Uses.{role_component, Uses}
@@ -31,28 +31,38 @@ use Rattle.hdt_file.specs.File.{role_counts}
 
 -- the IDs of a triple are those of the strings
 abbrev AreIdsOf : SectionLists → StringTriple → Triple → Type 0
-AreIdsOf d x t = IsIdOf (role_strings d Subject) x.0 t.0 × IsIdOf (role_strings d Predicate) x.1 t.1 × IsIdOf (role_strings d Object) x.2 t.2
+AreIdsOf d x t = IsIdOf (role_strings d Subject) x.0 t.0 × IsIdOf (role_strings d Predicate) x.1 t.1
+    × IsIdOf (role_strings d Object) x.2 t.2
 
 -- triples that stand for string triples, and their IDs in the sections
-module _ (d : SectionLists) (ids : List Triple) (new : Triple → Triple) (strings : Triple → StringTriple) (are : (t : Triple) → Contains ids t → AreIdsOf d (strings t) (new t)) where
+module _ (d : SectionLists) (ids : List Triple) (new : Triple → Triple) (strings : Triple
+    → StringTriple) (are : (t : Triple) → Contains ids t → AreIdsOf d (strings t) (new t)) where
   one_denoted : (t : Triple) → Contains ids t → string_triple d (new t) ≡ strings t
   one_denoted t there = let r = are t there in same_strings _ _ _ _ _ _ r.0.is r.1.is r.2.is
 
   one_in_range : (t : Triple) → Contains ids t → IsInRange (role_counts d) (new t)
-  one_in_range t there = let r = are t there in ((r.0.from_one, r.0.within), (r.1.from_one, r.1.within), (r.2.from_one, r.2.within))
+  one_in_range t there = let r = are t there in
+      ((r.0.from_one, r.0.within), (r.1.from_one, r.1.within), (r.2.from_one, r.2.within))
 
-  pub encoded_form : IsSplit (subjects_of (map strings ids)) (predicates_of (map strings ids)) (objects_of (map strings ids)) d → (ts : List Triple) → AreAscending ts → SameMembers ts (map new ids) → IsEncodedGraph (map strings ids) d ts
+  pub encoded_form : IsSplit (subjects_of (map strings ids)) (predicates_of (map strings ids))
+      (objects_of (map strings ids)) d → (ts : List Triple) → AreAscending ts → SameMembers ts (map new ids)
+      → IsEncodedGraph (map strings ids) d ts
   encoded_form sections ts up same = record {
     sections = sections;
     ascending = up;
-    in_range = All-same_members (IsInRange (role_counts d)) (map new ids) ts same (All-map (IsInRange (role_counts d)) new ids (All-from_members (λ t. IsInRange (role_counts d) (new t)) ids one_in_range));
+    in_range = All-same_members (IsInRange (role_counts d)) (map new ids) ts same
+        (All-map (IsInRange (role_counts d)) new ids
+        (All-from_members (λ t. IsInRange (role_counts d) (new t)) ids one_in_range));
     denotes = subst (SameMembers (map (string_triple d) ts))
-        (map_along (string_triple d) new strings ids (All-from_members (λ t. string_triple d (new t) ≡ strings t) ids one_denoted))
+        (map_along (string_triple d) new strings ids
+        (All-from_members (λ t. string_triple d (new t) ≡ strings t) ids one_denoted))
         (SameMembers-map (string_triple d) ts (map new ids) same);
   }
 
-pub parts_form : (xs : List (List ℕ)) (ids : List Triple) (d : SectionLists) (nodes names : List ℕ) → AreSectionsOf xs ids d nodes names
-    → (ts : List Triple) → AreAscending ts → SameMembers ts (map (mapped_triple nodes names nodes) ids) → IsEncodedGraph (string_triples_of xs ids) d ts
+pub parts_form : (xs : List (List ℕ)) (ids : List Triple) (d : SectionLists) (nodes names : List ℕ)
+    → AreSectionsOf xs ids d nodes names
+    → (ts : List Triple) → AreAscending ts → SameMembers ts (map (mapped_triple nodes names nodes) ids)
+    → IsEncodedGraph (string_triples_of xs ids) d ts
 parts_form xs ids d nodes names h =
     encoded_form d ids (mapped_triple nodes names nodes) (string_triple_at xs) (λ t there. (
       h.subjects_are t.0 (Contains-map (role_component Subject) ids t there),
@@ -64,7 +74,8 @@ module _ {g : List StringTriple} (d : SectionLists) (ts : List Triple) (h : IsEn
   subject_le : (i j : ℕ) (e : Triple) → i ≤ j → j < length ts → (get_or ts i e).0 ≤ (get_or ts j e).0
   subject_le i j e le below =
       elim (cases_lt i j) as (λ _. (get_or ts i e).0 ≤ (get_or ts j e).0) [
-        | inl before ↦ first_le (get_or ts i e) (get_or ts j e) (Less-from_sorted triple_cmp ts i j e (sorted_triples ts h.ascending) before below)
+        | inl before ↦ first_le (get_or ts i e) (get_or ts j e)
+            (Less-from_sorted triple_cmp ts i j e (sorted_triples ts h.ascending) before below)
         | inr behind ↦ let same : i ≡ j = omega arith in let f = ap (λ k. (get_or ts k e).0) same in omega arith
       ]
 
@@ -85,25 +96,33 @@ module _ {g : List StringTriple} (d : SectionLists) (ts : List Triple) (h : IsEn
   distinct Predicate = predicates_distinct d h.sections
   distinct Object = objects_distinct d h.sections
 
-  string_is : (role : Role) (t : Triple) → string_of_id (role_strings d role) (role_component role t) ≡ role_component role (string_triple d t)
+  string_is : (role : Role) (t : Triple) → string_of_id (role_strings d role) (role_component role t)
+      ≡ role_component role (string_triple d t)
   string_is Subject t = refl
   string_is Predicate t = refl
   string_is Object t = refl
 
   -- each ID of a role occurs in a triple
-  occurs : (role : Role) (n : ℕ) → 0 < n → n ≤ length (role_strings d role) → (t : Triple) × Contains ts t × (role_component role t ≡ n)
+  occurs : (role : Role) (n : ℕ) → 0 < n → n ≤ length (role_strings d role) → (t : Triple) × Contains ts t
+      × (role_component role t ≡ n)
   occurs role n a b =
       let x = string_of_id (role_strings d role) n in
       let r = Contains-from_map (role_component role) g x (members role x (term_in (role_strings d role) n a b)) in
       let s = Contains-from_map (string_triple d) ts r.0 ((h.denotes r.0).1 r.1) in
-      let range = in_role d role s.0 (All-contains (IsInRange (role_counts d)) ts s.0 h.in_range s.1) in
-      (s.0, s.1, number_unique (role_strings d role) (distinct role) (role_component role s.0) n range.0 range.1 a b (string_is role s.0 ∙ ap (role_component role) s.2 ∙ r.2))
+      let range = in_role d role s.0 (All-contains (IsInRange (role_counts d)) ts s.0 h.in_range s.1) in (
+        s.0,
+        s.1,
+        number_unique (role_strings d role) (distinct role) (role_component role s.0) n range.0 range.1 a b
+            (string_is role s.0 ∙ ap (role_component role) s.2 ∙ r.2),
+      )
 
   pub form_tight : (header : List ℕ) → IsTight (graph_parts_of header d ts)
-  form_tight header role n from to = let t = occurs role n from to in subst (Uses ts role) t.2 (Contains-map (role_component role) ts t.0 t.1)
+  form_tight header role n from to = let t = occurs role n from to in
+      subst (Uses ts role) t.2 (Contains-map (role_component role) ts t.0 t.1)
 
   -- the same by index
-  at_place : (n : ℕ) (e : Triple) → 0 < n → n ≤ length (role_strings d Subject) → (j : ℕ) × (j < length ts) × ((get_or ts j e).0 ≡ n)
+  at_place : (n : ℕ) (e : Triple) → 0 < n → n ≤ length (role_strings d Subject) → (j : ℕ) × (j < length ts)
+      × ((get_or ts j e).0 ≡ n)
   at_place n e a b =
       let r = occurs Subject n a b in
       let j = r.1.0 in
@@ -126,7 +145,8 @@ module _ {g : List StringTriple} (d : SectionLists) (ts : List Triple) (h : IsEn
       let e : Triple = (0, 0, 0) in
       let range = h.in_range (k + 1) e below in
       let high : (get_or ts (k + 1) e).0 ≤ length (role_strings d Subject) = range.0.1 in
-      elim (cases_lt ((get_or ts k e).0 + 1) (get_or ts (k + 1) e).0) as (λ _. (get_or ts (k + 1) e).0 ≤ (get_or ts k e).0 + 1) [
+      elim (cases_lt ((get_or ts k e).0 + 1) (get_or ts (k + 1) e).0) as (λ _. (get_or ts (k + 1) e).0
+      ≤ (get_or ts k e).0 + 1) [
         | inl wide ↦
             let r = at_place ((get_or ts k e).0 + 1) e (omega arith) (omega (arith, high, wide)) in
             elim (cases_lt k r.0) as (λ _. (get_or ts (k + 1) e).0 ≤ (get_or ts k e).0 + 1) [
@@ -147,14 +167,17 @@ module _ {g : List StringTriple} (d : SectionLists) (ts : List Triple) (h : IsEn
     objects = λ i below. (h.in_range i (0, 0, 0) below).2.0;
   }
 
-  pub once : (i j : ℕ) (x : StringTriple) → i < j → j < length (map (string_triple d) ts) → get_or (map (string_triple d) ts) i x ≢ get_or (map (string_triple d) ts) j x
+  pub once : (i j : ℕ) (x : StringTriple) → i < j → j < length (map (string_triple d) ts)
+      → get_or (map (string_triple d) ts) i x ≢ get_or (map (string_triple d) ts) j x
   once i j x lt below = λ same.
       let e : Triple = (0, 0, 0) in
       let size = length-map ts (string_triple d) in
       let in_j : j < length ts = omega arith in
       let in_i : i < length ts = omega arith in
-      let is : string_triple d (get_or ts i e) ≡ string_triple d (get_or ts j e) = sym (get_or-map (string_triple d) ts i e x in_i) ∙ same ∙ get_or-map (string_triple d) ts j e x in_j in
-      let one = triple_unique d h.sections (get_or ts i e) (get_or ts j e) (h.in_range i e in_i) (h.in_range j e in_j) is in
+      let is : string_triple d (get_or ts i e) ≡ string_triple d (get_or ts j e) =
+      sym (get_or-map (string_triple d) ts i e x in_i) ∙ same ∙ get_or-map (string_triple d) ts j e x in_j in
+      let one = triple_unique d h.sections (get_or ts i e) (get_or ts j e) (h.in_range i e in_i)
+      (h.in_range j e in_j) is in
       let less = Less-from_sorted triple_cmp ts i j e (sorted_triples ts h.ascending) lt in_j in
       let tied = tied_itself triple_total (get_or ts j e) in
       absurd (differ (sym less ∙ ap (λ t. triple_cmp t (get_or ts j e)) one ∙ tied))
@@ -162,8 +185,10 @@ module _ {g : List StringTriple} (d : SectionLists) (ts : List Triple) (h : IsEn
       differ : Less ≡ Equal → ⊥
       differ e = cc
 
-pub some_triple : (g : List StringTriple) (d : SectionLists) (ts : List Triple) → IsEncodedGraph g d ts → 0 < length g → 0 < length ts
+pub some_triple : (g : List StringTriple) (d : SectionLists) (ts : List Triple) → IsEncodedGraph g d ts → 0 < length g
+    → 0 < length ts
 some_triple g d ts h some =
     let e : StringTriple = ([], [], []) in
-    let r = Contains-from_map (string_triple d) ts (get_or g 0 e) ((h.denotes (get_or g 0 e)).1 (Contains-get_or g 0 e some)) in
+    let r = Contains-from_map (string_triple d) ts (get_or g 0 e)
+    ((h.denotes (get_or g 0 e)).1 (Contains-get_or g 0 e some)) in
     omega (arith, r.1.1)

@@ -1,7 +1,7 @@
 -- A canonical file is a valid file of its graph.
 use Rattle.std.proofs.Common.{◌≡◌, ℕ, ◌+◌, ◌^◌, ◌<◌, ◌≤◌, List, [], ◌++◌, length, refl, sym, ap, subst, ◌∙◌, arith, length-append, append-nil}
 use Rattle.hdt_wire.specs.declared.control.Kind.TheVariants as kinds
-use Rattle.hdt_wire.specs.Control.{control, control_info_at}
+use Rattle.hdt_wire.specs.Control.{control, expected_control_info}
 use Rattle.hdt_wire.specs.Checks.{HasSlice}
 use Rattle.hdt_wire.specs.Laws.Checks.{HasSlice-after, HasSlice-front, HasSlice-back}
 use Rattle.hdt_seq.specs.Bits.{bits_encoding}
@@ -9,14 +9,14 @@ use Rattle.hdt_seq.specs.Numbers.{numbers_encoding}
 use Rattle.hdt_front.specs.Canonical.{canonical, canonical_parts}
 use Rattle.hdt_dict.specs.Dictionary.{SectionLists}
 use Rattle.hdt_dict.specs.Writing.{AreSections, mapping, canonical_dictionary, canonical_dictionary_parts}
-use Rattle.hdt_dict.specs.Laws.Writing.{dictionary_stands}
+use Rattle.hdt_dict.specs.Laws.Writing.{dictionary_encoded}
 use Rattle.hdt_triples.specs.TripleSequences.{Triple, BitmapTriples}
 use Rattle.hdt_triples.specs.Order.{AreAtMostCounts, CountsFit64}
 use Rattle.hdt_triples.specs.Writing.{order_property, sequences_of, canonical_sequences, sequences_parts, canonical_triples, canonical_triples_parts}
 use Rattle.hdt_triples.specs.Laws.Writing.{triples_stand, triples_are}
 use Rattle.hdt_file.specs.File.{FileParts, GraphParts, IsFile, IsLayout, dictionary_counts, graph_of_file, role_counts}
 use Rattle.hdt_file.specs.Tight.{IsTight}
-use Rattle.hdt_triples.specs.Triples.{IsTriples}
+use Rattle.hdt_triples.specs.Triples.{IsTriplesAt}
 use Rattle.hdt_build.specs.Canonical.{canonical_head, canonical_file, IsCanonical}
 use Rattle.hdt_file.specs.Denoted.{StringTriple}
 use Rattle.hdt_build.specs.Graph.{IsEncodedGraph}
@@ -27,7 +27,8 @@ use Rattle.hdt_build.proofs.Denoting.{form_tight, some_triple, writable, once}
 use Rattle.hdt_build.proofs.Heads.{length_no_zero, states_length}
 
 -- the end of a dictionary
-dictionary_end : (b : ℕ) (d : SectionLists) (at : ℕ) → (canonical_dictionary_parts b d at).objects.end ≡ at + length (canonical_dictionary b d)
+dictionary_end : (b : ℕ) (d : SectionLists) (at : ℕ)
+    → (canonical_dictionary_parts b d at).objects.end ≡ at + length (canonical_dictionary b d)
 unfolding canonical_dictionary canonical_dictionary_parts canonical_parts
 dictionary_end b d at =
     let block : List ℕ = control kinds.Dictionary mapping in
@@ -35,7 +36,13 @@ dictionary_end b d at =
     let u : List ℕ = canonical b d.subjects in
     let p : List ℕ = canonical b d.predicates in
     let o : List ℕ = canonical b d.objects in
-    omega (arith, length-append block (s ++ (u ++ (p ++ o))), length-append s (u ++ (p ++ o)), length-append u (p ++ o), length-append p o)
+    omega (
+      arith,
+      length-append block (s ++ (u ++ (p ++ o))),
+      length-append s (u ++ (p ++ o)),
+      length-append u (p ++ o),
+      length-append p o,
+    )
 
 -- the end of the triples
 triples_end : (f : BitmapTriples) (at : ℕ) → (sequences_parts f at).array_z.end ≡ at + length (canonical_sequences f)
@@ -46,7 +53,13 @@ triples_end f at =
     let mz : List ℕ = bits_encoding f.bitmap_z in
     let ys : List ℕ = numbers_encoding f.array_y in
     let zs : List ℕ = numbers_encoding f.array_z in
-    omega (arith, length-append block (my ++ (mz ++ (ys ++ zs))), length-append my (mz ++ (ys ++ zs)), length-append mz (ys ++ zs), length-append ys zs)
+    omega (
+      arith,
+      length-append block (my ++ (mz ++ (ys ++ zs))),
+      length-append my (mz ++ (ys ++ zs)),
+      length-append mz (ys ++ zs),
+      length-append ys zs,
+    )
 
 -- the counts of a canonical dictionary
 counts_are : (b : ℕ) (d : SectionLists) (at : ℕ) → dictionary_counts (canonical_dictionary_parts b d at) ≡ role_counts d
@@ -63,8 +76,9 @@ file_of header b d ts =
     let at : ℕ = 0 + length (canonical_head header) in
     record {
       head = record {
-        global = control_info_at kinds.Global [] 0 g;
-        header = control_info_at kinds.Header (length_property (length header)) g (g + length (control kinds.Header (length_property (length header))));
+        global = expected_control_info kinds.Global [] 0 g;
+        header = expected_control_info kinds.Header (length_property (length header)) g
+            (g + length (control kinds.Header (length_property (length header))));
         body = header;
         end = at;
       };
@@ -72,17 +86,20 @@ file_of header b d ts =
       triples = canonical_triples_parts ts (canonical_dictionary_parts b d at).objects.end;
     }
 
-module _ (header : List ℕ) (graph : List StringTriple) (b : ℕ) (d : SectionLists) (ts : List Triple) (form : IsEncodedGraph graph d ts) (some : 0 < length graph) where
+module _ (header : List ℕ) (graph : List StringTriple) (b : ℕ) (d : SectionLists) (ts : List Triple)
+    (form : IsEncodedGraph graph d ts) (some : 0 < length graph) where
   within : AreAtMostCounts (role_counts d) ts
   within = λ i lt. let r = form.in_range i (0, 0, 0) lt in (r.0.1, r.1.1, r.2.1)
 
-  few : (bytes : List ℕ) (at end : ℕ) → length bytes < 2 ^ 64 → HasSlice bytes at (canonical_dictionary b d) end → CountsFit64 (role_counts d)
+  few : (bytes : List ℕ) (at end : ℕ) → length bytes < 2 ^ 64 → HasSlice bytes at (canonical_dictionary b d) end
+      → CountsFit64 (role_counts d)
   few bytes at end small h =
       let enough = dictionary_bytes b d in
       let size = length-append d.shared d.objects in
       (omega (arith, enough, h.end_is, h.within, small), omega (arith, enough, size, h.end_is, h.within, small))
 
-  file_stands : (bytes : List ℕ) (end : ℕ) → AreSections d → 1 ≤ b → b < 2 ^ 64 → length bytes < 2 ^ 64 → length ts < 2 ^ 64 → end ≡ length bytes
+  file_stands : (bytes : List ℕ) (end : ℕ) → AreSections d → 1 ≤ b → b < 2 ^ 64 → length bytes < 2 ^ 64
+      → length ts < 2 ^ 64 → end ≡ length bytes
       → HasSlice bytes 0 (canonical_file header b d ts) end → IsFile (file_of header b d ts) bytes
   unfolding file_of canonical_file canonical_head
   file_stands bytes end sections from low small many whole h =
@@ -101,43 +118,67 @@ module _ (header : List ℕ) (graph : List StringTriple) (b : ℕ) (d : SectionL
       let short : length header < 2 ^ 64 = omega (arith, body.end_is, body.within, small) in
       record {
         head = record {
-          global = record { spelled = HasSlice-front bytes 0 G (H ++ header) at front; no_zero = λ k x lt. absurd (omega arith); format = refl; properties_at = refl };
-          header = record { spelled = HasSlice-front bytes (0 + length G) H header at blocks; no_zero = length_no_zero (length header) short; format = refl; properties_at = refl };
+          global = record {
+            spelled = HasSlice-front bytes 0 G (H ++ header) at front;
+            no_zero =
+                λ k x lt. absurd (omega arith);
+            format = refl;
+            properties_at = refl;
+          };
+          header = record {
+            spelled = HasSlice-front bytes (0 + length G) H header at blocks;
+            no_zero =
+                length_no_zero (length header) short;
+            format = refl;
+            properties_at = refl;
+          };
           length = states_length (length header) short;
           body = body;
         };
-        dictionary = dictionary_stands b d bytes at (at + length D) from low sections small dict;
+        dictionary = dictionary_encoded b d bytes at (at + length D) from low sections small dict;
         triples =
-            subst (λ counts. IsTriples counts (canonical_triples_parts ts (canonical_dictionary_parts b d at).objects.end) bytes (canonical_dictionary_parts b d at).objects.end) (sym (counts_are b d at))
-            (triples_stand ts (role_counts d) bytes (canonical_dictionary_parts b d at).objects.end end (writable d ts form (some_triple graph d ts form some)) within (few bytes at (at + length D) small dict) many
+            subst (λ counts. IsTriplesAt counts
+            (canonical_triples_parts ts (canonical_dictionary_parts b d at).objects.end) bytes
+            (canonical_dictionary_parts b d at).objects.end) (sym (counts_are b d at))
+            (triples_stand ts (role_counts d) bytes (canonical_dictionary_parts b d at).objects.end end
+            (writable d ts form (some_triple graph d ts form some)) within
+            (few bytes at (at + length D) small dict) many
             (subst (λ (a : ℕ). HasSlice bytes a T end) (sym place) last));
-        end = triples_end (sequences_of ts) (canonical_dictionary_parts b d at).objects.end ∙ ap (λ (a : ℕ). a + length T) place ∙ sym last.end_is ∙ whole;
+        end = triples_end (sequences_of ts) (canonical_dictionary_parts b d at).objects.end
+            ∙ ap (λ (a : ℕ). a + length T) place ∙ sym last.end_is ∙ whole;
       }
 
   file_graph : graph_of_file (file_of header b d ts) ≡ graph_parts_of header d ts
   unfolding file_of canonical_dictionary_parts canonical_parts sequences_parts
-  file_graph = ap (λ (l : List Triple). graph_parts_of header d l) (triples_are ts (writable d ts form (some_triple graph d ts form some)))
+  file_graph = ap (λ (l : List Triple). graph_parts_of header d l)
+      (triples_are ts (writable d ts form (some_triple graph d ts form some)))
 
-  pub layout : AreSections d → 1 ≤ b → b < 2 ^ 64 → length (canonical_file header b d ts) < 2 ^ 64 → length ts < 2 ^ 64 → IsLayout (canonical_file header b d ts) (graph_parts_of header d ts)
+  pub layout : AreSections d → 1 ≤ b → b < 2 ^ 64 → length (canonical_file header b d ts) < 2 ^ 64 → length ts < 2 ^ 64
+      → IsLayout (canonical_file header b d ts) (graph_parts_of header d ts)
   layout sections from low small many = record {
     file = file_of header b d ts;
-    is = file_stands (canonical_file header b d ts) (0 + length (canonical_file header b d ts)) sections from low small many (omega arith) (all_of (canonical_file header b d ts));
+    is = file_stands (canonical_file header b d ts) (0 + length (canonical_file header b d ts)) sections from low small
+        many (omega arith) (all_of (canonical_file header b d ts));
     of = file_graph;
   }
 
-module _ (header : List ℕ) (graph : List StringTriple) (b : ℕ) (bytes : List ℕ) (file : IsCanonical header graph b bytes) where
+module _ (header : List ℕ) (graph : List StringTriple) (b : ℕ) (bytes : List ℕ)
+    (file : IsCanonical header graph b bytes) where
   abbrev pub decode_parts : GraphParts
   decode_parts = graph_parts_of header file.dictionary file.triples
 
-  pub file_layout : 1 ≤ b → b < 2 ^ 64 → length bytes < 2 ^ 64 → length file.triples < 2 ^ 64 → IsLayout bytes decode_parts
+  pub file_layout : 1 ≤ b → b < 2 ^ 64 → length bytes < 2 ^ 64 → length file.triples < 2 ^ 64
+      → IsLayout bytes decode_parts
   file_layout from low small many =
       subst (λ (l : List ℕ). IsLayout l decode_parts) (sym file.bytes_are)
-      (layout header graph b file.dictionary file.triples file.form file.some file.sections from low (subst (λ (l : List ℕ). length l < 2 ^ 64) file.bytes_are small) many)
+      (layout header graph b file.dictionary file.triples file.form file.some file.sections from low
+      (subst (λ (l : List ℕ). length l < 2 ^ 64) file.bytes_are small) many)
 
   pub file_tight : IsTight decode_parts
   file_tight = form_tight file.dictionary file.triples file.form header
 
-  pub canonical_layout : 1 ≤ b → b < 2 ^ 64 → length bytes < 2 ^ 64 → length file.triples < 2 ^ 64 → IsLayoutOf header graph bytes
+  pub canonical_layout : 1 ≤ b → b < 2 ^ 64 → length bytes < 2 ^ 64 → length file.triples < 2 ^ 64
+      → IsLayoutOf header graph bytes
   canonical_layout from low small many = record {
     parts = decode_parts;
     layout = file_layout from low small many;

@@ -11,7 +11,6 @@ pub mod Order
 pub mod IndexTriples
 pub mod StringsOfIds
 mod SectionFilling
-mod UseFlags
 mod FilteredSections
 pub mod EntrySorting
 pub mod Deduplication

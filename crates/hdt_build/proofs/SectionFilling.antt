@@ -14,7 +14,8 @@ flag_before flags k is = elim (cases_lt k (length flags)) [
   | inr le ↦ absurd (let e : flag_at flags k ≡ false = get_or_past flags k false le in cc)
 ]
 
-module _ (xs : List (List ℕ)) (up : IsAscending xs) (keeps : ℕ → Type 0) (small : (k : ℕ) → keeps k → k < length xs) (count : ℕ) (before : List ℕ) where
+module _ (xs : List (List ℕ)) (up : IsAscending xs) (keeps : ℕ → Type 0) (small : (k : ℕ) → keeps k
+    → k < length xs) (count : ℕ) (before : List ℕ) where
   abbrev text : ℕ → List ℕ
   text k = get_or xs k []
 
@@ -23,19 +24,23 @@ module _ (xs : List (List ℕ)) (up : IsAscending xs) (keeps : ℕ → Type 0) (
   Filled i strings after = InWork keeps text (Ahead i (length xs) (length xs) (length xs)) count strings before after
 
   pub none_filled : Filled 0 [] before
-  none_filled = begun keeps text count before 0 (length xs) (length xs) (length xs) small (λ k lt. absurd (omega (arith, lt))) (λ k le lt. absurd (omega (arith, le, lt)))
+  none_filled = begun keeps text count before 0 (length xs) (length xs) (length xs) small
+      (λ k lt. absurd (omega (arith, lt))) (λ k le lt. absurd (omega (arith, le, lt)))
 
   module _ (i : ℕ) (strings : List (List ℕ)) (after : List ℕ) (h : Filled i strings after) where
-    pub one_filled : (v : ℕ) → keeps i → i < length after → v ≡ count + (length strings + 1) → Filled (i + 1) (strings ++ text i ∷ []) (set after i v)
+    pub one_filled : (v : ℕ) → keeps i → i < length after → v ≡ count + (length strings + 1)
+        → Filled (i + 1) (strings ++ text i ∷ []) (set after i v)
     one_filled v kept in' is =
-        taken keeps text count before i (length xs) (length xs) (length xs) (i + 1) v strings after h kept (small i kept) in' is (omega arith)
-        (λ k from to. absurd (omega (arith, from, to))) (λ k lt to. Less-from_sorted string_cmp xs i k [] up lt to) (λ k from to. absurd (omega (arith, from, to)))
+        taken keeps text count before i (length xs) (length xs) (length xs) (i + 1) v strings after h kept
+        (small i kept) in' is (omega arith)
+        (λ k from to. absurd (omega (arith, from, to))) (λ k lt to. Less-from_sorted string_cmp xs i k [] up lt to)
+        (λ k from to. absurd (omega (arith, from, to)))
 
     pub one_passed : (keeps i → ⊥) → Filled (i + 1) strings after
     one_passed none = record {
       ascend = h.ascend;
       each = h.each;
-      numbers = λ k keep. elim (h.numbers k keep) [
+      ids = λ k keep. elim (h.ids k keep) [
         | inl more ↦ inl (later k keep more)
         | inr noted ↦ inr noted
       ];
@@ -44,19 +49,22 @@ module _ (xs : List (List ℕ)) (up : IsAscending xs) (keeps : ℕ → Type 0) (
       below = λ x there k more. h.below x there k (still k more);
     }
       where
-        later : (k : ℕ) → keeps k → Ahead i (length xs) (length xs) (length xs) k → Ahead (i + 1) (length xs) (length xs) (length xs) k
+        later : (k : ℕ) → keeps k → Ahead i (length xs) (length xs) (length xs) k
+            → Ahead (i + 1) (length xs) (length xs) (length xs) k
         later k keep (inl m) = elim (cases_eq k i) [
           | inl same ↦ absurd (none (subst keeps same keep))
           | inr apart ↦ inl (omega (arith, m.0, apart), m.1)
         ]
         later k keep (inr m) = inr m
 
-        still : (k : ℕ) → Ahead (i + 1) (length xs) (length xs) (length xs) k → Ahead i (length xs) (length xs) (length xs) k
+        still : (k : ℕ) → Ahead (i + 1) (length xs) (length xs) (length xs) k
+            → Ahead i (length xs) (length xs) (length xs) k
         still k (inl m) = inl (omega (arith, m.0), m.1)
         still k (inr m) = inr m
 
     pub all_filled : length xs ≤ i → IsFilteredSection xs keeps count strings before after
-    all_filled end = finished keeps text count before strings after (Ahead i (length xs) (length xs) (length xs)) h nothing_ahead
+    all_filled end = finished keeps text count before strings after
+        (Ahead i (length xs) (length xs) (length xs)) h nothing_ahead
       where
         nothing_ahead : (k : ℕ) → Ahead i (length xs) (length xs) (length xs) k → ⊥
         nothing_ahead k (inl m) = omega (arith, m.0, m.1, end)

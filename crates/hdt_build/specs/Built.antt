@@ -1,4 +1,4 @@
--- The file that is built from a graph.
+-- The files that are built from a document and rewritten from a graph.
 use Rattle.std.specs.Prelude.{◌≡◌, ℕ, ◌<◌, List, length, take, Option}
 use Rattle.std.specs.Io.KnownBytes.{Appends}
 use Rattle.hdt_dict.specs.Dictionary.{SectionLists}
@@ -7,21 +7,32 @@ use Rattle.hdt_build.specs.declared.options.Options.{Options}
 use Rattle.hdt_build.specs.declared.options.Report.{Report}
 use Rattle.hdt_build.specs.Canonical.{IsCanonical}
 use Rattle.hdt_file.specs.Denoted.{StringTriple}
+use Rattle.hdt_file.specs.File.{GraphParts}
 use Rattle.hdt_build.specs.Header.{header_body}
+use Rattle.hdt_build.specs.Layouts.{denoted_by}
 use Rattle.hdt_build.specs.Reading.{IsInputGraph}
 
 -- the report of a file with these sections, triples and bytes
 unfoldable pub report_of : SectionLists → List Triple → List ℕ → Report
-report_of d ts bytes = record { triples = length ts; shared = length d.shared; subjects = length d.subjects; predicates = length d.predicates; objects = length d.objects; bytes = length bytes }
+report_of d ts bytes = record {
+  triples = length ts;
+  shared = length d.shared;
+  subjects = length d.subjects;
+  predicates = length d.predicates;
+  objects = length d.objects;
+  bytes = length bytes;
+}
 
 -- the canonical file of a header body, a set of string triples and a block size, with its report
-pub record IsCanonicalWithReport (header : List ℕ) (graph : List StringTriple) (b : ℕ) (bytes : List ℕ) (report : Report) : Type 0 where
+pub record IsCanonicalWithReport (header : List ℕ) (graph : List StringTriple) (b : ℕ) (bytes : List ℕ)
+    (report : Report) : Type 0 where
   pub file : IsCanonical header graph b bytes
   pub report_is : report ≡ report_of file.dictionary file.triples bytes
 
 -- the canonical file of a set of string triples under the options, with its report
 abbrev pub IsBuilt : Options → List StringTriple → List ℕ → Report → Type 0
-IsBuilt options graph bytes report = IsCanonicalWithReport (header_body options.base.items report.triples) graph options.block_size bytes report
+IsBuilt options graph bytes report =
+    IsCanonicalWithReport (header_body options.base.items report.triples) graph options.block_size bytes report
 
 -- the input is a document, and the bytes and the report are built from its graph
 pub record Builds (options : Options) (input : Option (List ℕ)) (bytes : List ℕ) (report : Report) : Type 0 where
@@ -40,5 +51,26 @@ pub record WritesBuiltPrefix (options : Options) (input before after : Option (L
   pub bytes : List ℕ
   pub report : Report
   pub builds : Builds options input bytes report
+  pub part : n < length bytes
+  pub written : Appends before after (take n bytes)
+
+-- ---- rewriting
+
+-- the canonical file of the string triples that the graph denotes, with the graph's header body, and its report
+abbrev pub IsRewritten : ℕ → GraphParts → List ℕ → Report → Type 0
+IsRewritten b graph bytes report = IsCanonicalWithReport graph.header (denoted_by graph) b bytes report
+
+-- all bytes of that file were written
+pub record WritesRewritten (b : ℕ) (graph : GraphParts) (before after : Option (List ℕ))
+    (report : Report) : Type 0 where
+  pub bytes : List ℕ
+  pub rewritten : IsRewritten b graph bytes report
+  pub written : Appends before after bytes
+
+-- only its first n bytes were written
+pub record WritesRewrittenPrefix (b : ℕ) (graph : GraphParts) (before after : Option (List ℕ)) (n : ℕ) : Type 0 where
+  pub bytes : List ℕ
+  pub report : Report
+  pub rewritten : IsRewritten b graph bytes report
   pub part : n < length bytes
   pub written : Appends before after (take n bytes)

@@ -4,11 +4,13 @@ use Rattle.std.specs.Fmt.{decimal}
 
 -- <BASE> <http://www.w3.org/1999/02/22-rdf-syntax-ns#type> <http://purl.org/HDT/hdt#Dataset> .
 unfoldable pub type_line : List ℕ → List ℕ
-type_line base = 60 ∷ (base ++ codes "> <http://www.w3.org/1999/02/22-rdf-syntax-ns#type> <http://purl.org/HDT/hdt#Dataset> .\n")
+type_line base = 60 ∷ (base
+    ++ codes "> <http://www.w3.org/1999/02/22-rdf-syntax-ns#type> <http://purl.org/HDT/hdt#Dataset> .\n")
 
 -- <BASE> <http://rdfs.org/ns/void#triples> "COUNT" .
 unfoldable pub count_line : List ℕ → ℕ → List ℕ
-count_line base count = 60 ∷ (base ++ (codes "> <http://rdfs.org/ns/void#triples> \"" ++ (decimal count ++ codes "\" .\n")))
+count_line base count = 60
+    ∷ (base ++ (codes "> <http://rdfs.org/ns/void#triples> \"" ++ (decimal count ++ codes "\" .\n")))
 
 -- the header body of a base IRI and a count of triples: the two lines
 unfoldable pub header_body : List ℕ → ℕ → List ℕ

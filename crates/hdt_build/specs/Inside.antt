@@ -1,6 +1,4 @@
-pub mod Documents
+pub mod Collecting
 pub mod Rewriting
-pub mod Ids
 pub mod Filtering
 pub mod SortedEntries
-pub mod Extension

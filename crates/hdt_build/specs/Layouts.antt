@@ -7,7 +7,7 @@ use Rattle.hdt_file.specs.Denoted.{StringTriple, denoted}
 use Rattle.hdt_file.specs.File.{GraphParts, IsLayout, decode_graph}
 use Rattle.hdt_file.specs.StringTriples.{AreDistinctTriples}
 use Rattle.hdt_file.specs.Tight.{IsTight, decode_tight_graph}
-use Rattle.hdt_file.specs.GraphView.{graph_counts}
+use Rattle.hdt_file.specs.Graph.{graph_counts}
 use Rattle.hdt_triples.specs.TripleSequences.{Triple}
 use Rattle.hdt_build.specs.declared.options.Report.{Report}
 

@@ -5,5 +5,4 @@ pub mod Header
 pub mod Layouts
 pub mod Options
 pub mod Reading
-pub mod Rewritten
 pub mod Inside

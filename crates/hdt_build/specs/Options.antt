@@ -9,6 +9,5 @@ IsBlockSize b = (1 ≤ b) × (b ≤ 65535)
 
 -- The block size is 1 to 65,535, and the base is an absolute IRI without characters that IRIs exclude.
 pub record AreValidOptions (o : Options) : Type 0 where
-  pub some : 1 ≤ o.block_size
-  pub most : o.block_size ≤ 65535
+  pub block_size : IsBlockSize o.block_size
   pub base : IsIri o.base.items

@@ -1,7 +1,7 @@
 -- The graph of an N-Triples document, and errors in it.
 use Rattle.std.specs.Prelude.{◌≡◌, ◌≢◌, ◌⊎◌, ℕ, List, [], map, Option, ⊤}
 use Rattle.std.specs.List.{All}
-use Rattle.hdt_dict.specs.DictionaryString.{IsDictionaryString}
+use Rattle.hdt_dict.specs.Strings.{IsDictionaryString}
 use Rattle.hdt_terms.specs.declared.fault.LineReason.TheVariants.{OutOfMemory, Read}
 use Rattle.hdt_terms.specs.declared.fault.LineFault.{LineFault}
 use Rattle.hdt_terms.specs.declared.triple.Triple.{Triple}
@@ -42,7 +42,8 @@ IsBuildFaultOf before after (faults.Write n) = ⊥
 
 -- the error of a line, as an error of building
 abbrev pub IsConvertedTo : LineFault → BuildFault → Type 0
-IsConvertedTo fault told = ((fault.reason ≡ OutOfMemory) × (told ≡ faults.OutOfMemory)) ⊎ ((fault.reason ≢ OutOfMemory) × (told ≡ faults.Line fault))
+IsConvertedTo fault converted = ((fault.reason ≡ OutOfMemory) × (converted ≡ faults.OutOfMemory))
+    ⊎ ((fault.reason ≢ OutOfMemory) × (converted ≡ faults.Line fault))
 
 -- the error is that the reader failed
 abbrev pub ReadFailed : BuildFault → Type 0

@@ -3,11 +3,11 @@ ghost use Rattle.std.specs.Prelude.{◌≡◌, ◌≢◌, ◌<◌, ◌+◌, ◌�
 ghost use Rattle.std.specs.Io.KnownBytes.{IsAtEnd};
 ghost use Rattle.hdt_wire.specs.Counted.{inner, failures};
 ghost use Rattle.hdt_build.specs.Built.{IsBuilt, Builds, WritesBuilt, WritesBuiltPrefix};
-ghost use Rattle.hdt_build.specs.Inside.Documents.{document_graph, IsValidDocument};
+ghost use Rattle.hdt_build.specs.Inside.Collecting.{collected_triples, IsValidCollector};
 ghost use Rattle.hdt_build.specs.Options.{AreValidOptions};
 ghost use Rattle.hdt_build.specs.Reading.{HasDictionaryStrings, IsBuildFaultOf, ReadFailed};
 
-use crate::document::Document;
+use crate::collector::TripleCollector;
 use crate::encoding::encode_graph;
 use crate::fault::BuildFault;
 use crate::file::encode_file;
@@ -18,22 +18,22 @@ use hdt_wire::Counted;
 use std::alloc::{AllocError, Global};
 use std::io::{Read, Write};
 
-/// Encodes the graph of a document as its canonical file; returns the bytes and the counts.
+/// Encodes the graph of collected triples as its canonical file; returns the bytes and the counts.
 fn built(
     alloc: Global,
-    document: Document,
+    collector: TripleCollector,
     options: &Options,
 ) -> Result<(Vec<u8>, Report), AllocError>
-    requires sound { IsValidDocument document }
-    requires texts { HasDictionaryStrings (document_graph document) }
-    requires some { 0 < length (document_graph document) }
+    requires sound { IsValidCollector collector }
+    requires texts { HasDictionaryStrings (collected_triples collector) }
+    requires some { 0 < length (collected_triples collector) }
     requires right { AreValidOptions options.now }
-    ensures { IfOk result (λ made. IsBuilt options.now (document_graph document) made.0.items made.1) }
+    ensures { IfOk result (λ made. IsBuilt options.now (collected_triples collector) made.0.items made.1) }
 {
-    let (list, ids) = document.into_parts(alloc)?;
-    let form = encode_graph(alloc, list, ids, options.block_size)?;
-    let header = header_body(alloc, options.base.as_slice(), form.triples.len() as u64)?;
-    encode_file(alloc, header.as_slice(), form)
+    let (list, ids) = collector.into_parts(alloc)?;
+    let encoded = encode_graph(alloc, list, ids, options.block_size)?;
+    let header = header_body(alloc, options.base.as_slice(), encoded.triples.len() as u64)?;
+    encode_file(alloc, header.as_slice(), encoded)
 }
 
 /// Builds the canonical file of an N-Triples document's graph in memory. Returns its bytes and its counts. The input
@@ -67,7 +67,8 @@ pub fn build_bytes<R: Read>(
     ensures bad { IsErrOf result BuildFault.BadOptions ↔ (AreValidOptions options.now → ⊥) }
     ensures unread { IsErrOf result BuildFault.BadOptions → input.new ≡ input.old }
     // Any other error is the first one of the input.
-    ensures told { IfErr result (λ e. e ≢ BuildFault.BadOptions → IsBuildFaultOf (R.remaining (inner input.old)) (R.remaining (inner input.new)) e) }
+    ensures fault { IfErr result (λ e. e ≢ BuildFault.BadOptions
+        → IsBuildFaultOf (R.remaining (inner input.old)) (R.remaining (inner input.new)) e) }
     // The reader failed in this call, once, if the error says so; else it has not failed.
     ensures read { IfErr result (λ e. ReadFailed e → failures input.new ≡ failures input.old + 1) }
     ensures still { IfErr result (λ e. (ReadFailed e → ⊥) → failures input.new ≡ failures input.old) }
@@ -76,11 +77,11 @@ pub fn build_bytes<R: Read>(
     if !are_valid_options(options) {
         return Err(BuildFault::BadOptions);
     }
-    let document = read_triples(alloc, input)?;
-    if document.is_empty() {
+    let collector = read_triples(alloc, input)?;
+    if collector.is_empty() {
         return Err(BuildFault::NoTriples);
     }
-    Ok(built(alloc, document, options)?)
+    Ok(built(alloc, collector, options)?)
 }
 
 /// Builds the canonical file of an N-Triples document's graph, as [`build_bytes`] does, and then writes it. Nothing is
@@ -97,7 +98,9 @@ pub fn build<R: Read, W: Write>(
     options: &Options,
 ) -> Result<Report, BuildFault>
     // The input is a document, and the canonical file of its graph under the options was written.
-    ensures written { IfOk result (WritesBuilt options.now (R.remaining (inner input.old)) (W.contents (inner out.old)) (W.contents (inner out.new))) }
+    ensures written { IfOk result
+        (WritesBuilt options.now (R.remaining (inner input.old)) (W.contents (inner out.old))
+        (W.contents (inner out.new))) }
     // The options are valid, and the reader is at its end.
     ensures right { OnOk result (AreValidOptions options.now) }
     ensures end { OnOk result (IsAtEnd (R.remaining (inner input.new))) }
@@ -105,14 +108,16 @@ pub fn build<R: Read, W: Write>(
     ensures bad { IsErrOf result BuildFault.BadOptions ↔ (AreValidOptions options.now → ⊥) }
     ensures unread { IsErrOf result BuildFault.BadOptions → input.new ≡ input.old }
     // Any other error, except a failed write, is the first one of the input.
-    ensures told { IfErr result (λ e. e ≢ BuildFault.BadOptions → ((n : ℕ) → e ≢ BuildFault.Write n) → IsBuildFaultOf (R.remaining (inner input.old)) (R.remaining (inner input.new)) e) }
+    ensures fault { IfErr result (λ e. e ≢ BuildFault.BadOptions → ((n : ℕ) → e ≢ BuildFault.Write n)
+        → IsBuildFaultOf (R.remaining (inner input.old)) (R.remaining (inner input.new)) e) }
     // The reader failed in this call, once, if the error says so; else it has not failed.
     ensures read { IfErr result (λ e. ReadFailed e → failures input.new ≡ failures input.old + 1) }
     ensures still { IfErr result (λ e. (ReadFailed e → ⊥) → failures input.new ≡ failures input.old) }
     ensures count { OnOk result (failures input.new ≡ failures input.old) }
     // The writer failed in this call, once, after exactly the first n bytes.
     ensures write { IfErr result (λ e. (n : ℕ) → e ≡ BuildFault.Write n → (failures out.new ≡ failures out.old + 1)
-        × WritesBuiltPrefix options.now (R.remaining (inner input.old)) (W.contents (inner out.old)) (W.contents (inner out.new)) n) }
+        × WritesBuiltPrefix options.now (R.remaining (inner input.old)) (W.contents (inner out.old))
+        (W.contents (inner out.new)) n) }
     // Without an error it has not failed, and at any other error nothing was written.
     ensures well { OnOk result (failures out.new ≡ failures out.old) }
     ensures unwritten { IfErr result (λ e. ((n : ℕ) → e ≢ BuildFault.Write n) → out.new ≡ out.old) }

@@ -14,7 +14,8 @@ use std::cmp::Ordering;
 /// Compares a string with the last one of a list; `Greater` if the list is empty.
 fn cmp_last(strings: &[&[u8]], text: &[u8]) -> Ordering
     ensures none { length strings.now ≡ 0 → result ≡ Greater }
-    ensures some { 0 < length strings.now → result ≡ string_cmp text.now (slice_index_or (borrowed_texts strings.now) (length strings.now - 1) []) }
+    ensures some { 0 < length strings.now
+        → result ≡ string_cmp text.now (slice_index_or (borrowed_texts strings.now) (length strings.now - 1) []) }
 {
     match strings.last() {
         Some(last) => text.cmp(*last),
@@ -28,8 +29,10 @@ fn push_distinct<'a>(
     strings: &mut Vec<&'a [u8]>,
     text: &'a [u8],
 ) -> Result<Option<usize>, AllocError>
-    ensures joined { IfOk result (λ made. IfSome made (λ i. IsPushedOnce (borrowed_texts strings.old.items) text.now (borrowed_texts strings.new.items))) }
-    ensures place { IfOk result (λ made. IfSome made (λ i. i + 1 ≡ length strings.new.items)) }
+    ensures joined { IfOk result
+        (λ made. IfSome made (λ i. IsPushedOnce (borrowed_texts strings.old.items) text.now
+        (borrowed_texts strings.new.items))) }
+    ensures index { IfOk result (λ made. IfSome made (λ i. i + 1 ≡ length strings.new.items)) }
     ensures less { IfOk result (λ made. made ≡ None → IsLessThanLast (borrowed_texts strings.old.items) text.now) }
 {
     match cmp_last(strings.as_slice(), text) {
@@ -51,7 +54,8 @@ fn dedup_entries<'a>(
 ) -> Result<Option<(Vec<&'a [u8]>, Vec<u64>)>, AllocError>
     requires { AreEntriesOf list.now ordered.now }
     ensures ascend { IfOk result (λ found. IfSome found (λ made. IsAscending (borrowed_texts made.0.items))) }
-    ensures ranks { IfOk result (λ found. IfSome found (λ made. AreIndicesOf list.now (borrowed_texts made.0.items) made.1.items)) }
+    ensures ranks { IfOk result
+        (λ found. IfSome found (λ made. AreIndicesOf list.now (borrowed_texts made.0.items) made.1.items)) }
     ensures unsorted { IfOk result (λ found. found ≡ None → NeverDescends (entry_strings list.now ordered.now) → ⊥) }
 {
     let mut strings = Vec::with_capacity(alloc, ordered.len())?;
@@ -59,11 +63,11 @@ fn dedup_entries<'a>(
     let mut seen = 0;
     for at in 0..ordered.len() {
         seen = prefetch_entries(list, ordered, at, seen);
-        let (_, place) = ordered[at];
-        let Some(rank) = push_distinct(&mut strings, list.get(place))? else {
+        let (_, index) = ordered[at];
+        let Some(rank) = push_distinct(&mut strings, list.get(index))? else {
             return Ok(None);
         };
-        ranks[place] = rank as u64;
+        ranks[index] = rank as u64;
     }
     Ok(Some((strings, ranks)))
 }

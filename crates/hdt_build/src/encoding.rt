@@ -1,6 +1,6 @@
 //! The sections and the ID triples of a graph.
 ghost use Rattle.std.specs.Prelude.{◌≤◌, length, IfOk};
-ghost use Rattle.hdt_build.specs.Inside.Documents.{AreBelow};
+ghost use Rattle.hdt_build.specs.Inside.Collecting.{AreBelow};
 ghost use Rattle.hdt_build.specs.Graph.{string_triples_of, IsEncodedGraph};
 ghost use Rattle.hdt_build.specs.Inside.Rewriting.{HaveBlockSize, lists_of_sections};
 ghost use Rattle.hdt_build.specs.Reading.{HasDictionaryStrings};
@@ -20,7 +20,8 @@ pub(crate) struct EncodedGraph {
 }
 
 /// Encodes a graph, whose triples are indices into a list of strings, as four sections and ID triples. Strings are
-/// copied only into their sections; the triples are converted in place.
+/// copied only into their sections; the triples are converted in place. First their indices become ranks, so that the
+/// list of ranks is freed before the sections are written, which needs the most memory.
 pub(crate) fn encode_graph(
     alloc: Global,
     list: Arena,
@@ -30,7 +31,8 @@ pub(crate) fn encode_graph(
     requires within { AreBelow (length list) ids.items }
     requires texts { HasDictionaryStrings (string_triples_of list ids.items) }
     requires block { 1 ≤ block_size }
-    ensures form { IfOk result (λ made. IsEncodedGraph (string_triples_of list ids.items) (lists_of_sections made.sections) made.triples.items) }
+    ensures form { IfOk result
+        (λ made. IsEncodedGraph (string_triples_of list ids.items) (lists_of_sections made.sections) made.triples.items) }
     ensures blocks { IfOk result (λ made. HaveBlockSize block_size made.sections) }
 {
     let mut triples = ids;

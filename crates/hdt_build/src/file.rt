@@ -1,6 +1,7 @@
 //! The bytes of a file in canonical form.
-ghost use Rattle.std.specs.Prelude.{◌≡◌, ◌++◌, IfOk, OnOk};
-ghost use Rattle.hdt_dict.specs.Writing.{AreSections};
+ghost use Rattle.std.specs.Prelude.{◌≡◌, ◌++◌, ◌∷◌, [], length, IfOk, OnOk};
+ghost use Rattle.hdt_dict.specs.Dictionary.{SectionLists};
+ghost use Rattle.hdt_dict.specs.Writing.{AreSections, canonical_dictionary};
 ghost use Rattle.hdt_triples.specs.Order.{AreWritable};
 ghost use Rattle.hdt_build.specs.Built.{report_of};
 ghost use Rattle.hdt_build.specs.Canonical.{canonical_head, canonical_file};
@@ -18,7 +19,7 @@ use std::alloc::{AllocError, Global};
 /// Appends the head of a file: the global control information, that of the header, and the header body. An error may
 /// leave its first bytes.
 #[tactic(auto, using(crate::proofs::Heads::length_no_zero, std::proofs::Common::append_assoc), unfolding(crate::specs::Canonical::canonical_head))]
-pub(crate) fn put_head(alloc: Global, header: &[u8], out: &mut Vec<u8>) -> Result<(), AllocError>
+fn put_head(alloc: Global, header: &[u8], out: &mut Vec<u8>) -> Result<(), AllocError>
     ensures { OnOk result (out.new.items ≡ out.old.items ++ canonical_head header.now) }
 {
     let properties = length_property(alloc, header.len() as u64)?;
@@ -28,15 +29,18 @@ pub(crate) fn put_head(alloc: Global, header: &[u8], out: &mut Vec<u8>) -> Resul
     Ok(())
 }
 
-/// The bytes of the canonical file. The sections are freed before the triples are written.
-#[tactic(auto, using(std::proofs::Common::append_assoc), unfolding(crate::specs::Canonical::canonical_file))]
-fn canonical_file(alloc: Global, header: &[u8], form: EncodedGraph) -> Result<Vec<u8>, AllocError>
-    requires sections { AreSections (lists_of_sections form.sections) }
-    requires triples { AreWritable form.triples.items }
-    requires blocks { HaveBlockSize form.sections.shared.block_size form.sections }
-    ensures { IfOk result (λ bytes. bytes.items ≡ canonical_file header.now form.sections.shared.block_size (lists_of_sections form.sections) form.triples.items) }
+/// The head and the dictionary of a file. The sections are freed.
+#[tactic(auto, using(std::proofs::Common::append_assoc))]
+pub(crate) fn head_and_dictionary(
+    alloc: Global,
+    header: &[u8],
+    sections: SectionWriters,
+) -> Result<Vec<u8>, AllocError>
+    requires sections { AreSections (lists_of_sections sections) }
+    requires blocks { HaveBlockSize sections.shared.block_size sections }
+    ensures { IfOk result (λ bytes. bytes.items ≡ canonical_head header.now
+        ++ canonical_dictionary sections.shared.block_size (lists_of_sections sections)) }
 {
-    let EncodedGraph { sections, triples } = form;
     let mut bytes = Vec::new(alloc);
     put_head(alloc, header, &mut bytes)?;
     let SectionWriters {
@@ -46,33 +50,46 @@ fn canonical_file(alloc: Global, header: &[u8], form: EncodedGraph) -> Result<Ve
         objects,
     } = sections;
     finish_dictionary(shared, subjects, predicates, objects, &mut bytes)?;
-    put_triples(alloc, triples.as_slice(), &mut bytes)?;
     Ok(bytes)
 }
 
-/// The bytes of the canonical file of a header body, four sections and ID triples, and its counts.
+/// The counts of a file, given the numbers of strings of its sections.
 #[tactic(auto, unfolding(crate::specs::Built::report_of))]
-pub(crate) fn encode_file(
-    alloc: Global,
-    header: &[u8],
-    form: EncodedGraph,
-) -> Result<(Vec<u8>, Report), AllocError>
-    requires sections { AreSections (lists_of_sections form.sections) }
-    requires triples { AreWritable form.triples.items }
-    requires blocks { HaveBlockSize form.sections.shared.block_size form.sections }
-    ensures bytes { IfOk result (λ made. made.0.items ≡ canonical_file header.now form.sections.shared.block_size (lists_of_sections form.sections) form.triples.items) }
-    ensures report { IfOk result (λ made. made.1 ≡ report_of (lists_of_sections form.sections) form.triples.items made.0.items) }
+pub(crate) fn report_of(triples: &[(u64, u64, u64)], lens: [u64; 4], bytes: &[u8]) -> Report
+    ensures { (d : SectionLists) → lens ≡ length d.shared ∷ length d.subjects ∷ length d.predicates ∷ length d.objects
+        ∷ [] → result ≡ report_of d triples.now bytes.now }
 {
-    let triples = form.triples.len() as u64;
-    let [shared, subjects, predicates, objects] = form.sections.lens();
-    let bytes = canonical_file(alloc, header, form)?;
-    let report = Report {
-        triples,
+    let [shared, subjects, predicates, objects] = lens;
+    Report {
+        triples: triples.len() as u64,
         shared,
         subjects,
         predicates,
         objects,
         bytes: bytes.len() as u64,
-    };
+    }
+}
+
+/// The bytes of the canonical file of a header body, four sections and ID triples, and its counts.
+#[tactic(auto, using(std::proofs::Common::append_assoc), unfolding(crate::specs::Canonical::canonical_file))]
+pub(crate) fn encode_file(
+    alloc: Global,
+    header: &[u8],
+    encoded: EncodedGraph,
+) -> Result<(Vec<u8>, Report), AllocError>
+    requires sections { AreSections (lists_of_sections encoded.sections) }
+    requires triples { AreWritable encoded.triples.items }
+    requires blocks { HaveBlockSize encoded.sections.shared.block_size encoded.sections }
+    ensures bytes { IfOk result (λ made. made.0.items
+        ≡ canonical_file header.now encoded.sections.shared.block_size
+        (lists_of_sections encoded.sections) encoded.triples.items) }
+    ensures report { IfOk result (λ made. made.1
+        ≡ report_of (lists_of_sections encoded.sections) encoded.triples.items made.0.items) }
+{
+    let EncodedGraph { sections, triples } = encoded;
+    let lens = sections.lens();
+    let mut bytes = head_and_dictionary(alloc, header, sections)?;
+    put_triples(alloc, triples.as_slice(), &mut bytes)?;
+    let report = report_of(triples.as_slice(), lens, bytes.as_slice());
     Ok((bytes, report))
 }

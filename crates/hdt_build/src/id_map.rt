@@ -10,11 +10,11 @@ pub(crate) enum IdMap {
 }
 
 /// Whether each new ID equals the old one.
-fn is_identity(numbers: &[u64]) -> bool
-    ensures { IsTrue result → (k : ℕ) → k < length numbers.now → slice_index numbers.now k ≡ k + 1 }
+fn is_identity(ids: &[u64]) -> bool
+    ensures { IsTrue result → (k : ℕ) → k < length ids.now → slice_index ids.now k ≡ k + 1 }
 {
-    for place in 0..numbers.len() {
-        if numbers[place] != place as u64 + 1 {
+    for index in 0..ids.len() {
+        if ids[index] != index as u64 + 1 {
             return false;
         }
     }
@@ -22,13 +22,13 @@ fn is_identity(numbers: &[u64]) -> bool
 }
 
 /// The map to these new IDs, of the old IDs 1, 2, ..
-pub(crate) fn id_map_of(numbers: Vec<u64>) -> IdMap
-    ensures { (n : ℕ) → 1 ≤ n → n ≤ length numbers.items → new_id result n ≡ slice_index numbers.items (n - 1) }
+pub(crate) fn id_map_of(ids: Vec<u64>) -> IdMap
+    ensures { (n : ℕ) → 1 ≤ n → n ≤ length ids.items → new_id result n ≡ slice_index ids.items (n - 1) }
 {
-    if is_identity(numbers.as_slice()) {
+    if is_identity(ids.as_slice()) {
         return IdMap::Unchanged;
     }
-    IdMap::Listed(numbers)
+    IdMap::Listed(ids)
 }
 
 impl IdMap {
@@ -38,15 +38,15 @@ impl IdMap {
     {
         match self {
             IdMap::Unchanged => old,
-            IdMap::Listed(numbers) => id_at(numbers.as_slice(), old),
+            IdMap::Listed(ids) => id_at(ids.as_slice(), old),
         }
     }
 }
 
 /// The new ID in the list; 0 if the old one is not valid.
-fn id_at(numbers: &[u64], old: u64) -> u64
-    ensures { result ≡ slice_index numbers.now (old - 1) }
+fn id_at(ids: &[u64], old: u64) -> u64
+    ensures { result ≡ slice_index ids.now (old - 1) }
 {
     let at = old.saturating_sub(1) as usize;
-    if at < numbers.len() { numbers[at] } else { 0 }
+    if at < ids.len() { ids[at] } else { 0 }
 }

@@ -1,7 +1,6 @@
 //! String interning with a bounded cache: a string has one index, unless the cache loses it.
 ghost use Rattle.std.specs.Prelude.{◌≡◌, ◌<◌, ◌≤◌, ◌++◌, ◌∷◌, [], ℕ, List, ◌+◌, IfSome, length, slice_index_or, vec_len, IfOk, OnOk, OnErr};
-ghost use Rattle.hdt_build.specs.Inside.SortedEntries.{AreIndicesOf};
-ghost use Rattle.hdt_build.specs.Inside.Extension.{ExtendsList};
+ghost use Rattle.hdt_build.specs.Inside.SortedEntries.{AreIndicesOf, ExtendsList};
 
 use hdt_dict::Arena;
 use std::alloc::{AllocError, Global};
@@ -44,8 +43,8 @@ fn first_slot(slots: &[u64], hash: u64) -> usize
     requires { 8 ≤ length slots.now }
     ensures { result + 8 ≤ length slots.now }
 {
-    let room = slots.len() - PROBES;
-    ((hash >> 32) as u128 * (room + 1) as u128 >> 32) as usize
+    let last = slots.len() - PROBES;
+    ((hash >> 32) as u128 * (last + 1) as u128 >> 32) as usize
 }
 
 /// The index of a string in the list, if one of the slots has it.
@@ -63,27 +62,27 @@ fn find(list: &Arena, slots: &[u64], text: &[u8], hash: u64) -> Option<usize>
     None
 }
 
-/// The hashes of strings.
-fn hashes_of(alloc: Global, strings: &Arena) -> Result<Vec<u64>, AllocError>
-    ensures { IfOk result (λ made. length made.items ≡ length strings.now) }
+/// Replaces the contents of a vector by the hashes of strings.
+fn store_hashes(strings: &Arena, hashes: &mut Vec<u64>) -> Result<(), AllocError>
+    ensures { OnOk result (length hashes.new.items ≡ length strings.now) }
 {
-    let mut made = Vec::with_capacity(alloc, strings.len())?;
+    hashes.clear();
     'strings: for at in 0..strings.len() {
-        made.push(hash(strings.get(at)))?;
+        hashes.push(hash(strings.get(at)))?;
     }
-    Ok(made)
+    Ok(())
 }
 
 /// The index of some entry with this hash, or `usize::MAX`. No iteration depends on the previous one, so the loads
 /// overlap.
 fn guess(slots: &[u64], hash: u64) -> usize {
-    let mut place = 0;
+    let mut index = 0;
     for entry in slots {
         if (*entry ^ hash) >> 32 == 0 {
-            place = *entry & 0xFFFF_FFFF;
+            index = *entry & 0xFFFF_FFFF;
         }
     }
-    (place as usize).wrapping_sub(1)
+    (index as usize).wrapping_sub(1)
 }
 
 /// Prefetches the slots of the hashes: the sum of the first and the last one of each, with no branch between the loads.
@@ -100,21 +99,22 @@ fn prefetch_slots(slots: &[u64], hashes: &[u64]) -> u64
     sum
 }
 
-/// A guess at the index of each string, by its hash only.
-fn guess_indices(alloc: Global, slots: &[u64], hashes: &[u64]) -> Result<Vec<usize>, AllocError>
+/// Replaces the contents of a vector by a guess at the index of each string, by its hash only.
+fn store_guesses(slots: &[u64], hashes: &[u64], guesses: &mut Vec<usize>) -> Result<(), AllocError>
     requires { 8 ≤ length slots.now }
-    ensures { IfOk result (λ made. length made.items ≡ length hashes.now) }
+    ensures { OnOk result (length guesses.new.items ≡ length hashes.now) }
 {
     // The sum has no meaning; using it keeps the loads from being optimized away.
-    let room = hashes
+    let capacity = hashes
         .len()
         .saturating_add(prefetch_slots(slots, hashes).min(1) as usize);
-    let mut made = Vec::with_capacity(alloc, room)?;
+    guesses.clear();
+    guesses.reserve(capacity)?;
     for hash in hashes {
         let from = first_slot(slots, *hash);
-        made.push(guess(&slots[from..from + PROBES], *hash))?;
+        guesses.push(guess(&slots[from..from + PROBES], *hash))?;
     }
-    Ok(made)
+    Ok(())
 }
 
 /// Whether the string at an index has the first and the last byte of another one. For most strings these two loads
@@ -172,6 +172,26 @@ fn double_slots(alloc: Global, slots: &[u64]) -> Result<Vec<u64>, AllocError>
     Ok(made)
 }
 
+/// What looking up several strings stores for each of them. The vectors are reused.
+#[derive(Drop)]
+pub(crate) struct Lookups {
+    hashes: Vec<u64>,
+    guesses: Vec<usize>,
+    /// The index of each string.
+    pub(crate) indices: Vec<u64>,
+}
+
+impl Lookups {
+    /// Empty vectors.
+    pub(crate) fn new(alloc: Global) -> Lookups {
+        Lookups {
+            hashes: Vec::new(alloc),
+            guesses: Vec::new(alloc),
+            indices: Vec::new(alloc),
+        }
+    }
+}
+
 impl Interner {
     /// An empty list, with an empty cache.
     pub(crate) fn new(alloc: Global) -> Result<Interner, AllocError>
@@ -214,24 +234,27 @@ impl Interner {
         }
     }
 
-    /// Returns an index for each of these strings. Appends those that the cache doesn't have.
+    /// Stores an index for each of these strings. Appends those that the cache doesn't have.
     pub(crate) fn intern_all(
         &mut self,
         alloc: Global,
         strings: &Arena,
-    ) -> Result<Vec<u64>, AllocError>
-        ensures places { IfOk result (λ made. AreIndicesOf strings.now self.new made.items) }
+        lookups: &mut Lookups,
+    ) -> Result<(), AllocError>
+        ensures indices { OnOk result (AreIndicesOf strings.now self.new lookups.new.indices.items) }
         ensures list { OnOk result (ExtendsList self.old self.new) }
     {
-        let hashes = hashes_of(alloc, strings)?;
-        let mut guesses = guess_indices(alloc, self.slots.as_slice(), hashes.as_slice())?;
-        drop_wrong_guesses(&self.list, strings, &mut guesses);
-        let mut places = Vec::with_capacity(alloc, strings.len())?;
+        store_hashes(strings, &mut lookups.hashes)?;
+        let slots = self.slots.as_slice();
+        store_guesses(slots, lookups.hashes.as_slice(), &mut lookups.guesses)?;
+        drop_wrong_guesses(&self.list, strings, &mut lookups.guesses);
+        lookups.indices.clear();
         'strings: for at in 0..strings.len() {
-            let place = self.intern(alloc, strings.get(at), hashes[at], guesses[at])?;
-            places.push(place as u64)?;
+            let (hash, guess) = (lookups.hashes[at], lookups.guesses[at]);
+            let index = self.intern(alloc, strings.get(at), hash, guess)?;
+            lookups.indices.push(index as u64)?;
         }
-        Ok(places)
+        Ok(())
     }
 
     /// Appends a string, whether or not it is in the list.

@@ -4,7 +4,7 @@ ghost use Rattle.hdt_wire.specs.Checks.{IsBytes};
 ghost use Rattle.hdt_dict.specs.Strings.{SameMembers};
 ghost use Rattle.hdt_terms.specs.declared.triple.Triple.{Triple};
 ghost use Rattle.hdt_terms.specs.Lines.{Document};
-ghost use Rattle.hdt_build.specs.Built.{IsBuilt, Builds};
+ghost use Rattle.hdt_build.specs.Built.{IsBuilt, Builds, IsRewritten};
 ghost use Rattle.hdt_build.specs.Canonical.{IsCanonical};
 ghost use Rattle.hdt_file.specs.Denoted.{StringTriple};
 ghost use Rattle.hdt_file.specs.File.{GraphParts, IsLayout};
@@ -12,7 +12,6 @@ ghost use Rattle.hdt_build.specs.Header.{header_body};
 ghost use Rattle.hdt_build.specs.Layouts.{IsLayoutOf, IsVerified, denoted_by};
 ghost use Rattle.hdt_build.specs.Options.{AreValidOptions, IsBlockSize};
 ghost use Rattle.hdt_build.specs.Reading.{most, IsBuildFaultOf, ReadFailed};
-ghost use Rattle.hdt_build.specs.Rewritten.{IsRewritten};
 ghost use Rattle.hdt_build.specs.declared.fault.BuildFault.{BuildFault};
 ghost use Rattle.hdt_build.specs.declared.options.Options.{Options};
 ghost use Rattle.hdt_build.specs.declared.options.Report.{Report};
@@ -23,18 +22,23 @@ use hdt_terms::line_or_fault;
 /// A canonical file is a valid file with its header body: `open` of hdt_file accepts it, and its graph has exactly the
 /// given triples, each once. The same holds for a file that is built.
 pub fn canonical_files_are_layouts()
-    ensures canonical { (header : List ℕ) (graph : List StringTriple) (b : ℕ) (bytes : List ℕ) (file : IsCanonical header graph b bytes)
+    ensures canonical { (header : List ℕ) (graph : List StringTriple) (b : ℕ) (bytes : List ℕ)
+        (file : IsCanonical header graph b bytes)
         → 1 ≤ b → b < 2 ^ 64 → length bytes < 2 ^ 64 → length file.triples < 2 ^ 64 → IsLayoutOf header graph bytes }
-    ensures built { (options : Options) (graph : List StringTriple) (bytes : List ℕ) (report : Report) → AreValidOptions options → IsBuilt options graph bytes report
-        → length bytes < 2 ^ 64 → report.triples < 2 ^ 64 → IsLayoutOf (header_body options.base.items report.triples) graph bytes }
+    ensures built { (options : Options) (graph : List StringTriple) (bytes : List ℕ) (report : Report)
+        → AreValidOptions options → IsBuilt options graph bytes report
+        → length bytes < 2 ^ 64 → report.triples < 2 ^ 64
+        → IsLayoutOf (header_body options.base.items report.triples) graph bytes }
 {}
 
 /// The report of a file that is built or rewritten has the counts that `verify` and `verify_tight` of hdt_file return
 /// for it, and its length in bytes.
 pub fn reports_are_verified()
-    ensures built { (options : Options) (graph : List StringTriple) (bytes : List ℕ) (report : Report) → AreValidOptions options → IsBuilt options graph bytes report
+    ensures built { (options : Options) (graph : List StringTriple) (bytes : List ℕ) (report : Report)
+        → AreValidOptions options → IsBuilt options graph bytes report
         → IsBytes bytes → length bytes < 2 ^ 64 → report.triples < 2 ^ 64 → IsVerified bytes report }
-    ensures rewritten { (b : ℕ) (graph : GraphParts) (bytes : List ℕ) (report : Report) → IsBlockSize b → IsRewritten b graph bytes report
+    ensures rewritten { (b : ℕ) (graph : GraphParts) (bytes : List ℕ) (report : Report) → IsBlockSize b
+        → IsRewritten b graph bytes report
         → IsBytes bytes → length bytes < 2 ^ 64 → report.triples < 2 ^ 64 → IsVerified bytes report }
 {
     one_layout();
@@ -65,8 +69,10 @@ pub fn one_document()
 /// Nothing is built from a document without triples. The error is then `NoTriples`, unless the reader fails or memory
 /// runs out.
 pub fn no_triples_is_reported()
-    ensures unbuilt { (options : Options) (bytes made : List ℕ) (report : Report) → Builds options (Some bytes) made report → Document bytes [] → ⊥ }
-    ensures told { (bytes : List ℕ) (after : Option (List ℕ)) (e : BuildFault) → IsBuildFaultOf (Some bytes) after e → Document bytes [] → length bytes ≤ most
+    ensures unbuilt { (options : Options) (bytes made : List ℕ) (report : Report)
+        → Builds options (Some bytes) made report → Document bytes [] → ⊥ }
+    ensures fault { (bytes : List ℕ) (after : Option (List ℕ)) (e : BuildFault) → IsBuildFaultOf (Some bytes) after e
+        → Document bytes [] → length bytes ≤ most
         → (e ≡ BuildFault.NoTriples) ⊎ ((e ≡ BuildFault.OutOfMemory) ⊎ ReadFailed e) }
 {
     line_or_fault();
@@ -75,15 +81,18 @@ pub fn no_triples_is_reported()
 /// A rewritten file is a valid file with the graph's header body and without unused strings: `open_tight` of hdt_file
 /// accepts it, and its graph has exactly the triples of the old one, each once.
 pub fn rewriting_keeps_the_graph()
-    ensures { (b : ℕ) (graph : GraphParts) (bytes : List ℕ) (report : Report) → IsBlockSize b → IsRewritten b graph bytes report
+    ensures { (b : ℕ) (graph : GraphParts) (bytes : List ℕ) (report : Report) → IsBlockSize b
+        → IsRewritten b graph bytes report
         → length bytes < 2 ^ 64 → report.triples < 2 ^ 64 → IsLayoutOf graph.header (denoted_by graph) bytes }
 {}
 
 /// A file that was rewritten or built doesn't change if it is rewritten with the same block size.
 pub fn rewriting_again_changes_nothing()
-    ensures rewritten { (b : ℕ) (graph h : GraphParts) (x y : List ℕ) (r s : Report) → IsBlockSize b → IsRewritten b graph x r → IsBytes x → length x < 2 ^ 64 → r.triples < 2 ^ 64
+    ensures rewritten { (b : ℕ) (graph h : GraphParts) (x y : List ℕ) (r s : Report) → IsBlockSize b
+        → IsRewritten b graph x r → IsBytes x → length x < 2 ^ 64 → r.triples < 2 ^ 64
         → IsLayout x h → IsRewritten b h y s → x ≡ y }
-    ensures built { (options : Options) (graph : List StringTriple) (h : GraphParts) (x y : List ℕ) (r s : Report) → AreValidOptions options → IsBuilt options graph x r → IsBytes x → length x < 2 ^ 64 → r.triples < 2 ^ 64
+    ensures built { (options : Options) (graph : List StringTriple) (h : GraphParts) (x y : List ℕ) (r s : Report)
+        → AreValidOptions options → IsBuilt options graph x r → IsBytes x → length x < 2 ^ 64 → r.triples < 2 ^ 64
         → IsLayout x h → IsRewritten options.block_size h y s → x ≡ y }
 {
     one_layout();

@@ -22,7 +22,7 @@
 //! ```
 //!
 //! Modules, in reading order. Building: `options` and `fault`; `interner`, the list of strings; `queue` and
-//! `document`, triples as indices of strings; `reading`, the lines of the input; `string_sort` and `dedup`, the
+//! `collector`, triples as indices of strings; `reading`, the lines of the input; `string_sort` and `dedup`, the
 //! strings in order, each once; `prefetch`; `section_filter`, the four sections and the IDs; `triples` and `encoding`,
 //! the encoded graph; `header` and `file`, its bytes; `building`.
 //! Rewriting: `retained`, which strings remain; `section_run`, a cursor over them; `sections` and `id_map`, the new
@@ -30,8 +30,8 @@
 #![tactic(auto)]
 
 mod building;
+mod collector;
 mod dedup;
-mod document;
 mod encoding;
 mod fault;
 mod file;

@@ -27,9 +27,7 @@ pub(crate) fn is_block_size(block_size: u32) -> bool
 pub(crate) fn are_valid_options(options: &Options) -> bool
     ensures { IsTrue result ↔ AreValidOptions options.now }
 {
-    1 <= options.block_size
-        && options.block_size <= MAX_BLOCK_SIZE
-        && is_iri(options.base.as_slice())
+    is_block_size(options.block_size) && is_iri(options.base.as_slice())
 }
 
 /// The counts of a file that was built or rewritten.

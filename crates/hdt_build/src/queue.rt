@@ -1,8 +1,8 @@
 //! Triples whose strings have not been looked up yet.
 ghost use Rattle.std.specs.Prelude.{◌≡◌, ◌<◌, ◌++◌, ◌∷◌, [], length, slice_index_or, IfOk, OnOk, IsTrue, IsFalse, ◌≤◌, ◌⊎◌};
 ghost use Rattle.std.specs.List.{All};
-ghost use Rattle.hdt_build.specs.Inside.Documents.{queued_triples, IsValidQueue};
-ghost use Rattle.hdt_build.specs.Inside.Extension.{ExtendsList};
+ghost use Rattle.hdt_build.specs.Inside.Collecting.{queued_triples, IsValidQueue};
+ghost use Rattle.hdt_build.specs.Inside.SortedEntries.{ExtendsList};
 
 use hdt_dict::Arena;
 use std::alloc::{AllocError, Global};
@@ -13,6 +13,9 @@ const MAX_TRIPLES: usize = 256;
 
 /// The greatest number of bytes of their strings, before that of the last triple.
 const MAX_BYTES: usize = 65_536;
+
+/// A queue whose strings had more bytes than this gives their memory back when it is emptied.
+const MAX_KEPT_BYTES: usize = 1_048_576;
 
 /// Triples as indices into a list of their own strings. The list has duplicates, but a subject that equals that of the
 /// previous triple is shared.
@@ -66,6 +69,21 @@ impl Queue {
             ids: Vec::with_capacity(alloc, MAX_TRIPLES)?,
             bytes: 0,
         })
+    }
+
+    /// Removes all triples. The memory is kept for the next ones, unless long strings made it large.
+    pub(crate) fn clear(&mut self, alloc: Global) -> Result<(), AllocError>
+        ensures ids { OnOk result (self.new.ids.items ≡ []) }
+        ensures sound { OnOk result (IsValidQueue self.new) }
+    {
+        if self.bytes > MAX_KEPT_BYTES {
+            *self = Queue::new(alloc)?;
+            return Ok(());
+        }
+        self.strings.clear();
+        self.ids.clear();
+        self.bytes = 0;
+        Ok(())
     }
 
     /// Adds a triple. After an error, drop the queue.

@@ -3,10 +3,10 @@ ghost use Rattle.std.specs.Prelude.{◌≡◌, ◌+◌, ◌≢◌, Ok, IfOk, IfE
 ghost use Rattle.std.specs.Io.KnownBytes.{IsAtEnd};
 ghost use Rattle.hdt_wire.specs.Counted.{inner, failures};
 ghost use Rattle.hdt_terms.specs.declared.fault.LineReason.TheVariants as reasons;
-ghost use Rattle.hdt_build.specs.Inside.Documents.{document_graph, IsValidDocument};
+ghost use Rattle.hdt_build.specs.Inside.Collecting.{collected_triples, IsValidCollector};
 ghost use Rattle.hdt_build.specs.Reading.{IsInputGraph, HasDictionaryStrings, IsBuildFaultOf, IsConvertedTo, ReadFailed};
 
-use crate::document::Document;
+use crate::collector::TripleCollector;
 use crate::fault::BuildFault;
 use hdt_terms::{
     LineFault, LineReason, Lines, strings_are_texts, text_encodes_one_term, triples_so_far,
@@ -32,12 +32,13 @@ fn build_fault(fault: LineFault) -> BuildFault
 pub(crate) fn read_triples<R: Read>(
     alloc: Global,
     input: &mut Counted<R>,
-) -> Result<Document, BuildFault>
-    ensures found { IfOk result (λ document. IsInputGraph (R.remaining (inner input.old)) (document_graph document)) }
-    ensures sound { IfOk result IsValidDocument }
-    ensures texts { IfOk result (λ document. HasDictionaryStrings (document_graph document)) }
+) -> Result<TripleCollector, BuildFault>
+    ensures found { IfOk result
+        (λ collector. IsInputGraph (R.remaining (inner input.old)) (collected_triples collector)) }
+    ensures sound { IfOk result IsValidCollector }
+    ensures texts { IfOk result (λ collector. HasDictionaryStrings (collected_triples collector)) }
     ensures end { OnOk result (IsAtEnd (R.remaining (inner input.new))) }
-    ensures told { IfErr result (IsBuildFaultOf (R.remaining (inner input.old)) (R.remaining (inner input.new))) }
+    ensures fault { IfErr result (IsBuildFaultOf (R.remaining (inner input.old)) (R.remaining (inner input.new))) }
     ensures read { IfErr result (λ e. ReadFailed e → failures input.new ≡ failures input.old + 1) }
     ensures still { IfErr result (λ e. (ReadFailed e → ⊥) → failures input.new ≡ failures input.old) }
     ensures some { IfErr result (λ e. e ≢ BuildFault.NoTriples) }
@@ -47,14 +48,14 @@ pub(crate) fn read_triples<R: Read>(
     strings_are_texts();
     text_encodes_one_term();
     let mut lines = Lines::new(alloc, MAX_INPUT_LEN)?;
-    let mut document = Document::new(alloc)?;
+    let mut collector = TripleCollector::new(alloc)?;
     let mut s = Vec::new(alloc);
     let mut p = Vec::new(alloc);
     let mut o = Vec::new(alloc);
     'triples: loop {
         match lines.next_strings(input, &mut s, &mut p, &mut o) {
-            Ok(true) => document.add(alloc, s.as_slice(), p.as_slice(), o.as_slice())?,
-            Ok(false) => return Ok(document),
+            Ok(true) => collector.add(alloc, s.as_slice(), p.as_slice(), o.as_slice())?,
+            Ok(false) => return Ok(collector),
             Err(fault) => return Err(build_fault(fault)),
         }
     }

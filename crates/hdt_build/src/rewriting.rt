@@ -1,16 +1,15 @@
 //! Rewriting a graph as its canonical file.
 ghost use Rattle.std.specs.Prelude.{◌≡◌, ◌≢◌, ◌+◌, ◌↔◌, ℕ, IfOk, IfErr, OnOk, IsErrOf};
 ghost use Rattle.hdt_wire.specs.Counted.{inner, failures};
-ghost use Rattle.hdt_file.specs.GraphView.{graph_view};
+ghost use Rattle.hdt_file.specs.Graph.{graph_view};
 ghost use Rattle.hdt_build.specs.Options.{IsBlockSize};
-ghost use Rattle.hdt_build.specs.Rewritten.{IsRewritten, WritesRewritten, WritesRewrittenPrefix};
+ghost use Rattle.hdt_build.specs.Built.{IsRewritten, WritesRewritten, WritesRewrittenPrefix};
 
 use crate::fault::RewriteFault;
-use crate::file::put_head;
+use crate::file::{head_and_dictionary, report_of};
 use crate::options::{Options, Report, is_block_size};
-use crate::sections::{SectionWriters, rewrite_sections};
-use crate::triples::renumber_triples;
-use hdt_dict::finish_dictionary;
+use crate::sections::rewrite_sections;
+use crate::triples::rewrite_triples;
 use hdt_file::Graph;
 use hdt_triples::put_triples;
 use hdt_wire::Counted;
@@ -28,29 +27,13 @@ fn rewritten(
     ensures { IfOk result (λ made. IsRewritten block_size (graph_view graph.now) made.0.items made.1) }
 {
     graph.is_graph();
-    let (sections, numbers) = rewrite_sections(alloc, graph, block_size)?;
+    let (sections, ids) = rewrite_sections(alloc, graph, block_size)?;
     let lens = sections.lens();
-    let mut bytes = Vec::new(alloc);
-    put_head(alloc, graph.header(), &mut bytes)?;
-    let SectionWriters {
-        shared,
-        subjects,
-        predicates,
-        objects,
-    } = sections;
-    finish_dictionary(shared, subjects, predicates, objects, &mut bytes)?;
-    let triples = renumber_triples(alloc, graph, &numbers)?;
-    drop(numbers);
+    let mut bytes = head_and_dictionary(alloc, graph.header(), sections)?;
+    let triples = rewrite_triples(alloc, graph, &ids)?;
+    drop(ids);
     put_triples(alloc, triples.as_slice(), &mut bytes)?;
-    let [shared, subjects, predicates, objects] = lens;
-    let report = Report {
-        triples: triples.len() as u64,
-        shared,
-        subjects,
-        predicates,
-        objects,
-        bytes: bytes.len() as u64,
-    };
+    let report = report_of(triples.as_slice(), lens, bytes.as_slice());
     Ok((bytes, report))
 }
 
@@ -99,12 +82,15 @@ pub fn rewrite<W: Write>(
     options: &Options,
 ) -> Result<Report, RewriteFault>
     // The canonical file of the graph's triples, with its header body, was written.
-    ensures written { IfOk result (WritesRewritten options.now.block_size (graph_view graph.now) (W.contents (inner out.old)) (W.contents (inner out.new))) }
+    ensures written { IfOk result
+        (WritesRewritten options.now.block_size (graph_view graph.now) (W.contents (inner out.old))
+        (W.contents (inner out.new))) }
     // BadOptions is returned exactly if the block size is not valid.
     ensures bad { IsErrOf result RewriteFault.BadOptions ↔ (IsBlockSize options.now.block_size → ⊥) }
     // The writer failed in this call, once, after exactly the first n bytes.
     ensures write { IfErr result (λ e. (n : ℕ) → e ≡ RewriteFault.Write n → (failures out.new ≡ failures out.old + 1)
-        × WritesRewrittenPrefix options.now.block_size (graph_view graph.now) (W.contents (inner out.old)) (W.contents (inner out.new)) n) }
+        × WritesRewrittenPrefix options.now.block_size (graph_view graph.now) (W.contents (inner out.old))
+        (W.contents (inner out.new)) n) }
     // Without an error it has not failed, and at any other error nothing was written.
     ensures well { OnOk result (failures out.new ≡ failures out.old) }
     ensures unwritten { IfErr result (λ e. ((n : ℕ) → e ≢ RewriteFault.Write n) → out.new ≡ out.old) }

@@ -2,10 +2,9 @@
 ghost use Rattle.std.specs.Prelude.{◌≡◌, ◌≢◌, ◌<◌, ◌≤◌, ◌+◌, ◌^◌, ◌++◌, ◌∷◌, [], ℕ, length, set, slice_index, IsTrue, IsFalse, IfOk, OnOk};
 ghost use Rattle.std.specs.declared.cmp.Ordering.TheVariants.{Less};
 ghost use Rattle.hdt_front.specs.WriterState.{last_string};
-ghost use Rattle.hdt_front.specs.Searching.{lcp_len};
-ghost use Rattle.hdt_front.specs.Order.{string_cmp};
+ghost use Rattle.hdt_front.specs.Order.{string_cmp, lcp_len};
 ghost use Rattle.hdt_file.specs.Denoted.{string_of};
-ghost use Rattle.hdt_file.specs.GraphView.{graph_view};
+ghost use Rattle.hdt_file.specs.Graph.{graph_view};
 ghost use Rattle.hdt_wire.specs.declared.role.Role.TheVariants as roles;
 ghost use Rattle.hdt_build.specs.Inside.Rewriting.{section_role, second_run_end, IsValidRun, IsRunFrom, HasPrefixLength, PrefixesDecideOrder, IsRewrittenSection, AreRewrittenSections, HaveBlockSize, lists_of_sections};
 ghost use Rattle.hdt_dict.specs.Dictionary.{role_strings};
@@ -14,101 +13,113 @@ ghost use Rattle.hdt_wire.specs.declared.role.Role.TheVariants.{Object};
 use crate::id_map::{IdMap, id_map_of};
 use crate::retained::run_ends;
 use crate::section_run::SectionRun;
-use hdt_dict::Role;
-use hdt_file::{Graph, SectionId};
+use hdt_dict::{Role, SectionId};
+use hdt_file::Graph;
 use hdt_front::{SectionWriter, cmp_from};
 use std::alloc::{AllocError, Global};
 use std::cmp::Ordering;
 
 /// Compares the current strings of two runs; also returns the length of their longest common prefix. The one with the
 /// longer common prefix with the string written last is less. If both are equally long, the bytes after it decide.
-fn compared(one: &SectionRun<'_>, two: &SectionRun<'_>) -> (Ordering, usize)
+fn cmp_current(one: &SectionRun<'_>, two: &SectionRun<'_>) -> (Ordering, usize)
     requires { PrefixesDecideOrder one.now two.now }
     ensures order { result.0 ≡ string_cmp one.now.strings.last two.now.strings.last }
-    ensures same { result.1 ≡ lcp_len one.now.strings.last two.now.strings.last }
+    ensures lcp { result.1 ≡ lcp_len one.now.strings.last two.now.strings.last }
 {
-    if one.same > two.same {
-        return (Ordering::Less, two.same);
+    if one.lcp > two.lcp {
+        return (Ordering::Less, two.lcp);
     }
-    if one.same < two.same {
-        return (Ordering::Greater, one.same);
+    if one.lcp < two.lcp {
+        return (Ordering::Greater, one.lcp);
     }
-    cmp_from(one.string(), two.string(), one.same)
+    cmp_from(one.string(), two.string(), one.lcp)
 }
 
 /// Whether the next string is that of the first run; and if both runs have one, the length of their longest common
 /// prefix.
 fn comes_first(one: &SectionRun<'_>, two: &SectionRun<'_>) -> (bool, usize)
     requires { one.now.at < one.now.end → two.now.at < two.now.end → PrefixesDecideOrder one.now two.now }
-    ensures first { IsTrue result.0 → (one.now.at < one.now.end) × (two.now.at < two.now.end → string_cmp one.now.strings.last two.now.strings.last ≡ Less) }
-    ensures second { IsFalse result.0 → one.now.at < one.now.end → (two.now.at < two.now.end) × (string_cmp one.now.strings.last two.now.strings.last ≢ Less) }
-    ensures same { one.now.at < one.now.end → two.now.at < two.now.end → result.1 ≡ lcp_len one.now.strings.last two.now.strings.last }
+    ensures first { IsTrue result.0 → (one.now.at < one.now.end)
+        × (two.now.at < two.now.end → string_cmp one.now.strings.last two.now.strings.last ≡ Less) }
+    ensures second { IsFalse result.0 → one.now.at < one.now.end → (two.now.at < two.now.end)
+        × (string_cmp one.now.strings.last two.now.strings.last ≢ Less) }
+    ensures lcp { one.now.at < one.now.end → two.now.at < two.now.end
+        → result.1 ≡ lcp_len one.now.strings.last two.now.strings.last }
 {
     if !one.has_current() || !two.has_current() {
         return (one.has_current(), 0);
     }
-    let (order, same) = compared(one, two);
-    (order.is_lt(), same)
+    let (order, lcp) = cmp_current(one, two);
+    (order.is_lt(), lcp)
 }
 
-/// Writes the current string of a run, stores its new ID at its old index, and advances. New IDs start at `count + 1`.
+/// Writes the current string of a run, stores its new ID at its old index, and advances. New IDs start at `ids_before +
+/// 1`.
 fn write_current(
     graph: &Graph<'_>,
-    part: SectionId,
+    section: SectionId,
     run: &mut SectionRun<'_>,
-    count: u64,
+    ids_before: u64,
     out: &mut SectionWriter,
-    numbers: &mut Vec<u64>,
+    ids: &mut Vec<u64>,
 ) -> Result<(), AllocError>
-    requires run { IsValidRun (graph_view graph.now) part run.old }
+    requires run { IsValidRun (graph_view graph.now) section run.old }
     requires there { run.old.at < run.old.end }
-    requires noted { run.old.at < length numbers.old.items }
-    requires few { count + length out.old.strings + 1 < 2 ^ 64 }
-    requires same { HasPrefixLength (last_string out.old) run.old }
-    ensures run { OnOk result (IsRunFrom (graph_view graph.now) part (run.old.at + 1) run.new) }
+    requires noted { run.old.at < length ids.old.items }
+    requires few { ids_before + length out.old.strings + 1 < 2 ^ 64 }
+    requires lcp { HasPrefixLength (last_string out.old) run.old }
+    ensures run { OnOk result (IsRunFrom (graph_view graph.now) section (run.old.at + 1) run.new) }
     ensures end { OnOk result (run.new.end ≡ run.old.end) }
-    ensures string { OnOk result (out.new ≡ record out.old { strings = out.old.strings ++ string_of (graph_view graph.now) (section_role part) (run.old.at + 1) ∷ [] }) }
-    ensures same { OnOk result (HasPrefixLength (last_string out.new) run.new) }
-    ensures number { OnOk result (numbers.new.items ≡ set numbers.old.items run.old.at (count + (length out.old.strings + 1))) }
+    ensures string { OnOk result (out.new
+        ≡ record out.old {
+          strings =
+              out.old.strings ++ string_of (graph_view graph.now) (section_role section) (run.old.at + 1) ∷ [];
+        }) }
+    ensures lcp { OnOk result (HasPrefixLength (last_string out.new) run.new) }
+    ensures id { OnOk result (ids.new.items
+        ≡ set ids.old.items run.old.at (ids_before + (length out.old.strings + 1))) }
 {
     graph.is_graph();
-    out.push_with_lcp(run.string(), run.same)?;
-    numbers[run.at as usize] = count + out.len();
-    run.step(graph, part, out)
+    out.push_with_lcp(run.string(), run.lcp)?;
+    ids[run.at as usize] = ids_before + out.len();
+    run.step(graph, section, out)
 }
 
 /// Writes a new section by merging two runs, and stores the new ID of each string at its old index. New IDs start at
-/// `count + 1`. Linear time in the front-coded bytes that are read and written: each decoded byte is compared at most
-/// twice, because a run records the common prefix of its current string and the string written last.
+/// `ids_before + 1`. Linear time in the front-coded bytes that are read and written: each decoded byte is compared at
+/// most twice, because a run records the common prefix of its current string and the string written last.
 fn rewrite_section(
     alloc: Global,
     graph: &Graph<'_>,
-    part: SectionId,
+    section: SectionId,
     block_size: u32,
-    count: u64,
-    numbers: &mut Vec<u64>,
+    ids_before: u64,
+    ids: &mut Vec<u64>,
 ) -> Result<SectionWriter, AllocError>
-    requires long { length numbers.old.items ≡ length (role_strings (graph_view graph.now).dictionary (section_role part)) }
-    requires few { count ≤ length numbers.old.items }
+    requires long { length ids.old.items
+        ≡ length (role_strings (graph_view graph.now).dictionary (section_role section)) }
+    requires few { ids_before ≤ length ids.old.items }
     requires block { 1 ≤ block_size }
-    ensures rewrite_section { IfOk result (λ made. IsRewrittenSection (graph_view graph.now) part count made.strings numbers.old.items numbers.new.items) }
-    ensures long { IfOk result (λ made. length numbers.new.items ≡ length (role_strings (graph_view graph.now).dictionary (section_role part))) }
+    ensures rewritten { IfOk result
+        (λ made. IsRewrittenSection (graph_view graph.now) section ids_before made.strings ids.old.items ids.new.items) }
+    ensures long { IfOk result (λ made. length ids.new.items
+        ≡ length (role_strings (graph_view graph.now).dictionary (section_role section))) }
     ensures block { IfOk result (λ made. made.block_size ≡ block_size) }
-    ensures few { IfOk result (λ made. length made.strings ≤ second_run_end (graph_view graph.now) part) }
+    ensures few { IfOk result (λ made. length made.strings ≤ second_run_end (graph_view graph.now) section) }
 {
     graph.is_graph();
-    let (cut, end) = run_ends(graph, part);
-    let mut one = SectionRun::new(alloc, graph, part, 0, cut)?;
-    let mut two = SectionRun::new(alloc, graph, part, cut, end)?;
+    let (cut, end) = run_ends(graph, section);
+    let mut one = SectionRun::new(alloc, graph, section, 0, cut)?;
+    let mut two = SectionRun::new(alloc, graph, section, cut, end)?;
     let mut out = SectionWriter::new(alloc, block_size);
     'strings: while one.has_current() || two.has_current() {
-        let (first, same) = comes_first(&one, &two);
+        let (first, lcp) = comes_first(&one, &two);
         if first {
-            write_current(graph, part, &mut one, count, &mut out, numbers)?;
-            two.same = same;
+            write_current(graph, section, &mut one, ids_before, &mut out, ids)?;
+            two.lcp = lcp;
         } else {
-            write_current(graph, part, &mut two, count, &mut out, numbers)?;
-            one.same = same;
+            write_current(graph, section, &mut two, ids_before, &mut out, ids)?;
+            one.lcp = lcp;
         }
     }
     Ok(out)
@@ -126,7 +137,8 @@ pub(crate) struct SectionWriters {
 impl SectionWriters {
     /// Returns the number of strings of each section: shared, subjects, predicates, objects.
     pub(crate) fn lens(&self) -> [u64; 4]
-        ensures { result ≡ length (lists_of_sections self.now).shared ∷ length (lists_of_sections self.now).subjects ∷ length (lists_of_sections self.now).predicates ∷ length (lists_of_sections self.now).objects ∷ [] }
+        ensures { result ≡ length (lists_of_sections self.now).shared ∷ length (lists_of_sections self.now).subjects
+            ∷ length (lists_of_sections self.now).predicates ∷ length (lists_of_sections self.now).objects ∷ [] }
     {
         [
             self.shared.len(),
@@ -148,13 +160,15 @@ pub(crate) struct NewIds {
 /// The new IDs of objects, by old index: those of shared strings are the same as for subjects, all others are 0 so far.
 fn object_ids(alloc: Global, graph: &Graph<'_>, subjects: &[u64]) -> Result<Vec<u64>, AllocError>
     requires { length (graph_view graph.now).dictionary.shared ≤ length subjects.now }
-    ensures long { IfOk result (λ made. length made.items ≡ length (role_strings (graph_view graph.now).dictionary roles.Object)) }
-    ensures shared { IfOk result (λ made. (k : ℕ) → k < length (graph_view graph.now).dictionary.shared → slice_index made.items k ≡ slice_index subjects.now k) }
+    ensures long { IfOk result (λ made. length made.items
+        ≡ length (role_strings (graph_view graph.now).dictionary roles.Object)) }
+    ensures shared { IfOk result (λ made. (k : ℕ) → k < length (graph_view graph.now).dictionary.shared
+        → slice_index made.items k ≡ slice_index subjects.now k) }
 {
     let [shared, _, _, _] = graph.section_lens();
     let mut made = Vec::from_elem(alloc, 0, graph.count(Role::Object) as usize)?;
-    for place in 0..shared as usize {
-        made[place] = subjects[place];
+    for index in 0..shared as usize {
+        made[index] = subjects[index];
     }
     Ok(made)
 }
@@ -167,7 +181,8 @@ pub(crate) fn rewrite_sections(
     block_size: u32,
 ) -> Result<(SectionWriters, NewIds), AllocError>
     requires { 1 ≤ block_size }
-    ensures rewritten { IfOk result (λ made. AreRewrittenSections (graph_view graph.now) (lists_of_sections made.0) made.1) }
+    ensures rewritten { IfOk result
+        (λ made. AreRewrittenSections (graph_view graph.now) (lists_of_sections made.0) made.1) }
     ensures blocks { IfOk result (λ made. HaveBlockSize block_size made.0) }
 {
     graph.is_graph();
@@ -185,10 +200,10 @@ pub(crate) fn rewrite_sections(
         predicates,
         objects,
     };
-    let numbers = NewIds {
+    let ids = NewIds {
         subjects: id_map_of(s),
         predicates: id_map_of(p),
         objects: id_map_of(o),
     };
-    Ok((sections, numbers))
+    Ok((sections, ids))
 }

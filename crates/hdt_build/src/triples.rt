@@ -1,8 +1,8 @@
 //! ID triples.
-ghost use Rattle.std.specs.Prelude.{◌≡◌, ◌<◌, map, length, IsTrue, IfOk};
+ghost use Rattle.std.specs.Prelude.{◌≡◌, ◌<◌, ◌++◌, map, length, IsTrue, IfOk, OnOk};
 ghost use Rattle.std.specs.List.{All};
 ghost use Rattle.hdt_dict.specs.Strings.{SameMembers};
-ghost use Rattle.hdt_file.specs.GraphView.{graph_view};
+ghost use Rattle.hdt_file.specs.Graph.{graph_view};
 ghost use Rattle.hdt_triples.specs.Order.{AreAscending};
 ghost use Rattle.hdt_build.specs.Graph.{mapped_triple};
 ghost use Rattle.hdt_build.specs.Inside.Rewriting.{with_new_ids};
@@ -41,6 +41,29 @@ pub(crate) fn map_ids(
     }
 }
 
+/// Appends triples with each index mapped through a list.
+pub(crate) fn extend_mapped(
+    out: &mut Vec<(u64, u64, u64)>,
+    triples: &[(u64, u64, u64)],
+    indices: &[u64],
+) -> Result<(), AllocError>
+    requires subjects_within { All (λ t. t.0 < length indices.now) triples.now }
+    requires predicates_within { All (λ t. t.1 < length indices.now) triples.now }
+    requires objects_within { All (λ t. t.2 < length indices.now) triples.now }
+    ensures { OnOk result (out.new.items
+        ≡ out.old.items ++ map (mapped_triple indices.now indices.now indices.now) triples.now) }
+{
+    for triple in triples {
+        let (s, p, o) = *triple;
+        out.push((
+            indices[s as usize],
+            indices[p as usize],
+            indices[o as usize],
+        ))?;
+    }
+    Ok(())
+}
+
 /// Whether the triples strictly ascend.
 fn are_ascending(triples: &[(u64, u64, u64)]) -> bool
     ensures { IsTrue result → AreAscending triples.now }
@@ -66,35 +89,36 @@ pub(crate) fn sort_dedup_triples(triples: &mut Vec<(u64, u64, u64)>)
 }
 
 /// The triples of a graph with new IDs, not sorted again.
-fn with_new_ids(
+fn mapped_triples(
     alloc: Global,
     graph: &Graph<'_>,
-    numbers: &NewIds,
+    ids: &NewIds,
 ) -> Result<Vec<(u64, u64, u64)>, AllocError>
-    ensures { IfOk result (λ made. made.items ≡ map (with_new_ids numbers.now) (graph_view graph.now).triples) }
+    ensures { IfOk result (λ made. made.items ≡ map (with_new_ids ids.now) (graph_view graph.now).triples) }
 {
     let mut made = Vec::with_capacity(alloc, graph.len() as usize)?;
     let mut triples = graph.search(ANY);
     'triples: while let Some((s, p, o)) = triples.next() {
         made.push((
-            numbers.subjects.new_id(s),
-            numbers.predicates.new_id(p),
-            numbers.objects.new_id(o),
+            ids.subjects.new_id(s),
+            ids.predicates.new_id(p),
+            ids.objects.new_id(o),
         ))?;
     }
     Ok(made)
 }
 
 /// The triples of a graph with new IDs, ascending.
-pub(crate) fn renumber_triples(
+pub(crate) fn rewrite_triples(
     alloc: Global,
     graph: &Graph<'_>,
-    numbers: &NewIds,
+    ids: &NewIds,
 ) -> Result<Vec<(u64, u64, u64)>, AllocError>
     ensures ascending { IfOk result (λ made. AreAscending made.items) }
-    ensures same { IfOk result (λ made. SameMembers made.items (map (with_new_ids numbers.now) (graph_view graph.now).triples)) }
+    ensures same { IfOk result
+        (λ made. SameMembers made.items (map (with_new_ids ids.now) (graph_view graph.now).triples)) }
 {
-    let mut triples = with_new_ids(alloc, graph, numbers)?;
+    let mut triples = mapped_triples(alloc, graph, ids)?;
     sort_dedup_triples(&mut triples);
     Ok(triples)
 }

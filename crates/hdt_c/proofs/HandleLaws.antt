@@ -11,5 +11,6 @@ of_none None A P e h = h
 of_none (Some x) A P e h = absurd (cc)
 
 -- a handle has one graph
-pub same_graph : (resource : Option Resource) (taken : Resource) (r g : Graph) → resource ≡ Some taken → taken ≡ resources.Graph r → resource ≡ Some (resources.Graph g) → r ≡ g
+pub same_graph : (resource : Option Resource) (taken : Resource) (r g : Graph) → resource ≡ Some taken
+    → taken ≡ resources.Graph r → resource ≡ Some (resources.Graph g) → r ≡ g
 same_graph resource taken r g a b e = cc

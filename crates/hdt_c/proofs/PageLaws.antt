@@ -10,7 +10,7 @@ use Rattle.hdt_file.specs.File.{GraphParts}
 use Rattle.hdt_file.specs.Paging.{IsNextMatch}
 use Rattle.hdt_c.specs.CallerBuffer.{overwritten_prefix}
 use Rattle.hdt_c.specs.LookUps.{numbers}
-use Rattle.hdt_c.specs.Pages.{OfGivenPattern, PutsPageOf}
+use Rattle.hdt_c.specs.Pages.{PatternSatisfies, PutsPage}
 
 cut_twice : {X : Type 0} (n : ℕ) (xs : List X) → take n (take n xs) ≡ take n xs
 cut_twice zero xs = refl
@@ -29,20 +29,26 @@ map_cut f (suc n) [] = refl
 map_cut f (suc n) (x ∷ xs) = ap (λ l. f x ∷ l) (map_cut f n xs)
 
 -- a page with a next match
-pub page_is_put : (g : GraphParts) (pattern : Option Pattern) (p : Pattern) (from answer next : ℕ) (old new : List (List ℕ)) (items : List Triple) → pattern ≡ Some p
-    → items ≡ take (length old) (matches p (drop from g.triples)) → answer ≡ length (take (length old) items) → new ≡ overwritten_prefix (map numbers items) old
-    → IsNextMatch g.triples p from (length old) next → PutsPageOf g pattern from answer next old new
+pub page_is_put : (g : GraphParts) (pattern : Option Pattern) (p : Pattern) (from answer next : ℕ)
+    (old new : List (List ℕ)) (items : List Triple) → pattern ≡ Some p
+    → items ≡ take (length old) (matches p (drop from g.triples)) → answer ≡ length (take (length old) items)
+    → new ≡ overwritten_prefix (map numbers items) old
+    → IsNextMatch g.triples p from (length old) next → PutsPage g pattern from answer next old new
 page_is_put g pattern p from answer next old new items given are count put follows =
     let found = matches p (drop from g.triples) in
-    subst (λ (o : Option Pattern). PutsPageOf g o from answer next old new) (sym given) (inl (record {
+    subst (λ (o : Option Pattern). PutsPage g o from answer next old new) (sym given) (inl (record {
       count = count ∙ ap (λ l. length (take (length old) l)) are ∙ ap length (cut_twice (length old) found);
-      put = put ∙ ap (λ l. overwritten_prefix (map numbers l) old) are ∙ ap (λ l. overwritten_prefix l old) (map_cut numbers (length old) found) ∙ written_cut old (map numbers found);
+      put = put ∙ ap (λ l. overwritten_prefix (map numbers l) old) are
+          ∙ ap (λ l. overwritten_prefix l old) (map_cut numbers (length old) found)
+          ∙ written_cut old (map numbers found);
       next_is = inl follows;
     }))
 
 -- what is true of an optional pattern that is what is given
-pub of_given : (pattern : Option Pattern) (IsGiven : Pattern → Type 0) (P : Option Pattern → Type 0) → ((p : Pattern) → (pattern ≡ Some p) ↔ IsGiven p) → P pattern → OfGivenPattern IsGiven P
-of_given None IsGiven P exact is = record { found = λ p given. absurd (none-some p ((exact p).1 given)); none = λ never. is }
+pub of_given : (pattern : Option Pattern) (IsGiven : Pattern → Type 0) (P : Option Pattern → Type 0)
+    → ((p : Pattern) → (pattern ≡ Some p) ↔ IsGiven p) → P pattern → PatternSatisfies IsGiven P
+of_given None IsGiven P exact is =
+    record { found = λ p given. absurd (none-some p ((exact p).1 given)); none = λ never. is }
 of_given (Some q) IsGiven P exact is = record {
   found = λ p given. subst P ((exact p).1 given) is;
   none = λ never. absurd (never q ((exact q).0 refl));

@@ -12,6 +12,7 @@ use Rattle.hdt_c.specs.Bytes.{HoldsBytes, HoldsNoBytes}
 use Rattle.hdt_c.specs.Verdicts.{no_counts}
 use Rattle.hdt_c.specs.declared.bytes.HdtBytes.{HdtBytes}
 use Rattle.hdt_c.specs.declared.report.HdtReport.{HdtReport}
+use Rattle.hdt_c.specs.ReasonNumbers.{bad_options_reason, no_triples_reason, out_of_memory_reason}
 
 -- the options with this base IRI and block size
 pub record AreGivenOptions (base : List ℕ) (b : ℕ) (options : Options) : Type 0 where
@@ -23,8 +24,8 @@ abbrev pub report_counts : Report → List ℕ
 report_counts r = r.triples ∷ r.shared ∷ r.subjects ∷ r.predicates ∷ r.objects ∷ []
 
 -- the report of a file that was built
-abbrev pub built : Report → HdtReport
-built r = record { reason = 0; line = 0; column = 0; counts = report_counts r }
+abbrev pub built_report : Report → HdtReport
+built_report r = record { reason = 0; line = 0; column = 0; counts = report_counts r }
 
 -- the report of a reason without a line
 abbrev pub report_for : ℕ → HdtReport
@@ -32,11 +33,12 @@ report_for n = record { reason = n; line = 0; column = 0; counts = no_counts }
 
 -- the report of an error
 abbrev pub report_of_fault : BuildFault → HdtReport
-report_of_fault (faults.Line fault) = record { reason = line_reason_number fault.reason; line = fault.line; column = fault.column; counts = no_counts }
-report_of_fault faults.NoTriples = report_for 251
-report_of_fault faults.BadOptions = report_for 252
-report_of_fault faults.OutOfMemory = report_for 255
-report_of_fault (faults.Write n) = report_for 255
+report_of_fault (faults.Line fault) =
+    record { reason = line_reason_number fault.reason; line = fault.line; column = fault.column; counts = no_counts }
+report_of_fault faults.NoTriples = report_for no_triples_reason
+report_of_fault faults.BadOptions = report_for bad_options_reason
+report_of_fault faults.OutOfMemory = report_for out_of_memory_reason
+report_of_fault (faults.Write n) = report_for out_of_memory_reason
 
 -- the text is a document, and the bytes are the canonical file of its graph
 pub record BuildsText (text base : List ℕ) (b : ℕ) (bytes : List ℕ) (report : Report) : Type 0 where
@@ -67,7 +69,7 @@ pub record BuildsBytes (text base : List ℕ) (b : ℕ) (out : HdtBytes) (report
   pub report : Report
   pub is : BuildsText text base b bytes report
   pub made : HoldsBytes out bytes
-  pub is_reported : reported ≡ built report
+  pub is_reported : reported ≡ built_report report
 
 -- there are no bytes, and the report is that of the error
 pub record FailsToBuild (text base : List ℕ) (b : ℕ) (out : HdtBytes) (reported : HdtReport) : Type 0 where

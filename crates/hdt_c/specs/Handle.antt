@@ -2,7 +2,7 @@
 use Rattle.std.specs.Prelude.{◌≡◌, ◌≢◌, ℕ, List, Some}
 use Rattle.hdt_file.specs.declared.graph.Graph.{Graph}
 use Rattle.hdt_file.specs.File.{GraphParts, IsLayout}
-use Rattle.hdt_file.specs.GraphView.{graph_view}
+use Rattle.hdt_file.specs.Graph.{graph_view}
 use Rattle.hdt_c.specs.declared.handle.HdtGraph.{HdtGraph}
 use Rattle.hdt_c.specs.declared.handle.Resource.TheVariants as resources
 
@@ -19,8 +19,8 @@ abbrev pub HoldsGraph : HdtGraph → Graph → Type 0
 HoldsGraph h g = IsOpen h × (h.resource.value ≡ Some (resources.Graph g))
 
 -- if the handle is open, P is true of its graph
-abbrev pub OfGraph : HdtGraph → (GraphParts → Type 0) → Type 0
-OfGraph h P = (g : Graph) → HoldsGraph h g → P (graph_view g)
+abbrev pub IfOpen : HdtGraph → (GraphParts → Type 0) → Type 0
+IfOpen h P = (g : Graph) → HoldsGraph h g → P (graph_view g)
 
 -- the handle is open or closed as before, and has the same graph
 abbrev pub SameGraph : HdtGraph → HdtGraph → Type 0

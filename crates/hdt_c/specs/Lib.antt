@@ -16,4 +16,5 @@ pub mod CallerBuffer
 pub mod TermParts
 pub mod Texts
 pub mod Verdicts
+pub mod ReasonNumbers
 pub mod Inside

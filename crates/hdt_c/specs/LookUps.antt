@@ -57,7 +57,8 @@ ReturnsId g (Some role) string answer = IsIdIn (role_strings g.dictionary role) 
 -- the string was written to the buffer, and its length is the result; or memory ran out; or there is no such string
 abbrev pub ReturnsString : Option (List ℕ) → ℕ → List ℕ → List ℕ → Type 0
 ReturnsString None answer old new = (answer ≡ absent) × (new ≡ old)
-ReturnsString (Some string) answer old new = ((answer ≡ length string) × (new ≡ overwritten_prefix string old)) ⊎ ((answer ≡ no_memory) × (new ≡ old))
+ReturnsString (Some string) answer old new = ((answer ≡ length string) × (new ≡ overwritten_prefix string old))
+    ⊎ ((answer ≡ no_memory) × (new ≡ old))
 
 -- ---- matches
 
@@ -73,7 +74,7 @@ pub record AreMatches (g : GraphParts) (IsGiven : Pattern → Type 0) (found : L
   pub none : ((p : Pattern) → IsGiven p → ⊥) → found ≡ []
 
 -- P is true of the matches of the pattern that is given
-pub record OfMatches (g : GraphParts) (IsGiven : Pattern → Type 0) (P : List Triple → Type 0) : Type 0 where
+pub record MatchesSatisfy (g : GraphParts) (IsGiven : Pattern → Type 0) (P : List Triple → Type 0) : Type 0 where
   pub found : List Triple
   pub are : AreMatches g IsGiven found
   pub holds : P found
@@ -83,5 +84,6 @@ abbrev pub numbers : Triple → List ℕ
 numbers t = t.0 ∷ t.1 ∷ t.2 ∷ []
 
 -- the triples after the first `skip` were written to the buffer, as many as fit, and their number is the result
-abbrev pub PutsPage : ℕ → ℕ → List (List ℕ) → List (List ℕ) → List Triple → Type 0
-PutsPage skip answer old new found = (answer ≡ length (take (length old) (drop skip found))) × (new ≡ overwritten_prefix (map numbers (drop skip found)) old)
+abbrev pub PutsMatchesAfter : ℕ → ℕ → List (List ℕ) → List (List ℕ) → List Triple → Type 0
+PutsMatchesAfter skip answer old new found = (answer ≡ length (take (length old) (drop skip found)))
+    × (new ≡ overwritten_prefix (map numbers (drop skip found)) old)

@@ -12,7 +12,8 @@ PutsText text answer old new = (answer ≡ length text) × (new ≡ overwritten_
 
 -- the name of the reason of a file with this number was written to the buffer
 abbrev pub NamesFileReason : ℕ → ℕ → List ℕ → List ℕ → Type 0
-NamesFileReason n answer old new = (reason : Reason) → reason_number reason ≡ n → PutsText (reason_name reason) answer old new
+NamesFileReason n answer old new = (reason : Reason) → reason_number reason ≡ n
+    → PutsText (reason_name reason) answer old new
 
 -- no reason of a file has this number
 abbrev pub IsNoFileReason : ℕ → Type 0
@@ -20,7 +21,8 @@ IsNoFileReason n = (reason : Reason) → reason_number reason ≡ n → ⊥
 
 -- the name of the reason of a text with this number was written to the buffer
 abbrev pub NamesTextReason : ℕ → ℕ → List ℕ → List ℕ → Type 0
-NamesTextReason n answer old new = (reason : LineReason) → line_reason_number reason ≡ n → PutsText (line_reason_name reason) answer old new
+NamesTextReason n answer old new = (reason : LineReason) → line_reason_number reason ≡ n
+    → PutsText (line_reason_name reason) answer old new
 
 -- no reason of a text has this number
 abbrev pub IsNoTextReason : ℕ → Type 0

@@ -14,7 +14,8 @@ abbrev pub ranges_in_c : PrefixRanges → HdtRanges
 ranges_in_c r = record { first = r.first.start ∷ r.first.end ∷ []; second = r.second.start ∷ r.second.end ∷ [] }
 
 -- the ranges have exactly the IDs of the strings of the role that begin with the prefix, and the result is their number
-pub record HasIdsWithPrefix (g : GraphParts) (role : Role) (prefix : List ℕ) (answer : ℕ) (new : HdtRanges) : Type 0 where
+pub record HasIdsWithPrefix (g : GraphParts) (role : Role) (prefix : List ℕ) (answer : ℕ)
+    (new : HdtRanges) : Type 0 where
   pub ranges : PrefixRanges
   pub exact : (n : ℕ) → IsInRanges ranges n ↔ SomeBeginsWith prefix (string_at_id (role_strings g.dictionary role) n)
   pub are : new ≡ ranges_in_c ranges

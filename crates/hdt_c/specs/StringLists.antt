@@ -37,4 +37,6 @@ ReportsFailure There answer = ((There → ⊥) × (answer ≡ absent)) ⊎ (((Th
 
 -- the result of `hdt_strings`
 abbrev pub ReturnsStrings : GraphParts → Option Role → List ℕ → ℕ → HdtBytes → List ℕ → List ℕ → Type 0
-ReturnsStrings g role numbers answer out old new = (AreIdsOfRole g role numbers × WritesStrings (strings_with_ids g role numbers) answer out old new) ⊎ (WritesNothing out old new × ReportsFailure (AreIdsOfRole g role numbers) answer)
+ReturnsStrings g role numbers answer out old new =
+    (AreIdsOfRole g role numbers × WritesStrings (strings_with_ids g role numbers) answer out old new)
+    ⊎ (WritesNothing out old new × ReportsFailure (AreIdsOfRole g role numbers) answer)

@@ -7,6 +7,7 @@ use Rattle.hdt_terms.specs.Terms.{IsDictionaryTerm, dictionary_string}
 use Rattle.hdt_c.specs.LookUps.{absent, no_memory}
 use Rattle.hdt_c.specs.Names.{PutsText}
 use Rattle.hdt_c.specs.declared.terms.HdtTermParts.{HdtTermParts}
+use Rattle.hdt_c.specs.ReasonNumbers.{not_a_term_reason, out_of_memory_reason}
 
 -- no parts
 abbrev pub no_parts : HdtTermParts
@@ -17,8 +18,10 @@ abbrev pub parts_of_term : Term → HdtTermParts
 parts_of_term (Iri iri) = record { kind = 1; at = 0; len = length iri; suffix_at = 0; suffix_len = 0 }
 parts_of_term (Blank label) = record { kind = 2; at = 2; len = length label; suffix_at = 0; suffix_len = 0 }
 parts_of_term (Literal text Plain) = record { kind = 3; at = 1; len = length text; suffix_at = 0; suffix_len = 0 }
-parts_of_term (Literal text (Tag tag)) = record { kind = 4; at = 1; len = length text; suffix_at = length text + 3; suffix_len = length tag }
-parts_of_term (Literal text (Datatype iri)) = record { kind = 5; at = 1; len = length text; suffix_at = length text + 5; suffix_len = length iri }
+parts_of_term (Literal text (Tag tag)) =
+    record { kind = 4; at = 1; len = length text; suffix_at = length text + 3; suffix_len = length tag }
+parts_of_term (Literal text (Datatype iri)) =
+    record { kind = 5; at = 1; len = length text; suffix_at = length text + 5; suffix_len = length iri }
 
 -- the parts are those of the term with this string
 pub record ArePartsOf (bytes : List ℕ) (parts : HdtTermParts) : Type 0 where
@@ -33,7 +36,8 @@ HasNoParts bytes = (term : Term) → IsDictionaryTerm term → dictionary_string
 
 -- the result of `hdt_term`: done, no term, or out of memory
 abbrev pub ReturnsParts : List ℕ → ℕ → HdtTermParts → Type 0
-ReturnsParts bytes reason parts = ((reason ≡ 0) × ArePartsOf bytes parts) ⊎ ((parts ≡ no_parts) × (((reason ≡ 250) × HasNoParts bytes) ⊎ (reason ≡ 255)))
+ReturnsParts bytes reason parts = ((reason ≡ 0) × ArePartsOf bytes parts)
+    ⊎ ((parts ≡ no_parts) × (((reason ≡ not_a_term_reason) × HasNoParts bytes) ⊎ (reason ≡ out_of_memory_reason)))
 
 -- the term of a kind with these texts
 abbrev pub term_of_kind : ℕ → List ℕ → List ℕ → Option Term
@@ -62,4 +66,5 @@ IsStringOfKind term (Some string) = IsTermOfKind term × (string ≡ string_of_t
 
 -- the result of `hdt_term_string`: the string was written, or there is no such term, or memory ran out
 abbrev pub ReturnsTermString : Option Term → ℕ → List ℕ → List ℕ → Type 0
-ReturnsTermString term answer old new = (IsTermOfKind term × PutsText (string_of_term term) answer old new) ⊎ ((new ≡ old) × (((answer ≡ absent) × (IsTermOfKind term → ⊥)) ⊎ (answer ≡ no_memory)))
+ReturnsTermString term answer old new = (IsTermOfKind term × PutsText (string_of_term term) answer old new)
+    ⊎ ((new ≡ old) × (((answer ≡ absent) × (IsTermOfKind term → ⊥)) ⊎ (answer ≡ no_memory)))

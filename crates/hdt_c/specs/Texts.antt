@@ -12,6 +12,7 @@ use Rattle.hdt_file.specs.declared.fault.DumpFault.TheVariants as faults
 use Rattle.hdt_c.specs.Bytes.{HoldsBytes, HoldsNoBytes}
 use Rattle.hdt_c.specs.declared.bytes.HdtBytes.{HdtBytes}
 use Rattle.hdt_c.specs.declared.report.HdtTextResult.{HdtTextResult}
+use Rattle.hdt_c.specs.ReasonNumbers.{not_a_term_reason, out_of_memory_reason}
 
 -- the result of a reason without a string
 abbrev pub text_result_for : ℕ → HdtTextResult
@@ -25,9 +26,10 @@ role_number Object = 2
 
 -- the result of an error
 abbrev pub text_result_of_fault : DumpFault → HdtTextResult
-text_result_of_fault (faults.NotATerm role n) = record { reason = 250; role = role_number role; number = n }
-text_result_of_fault (faults.Write n) = text_result_for 255
-text_result_of_fault faults.OutOfMemory = text_result_for 255
+text_result_of_fault (faults.NotATerm role n) =
+    record { reason = not_a_term_reason; role = role_number role; number = n }
+text_result_of_fault (faults.Write n) = text_result_for out_of_memory_reason
+text_result_of_fault faults.OutOfMemory = text_result_for out_of_memory_reason
 
 -- the bytes are the text of the triples, and the result says so
 pub record HoldsText (g : GraphParts) (found : List Triple) (out : HdtBytes) (outcome : HdtTextResult) : Type 0 where

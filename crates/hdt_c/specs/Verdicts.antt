@@ -3,10 +3,11 @@ use Rattle.std.specs.Prelude.{◌≡◌, ◌⊎◌, ℕ, List, [], ◌∷◌, Re
 use Rattle.hdt_wire.specs.declared.fault.Fault.{Fault}
 use Rattle.hdt_wire.specs.Fault.{reason_number}
 use Rattle.hdt_file.specs.File.{GraphParts}
-use Rattle.hdt_file.specs.GraphView.{graph_counts}
+use Rattle.hdt_file.specs.Graph.{graph_counts}
 use Rattle.hdt_file.specs.declared.fault.OpenFault.{OpenFault}
 use Rattle.hdt_file.specs.declared.fault.OpenFault.TheVariants as opens
 use Rattle.hdt_c.specs.declared.verdict.HdtVerdict.{HdtVerdict}
+use Rattle.hdt_c.specs.ReasonNumbers.{out_of_memory_reason}
 
 -- the counts if there are none
 abbrev pub no_counts : List ℕ
@@ -23,10 +24,11 @@ verdict_on (Err fault) = record { reason = reason_number fault.reason; place = f
 
 -- the verdict on the file, or that memory ran out
 abbrev pub IsVerdictOn : HdtVerdict → Result GraphParts Fault → Type 0
-IsVerdictOn v read = (v ≡ verdict_for 255) ⊎ (v ≡ verdict_on read)
+IsVerdictOn v read = (v ≡ verdict_for out_of_memory_reason) ⊎ (v ≡ verdict_on read)
 
 -- the verdict of the result of a call
 abbrev pub verdict_of_result : Result (List ℕ) OpenFault → HdtVerdict
 verdict_of_result (Ok counts) = record { reason = 0; place = 0; counts = counts }
-verdict_of_result (Err (opens.Fault fault)) = record { reason = reason_number fault.reason; place = fault.place; counts = no_counts }
-verdict_of_result (Err opens.OutOfMemory) = verdict_for 255
+verdict_of_result (Err (opens.Fault fault)) =
+    record { reason = reason_number fault.reason; place = fault.place; counts = no_counts }
+verdict_of_result (Err opens.OutOfMemory) = verdict_for out_of_memory_reason

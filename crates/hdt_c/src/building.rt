@@ -1,6 +1,6 @@
 //! Building a file from N-Triples.
 ghost use Rattle.std.specs.Prelude.{◌≡◌, IfOk, IfErr};
-ghost use Rattle.hdt_c.specs.Building.{BuildsText, HasBuildFault, ReportsBuild, built, report_for, report_of_fault};
+ghost use Rattle.hdt_c.specs.Building.{BuildsText, HasBuildFault, ReportsBuild, built_report, report_for, report_of_fault};
 
 use crate::bytes::HdtBytes;
 use crate::report::HdtReport;
@@ -13,7 +13,7 @@ use std::alloc::Global;
 const NO_TRIPLES: u32 = 251;
 
 /// A report with a reason but no line.
-fn for_reason(reason: u32) -> HdtReport
+fn report_for(reason: u32) -> HdtReport
     ensures { result ≡ report_for reason }
 {
     HdtReport {
@@ -25,8 +25,8 @@ fn for_reason(reason: u32) -> HdtReport
 }
 
 /// The report on a file that was built.
-fn built(report: Report) -> HdtReport
-    ensures { result ≡ built report }
+fn built_report(report: Report) -> HdtReport
+    ensures { result ≡ built_report report }
 {
     HdtReport {
         reason: 0,
@@ -53,14 +53,14 @@ fn report_of_fault(fault: BuildFault) -> HdtReport
             column: line.column,
             counts: [0; 5],
         },
-        BuildFault::NoTriples => for_reason(NO_TRIPLES),
-        BuildFault::BadOptions => for_reason(BAD_OPTIONS),
-        BuildFault::OutOfMemory | BuildFault::Write(_) => for_reason(OUT_OF_MEMORY),
+        BuildFault::NoTriples => report_for(NO_TRIPLES),
+        BuildFault::BadOptions => report_for(BAD_OPTIONS),
+        BuildFault::OutOfMemory | BuildFault::Write(_) => report_for(OUT_OF_MEMORY),
     }
 }
 
 /// The canonical file of a document's graph.
-fn file_of(
+fn build_file(
     alloc: Global,
     text: &[u8],
     base: &[u8],
@@ -91,9 +91,9 @@ pub extern "C" fn hdt_build(
 )
     ensures { ReportsBuild text.now base.now block_size out.new report.new }
 {
-    *report = match file_of(alloc, text, base, block_size) {
+    *report = match build_file(alloc, text, base, block_size) {
         Ok((bytes, numbers)) => match out.put(alloc, bytes) {
-            Ok(()) => built(numbers),
+            Ok(()) => built_report(numbers),
             Err(_) => report_of_fault(BuildFault::OutOfMemory),
         },
         Err(fault) => {

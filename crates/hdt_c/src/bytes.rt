@@ -1,5 +1,6 @@
-//! Handles of bytes.
+//! Handles of bytes, and buffers of the caller.
 ghost use Rattle.std.specs.Prelude.{◌≡◌, true};
+ghost use Rattle.hdt_c.specs.CallerBuffer.{overwritten_prefix};
 ghost use Rattle.hdt_c.specs.Inside.ResourceKind.{is_bytes};
 ghost use Rattle.std.specs.Vec.{vec_ptr};
 ghost use denote.RawPtr.{null_ptr};
@@ -44,4 +45,12 @@ impl Address {
     {
         Address { at: bytes.as_ptr() }
     }
+}
+
+/// Copies as many items to the start of a buffer as fit.
+pub(crate) fn copy_into<T: Copy>(items: &[T], buffer: &mut [T])
+    ensures { buffer.new ≡ overwritten_prefix items.now buffer.old }
+{
+    let count = items.len().min(buffer.len());
+    buffer[..count].copy_from_slice(&items[..count]);
 }

@@ -3,8 +3,7 @@ ghost use Rattle.std.specs.Prelude.{IfOk, OnErr, OnOk};
 ghost use Rattle.hdt_c.specs.Bytes.{HoldsBytes, HoldsNoBytes};
 
 use crate::bytes::{Address, HdtBytes};
-use crate::handle::{Resource, ResourcePtr};
-use crate::raw_box::RawBox;
+use crate::handle::{RawBox, Resource, ResourcePtr};
 use std::alloc::{AllocError, Global};
 use std::mem::replace;
 

@@ -1,11 +1,11 @@
 //! Searching a graph.
 ghost use Rattle.std.specs.Prelude.{◌≡◌, ◌∷◌, [], map, take, drop, length};
 ghost use Rattle.hdt_file.specs.TextWriting.{matches_if_given};
-ghost use Rattle.hdt_file.specs.GraphView.{graph_view};
+ghost use Rattle.hdt_file.specs.Graph.{graph_view};
 ghost use Rattle.hdt_file.specs.Search.{IsPattern};
 ghost use Rattle.hdt_triples.specs.Remaining.{remaining_matches};
-ghost use Rattle.hdt_c.specs.LookUps.{AreMatches, OfMatches, PutsPage, closed, numbers, string_if_flag};
-ghost use Rattle.hdt_c.specs.Handle.{IsClosed, OfGraph, SameGraph};
+ghost use Rattle.hdt_c.specs.LookUps.{AreMatches, MatchesSatisfy, PutsMatchesAfter, closed, numbers, string_if_flag};
+ghost use Rattle.hdt_c.specs.Handle.{IsClosed, IfOpen, SameGraph};
 ghost use Rattle.hdt_c.specs.CallerBuffer.{overwritten_prefix};
 
 use crate::handle::{HdtGraph, graph_ref};
@@ -24,7 +24,8 @@ pub(crate) fn string_if_flag(has: u32, string: &[u8]) -> Option<&[u8]>
 
 /// The pattern with the IDs of the given strings; `None` if one of them is not a string of its role.
 pub(crate) fn pattern_of(graph: &Graph<'static>, given: [Option<&[u8]>; 3]) -> Option<Pattern>
-    ensures { AreMatches (graph_view graph.now) (IsPattern (graph_view graph.now) given.entry) (matches_if_given (graph_view graph.now) result) }
+    ensures { AreMatches (graph_view graph.now) (IsPattern (graph_view graph.now) given.entry)
+        (matches_if_given (graph_view graph.now) result) }
 {
     graph.pattern(given, &mut Steps::new())
 }
@@ -63,7 +64,7 @@ pub(crate) fn find_into(
     skip: u64,
     buffer: &mut [[u64; 3]],
 ) -> u64
-    ensures { PutsPage skip result buffer.old buffer.new (matches_if_given (graph_view graph.now) pattern) }
+    ensures { PutsMatchesAfter skip result buffer.old buffer.new (matches_if_given (graph_view graph.now) pattern) }
 {
     put_matches(matches_after(graph, pattern, skip), buffer)
 }
@@ -79,8 +80,8 @@ pub(crate) fn count_matches(graph: &Graph<'static>, pattern: Option<Pattern>) ->
 }
 
 /// `hdt_find`: writes the matches after the first `skip` to the buffer, three IDs each, as many as fit, and returns
-/// their number: fewer than fit if no more follow. If the pattern gives an object and another part, or only a predicate,
-/// the skipped matches are scanned at each call, so pages of one size take quadratic time.
+/// their number: fewer than fit if no more follow. If the pattern gives an object and another part, or only a
+/// predicate, the skipped matches are scanned at each call, so pages of one size take quadratic time.
 #[unsafe(no_mangle)]
 pub extern "C" fn hdt_find(
     alloc: Global,
@@ -94,7 +95,9 @@ pub extern "C" fn hdt_find(
     skip: u64,
     out: &mut [[u64; 3]],
 ) -> u64
-    ensures exact { OfGraph graph.old (λ g. OfMatches g (IsPattern g (string_if_flag has_s s.entry ∷ string_if_flag has_p p.entry ∷ string_if_flag has_o o.entry ∷ [])) (PutsPage skip result out.old out.new)) }
+    ensures exact { IfOpen graph.old
+        (λ g. MatchesSatisfy g (IsPattern g (string_if_flag has_s s.entry ∷ string_if_flag has_p p.entry
+        ∷ string_if_flag has_o o.entry ∷ [])) (PutsMatchesAfter skip result out.old out.new)) }
     ensures closed { IsClosed graph.old → (result ≡ closed) × (out.new ≡ out.old) }
     ensures kept { SameGraph graph.old graph.new }
 {
@@ -126,7 +129,9 @@ pub extern "C" fn hdt_matching(
     has_o: u32,
     o: &[u8],
 ) -> u64
-    ensures exact { OfGraph graph.old (λ g. OfMatches g (IsPattern g (string_if_flag has_s s.entry ∷ string_if_flag has_p p.entry ∷ string_if_flag has_o o.entry ∷ [])) (λ found. result ≡ length found)) }
+    ensures exact { IfOpen graph.old
+        (λ g. MatchesSatisfy g (IsPattern g (string_if_flag has_s s.entry ∷ string_if_flag has_p p.entry
+        ∷ string_if_flag has_o o.entry ∷ [])) (λ found. result ≡ length found)) }
     ensures closed { IsClosed graph.old → result ≡ closed }
     ensures kept { SameGraph graph.old graph.new }
 {

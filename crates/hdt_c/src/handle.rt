@@ -1,12 +1,12 @@
 //! Handles of graphs.
 ghost use Rattle.std.specs.Prelude.{◌≡◌, true, Option, Some, None, IsSome, ◌≢◌, IfSome};
+ghost use Rattle.std.specs.Box.Ownership.{box_owns};
 ghost use Rattle.hdt_c.specs.Inside.ResourceKind.{is_graph};
 ghost use Rattle.hdt_c.specs.declared.handle.Resource.{Resource};
 ghost use Rattle.hdt_c.specs.ResourceOwnership.{coded_resource, resource_ptr_owns};
 ghost use Rattle.hdt_c.specs.declared.handle.Resource.TheVariants as resources;
 
-use crate::raw_box::RawBox;
-use std::alloc::Global;
+use std::alloc::{Allocator, Global};
 use std::marker::Model;
 use std::mem::replace;
 use std::ptr::null_mut;
@@ -29,6 +29,39 @@ pub(crate) enum Resource {
     Graph(hdt_file::Graph<'static>),
     /// Bytes that the library made.
     Bytes(Vec<u8>),
+}
+
+/// The pointer and the allocator of a box.
+pub(crate) struct RawBox<T, A: Allocator> {
+    /// The value.
+    pub(crate) ptr: *mut T,
+    /// The allocator that the value is freed with.
+    pub(crate) alloc: A,
+    pub ghost value: { T },
+}
+
+impl<T, A: Allocator> Model for RawBox<T, A> {
+    ghost also_owns = { λ p. box_owns (A.dealloc_token p.alloc) T.row p.ptr p.value };
+}
+
+impl<T, A: Allocator> RawBox<T, A> {
+    /// Takes a box apart.
+    pub(crate) fn of(b: Box<T, A>) -> RawBox<T, A>
+    where
+        T: Drop,
+        ensures { result.value ≡ b.value }
+    {
+        let (ptr, alloc) = Box::into_raw_with_allocator(b);
+        RawBox { ptr, alloc }
+    }
+
+    /// Puts the box together again.
+    pub(crate) fn into_box(self) -> Box<T, A>
+        ensures { result.value ≡ self.value }
+    {
+        let RawBox { ptr, alloc } = self;
+        unsafe { Box::from_raw(alloc, ptr) }
+    }
 }
 
 /// A pointer to a value that the library owns, or null.
@@ -92,7 +125,8 @@ impl HdtGraph {
 
     /// Takes the graph out and leaves the handle closed; returns `None` if it was closed.
     pub(crate) fn take(&mut self, alloc: Global) -> Option<Box<Resource, Global>>
-        ensures taken { IfSome result (λ b. (self.old.state ≡ 1) × (self.old.resource.value ≡ Some b.value) × (is_graph (Some b.value) ≡ true)) }
+        ensures taken { IfSome result (λ b. (self.old.state ≡ 1) × (self.old.resource.value ≡ Some b.value)
+            × (is_graph (Some b.value) ≡ true)) }
         ensures open { self.old.state ≡ 1 → IsSome result }
         ensures none { result ≡ None → self.new ≡ self.old }
         ensures closed { self.new.state ≢ 1 }

@@ -11,7 +11,6 @@
 mod building;
 mod bytes;
 mod bytes_access;
-mod caller_buffer;
 mod finding;
 mod handle;
 mod look_ups;
@@ -22,7 +21,6 @@ mod pattern;
 mod pattern_calls;
 mod predicates;
 mod prefix;
-mod raw_box;
 mod report;
 mod rewriting;
 mod splitting;

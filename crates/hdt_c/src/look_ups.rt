@@ -1,12 +1,12 @@
 //! Counts, IDs and strings of a graph.
 ghost use Rattle.std.specs.Prelude.{◌≡◌, Some, length};
-ghost use Rattle.hdt_file.specs.GraphView.{graph_view};
+ghost use Rattle.hdt_file.specs.Graph.{graph_view};
 ghost use Rattle.hdt_c.specs.LookUps.{ReturnsId, IsIdIn, ReturnsString, closed, role_len, role_by_number, string_with_id};
-ghost use Rattle.hdt_c.specs.Handle.{IsClosed, OfGraph, SameGraph};
+ghost use Rattle.hdt_c.specs.Handle.{IsClosed, IfOpen, SameGraph};
 ghost use Rattle.hdt_c.specs.CallerBuffer.{overwritten_prefix};
 ghost use Rattle.hdt_dict.specs.Dictionary.{role_strings};
 
-use crate::caller_buffer::copy_into;
+use crate::bytes::copy_into;
 use crate::handle::{HdtGraph, graph_ref};
 use hdt_dict::Role;
 use hdt_file::Graph;
@@ -37,7 +37,7 @@ pub(crate) fn role_by_number(number: u32) -> Option<Role>
 /// `hdt_len`: returns the number of triples.
 #[unsafe(no_mangle)]
 pub extern "C" fn hdt_len(alloc: Global, graph: &mut HdtGraph) -> u64
-    ensures exact { OfGraph graph.old (λ g. result ≡ length g.triples) }
+    ensures exact { IfOpen graph.old (λ g. result ≡ length g.triples) }
     ensures closed { IsClosed graph.old → result ≡ closed }
     ensures kept { SameGraph graph.old graph.new }
 {
@@ -64,7 +64,7 @@ fn role_len(graph: &Graph<'static>, role: u32) -> u64
 /// `hdt_count`: returns the number of strings of a role.
 #[unsafe(no_mangle)]
 pub extern "C" fn hdt_count(alloc: Global, graph: &mut HdtGraph, role: u32) -> u64
-    ensures exact { OfGraph graph.old (λ g. result ≡ role_len g (role_by_number role)) }
+    ensures exact { IfOpen graph.old (λ g. result ≡ role_len g (role_by_number role)) }
     ensures closed { IsClosed graph.old → result ≡ closed }
     ensures kept { SameGraph graph.old graph.new }
 {
@@ -102,7 +102,7 @@ fn number_of(graph: &Graph<'static>, role: u32, string: &[u8]) -> u64
 /// then a scan of a block.
 #[unsafe(no_mangle)]
 pub extern "C" fn hdt_number(alloc: Global, graph: &mut HdtGraph, role: u32, string: &[u8]) -> u64
-    ensures exact { OfGraph graph.old (λ g. ReturnsId g (role_by_number role) string.now result) }
+    ensures exact { IfOpen graph.old (λ g. ReturnsId g (role_by_number role) string.now result) }
     ensures closed { IsClosed graph.old → result ≡ closed }
     ensures kept { SameGraph graph.old graph.new }
 {
@@ -124,7 +124,8 @@ fn put_string(
     number: u64,
     buffer: &mut [u8],
 ) -> u64
-    ensures { ReturnsString (string_with_id (graph_view graph.now) (role_by_number role) number) result buffer.old buffer.new }
+    ensures { ReturnsString (string_with_id (graph_view graph.now) (role_by_number role) number) result buffer.old
+        buffer.new }
 {
     let Some(role) = role_by_number(role) else {
         return ABSENT;
@@ -151,7 +152,8 @@ pub extern "C" fn hdt_string(
     number: u64,
     out: &mut [u8],
 ) -> u64
-    ensures exact { OfGraph graph.old (λ g. ReturnsString (string_with_id g (role_by_number role) number) result out.old out.new) }
+    ensures exact { IfOpen graph.old
+        (λ g. ReturnsString (string_with_id g (role_by_number role) number) result out.old out.new) }
     ensures closed { IsClosed graph.old → (result ≡ closed) × (out.new ≡ out.old) }
     ensures kept { SameGraph graph.old graph.new }
 {
@@ -178,7 +180,8 @@ fn put_header(graph: &Graph<'static>, buffer: &mut [u8]) -> u64
 /// `hdt_header`: writes the header body to the buffer, as many bytes as fit, and returns its length.
 #[unsafe(no_mangle)]
 pub extern "C" fn hdt_header(alloc: Global, graph: &mut HdtGraph, out: &mut [u8]) -> u64
-    ensures exact { OfGraph graph.old (λ g. (result ≡ length g.header) × (out.new ≡ overwritten_prefix g.header out.old)) }
+    ensures exact { IfOpen graph.old (λ g. (result ≡ length g.header)
+        × (out.new ≡ overwritten_prefix g.header out.old)) }
     ensures closed { IsClosed graph.old → (result ≡ closed) × (out.new ≡ out.old) }
     ensures kept { SameGraph graph.old graph.new }
 {

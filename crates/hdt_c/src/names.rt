@@ -7,7 +7,7 @@ ghost use Rattle.hdt_wire.specs.Fault.{reason_number};
 ghost use Rattle.hdt_c.specs.LookUps.{absent};
 ghost use Rattle.hdt_c.specs.Names.{IsNoFileReason, IsNoTextReason, NamesFileReason, NamesTextReason, PutsText};
 
-use crate::caller_buffer::copy_into;
+use crate::bytes::copy_into;
 use crate::look_ups::ABSENT;
 use hdt_terms::LineReason;
 use hdt_wire::Reason;

@@ -4,12 +4,13 @@ ghost use Rattle.hdt_wire.specs.Exact.{viewed};
 ghost use Rattle.hdt_wire.specs.Checks.{ReadsUnlessOom};
 ghost use Rattle.hdt_file.specs.Faults.{open_fault_of};
 ghost use Rattle.hdt_file.specs.File.{IsLayout, decode_graph};
-ghost use Rattle.hdt_file.specs.GraphView.{graph_view, graph_counts};
+ghost use Rattle.hdt_file.specs.Graph.{graph_view, graph_counts};
 ghost use Rattle.hdt_c.specs.Handle.{IsClosed, IsOpen, IsOpened};
 ghost use Rattle.hdt_c.specs.Verdicts.{IsVerdictOn, verdict_for};
+ghost use Rattle.hdt_c.specs.ReasonNumbers.{open_reason};
 
 use crate::handle::{HdtGraph, Resource};
-use crate::verdict::{HdtVerdict, for_reason, verdict_of_result};
+use crate::verdict::{HdtVerdict, verdict_for, verdict_of_result};
 use hdt_file::{Graph, OpenFault, open};
 use std::alloc::Global;
 
@@ -17,7 +18,7 @@ use std::alloc::Global;
 const IS_OPEN: u32 = 254;
 
 /// The number of triples, and of strings in each section.
-fn lens(graph: &Graph<'static>) -> [u64; 5]
+fn graph_counts(graph: &Graph<'static>) -> [u64; 5]
     ensures { result ≡ graph_counts (graph_view graph.now) }
 {
     let [shared, subjects, predicates, objects] = graph.section_lens();
@@ -35,7 +36,7 @@ fn open_into(
     ensures err { OnErr result (graph.new ≡ graph.old) }
 {
     let opened = open(alloc, bytes)?;
-    let counts = lens(&opened);
+    let counts = graph_counts(&opened);
     match Box::new(alloc, Resource::Graph(opened)) {
         Ok(kept) => {
             graph.put(kept);
@@ -56,13 +57,13 @@ pub extern "C" fn hdt_open(
     // The verdict is that on the bytes, or says that memory ran out.
     ensures told { IsClosed graph.old → IsVerdictOn verdict.new (decode_graph bytes.now) }
     // A graph that is open already is reported, and unchanged.
-    ensures refused { IsOpen graph.old → verdict.new ≡ verdict_for 254 }
+    ensures refused { IsOpen graph.old → verdict.new ≡ verdict_for open_reason }
     // With reason 0 the graph is open, and is that of the bytes; with any other it is unchanged.
     ensures opened { verdict.new.reason ≡ 0 → IsOpened bytes.now graph.new }
     ensures left { verdict.new.reason ≢ 0 → graph.new ≡ graph.old }
 {
     if graph.state == 1 {
-        *verdict = for_reason(IS_OPEN);
+        *verdict = verdict_for(IS_OPEN);
         return;
     }
     match open_into(alloc, bytes, graph) {

@@ -1,24 +1,25 @@
 //! Pages of matches.
 ghost use Rattle.std.specs.Prelude.{◌≡◌, IfErr, IfOk, map, take, length};
 ghost use Rattle.hdt_file.specs.Denoted.{denoted};
-ghost use Rattle.hdt_file.specs.GraphView.{graph_view};
+ghost use Rattle.hdt_file.specs.Graph.{graph_view};
 ghost use Rattle.hdt_file.specs.Text.{IsTextOf};
 ghost use Rattle.hdt_file.specs.TextWriting.{ReportsFirstNonTerm};
 ghost use Rattle.hdt_c.specs.Bytes.{HoldsNoBytes};
 ghost use Rattle.hdt_c.specs.CallerBuffer.{overwritten_prefix};
 ghost use Rattle.hdt_c.specs.GivenPatterns.{IsGivenPattern};
-ghost use Rattle.hdt_c.specs.Handle.{IsClosed, OfGraph, SameGraph};
+ghost use Rattle.hdt_c.specs.Handle.{IsClosed, IfOpen, SameGraph};
 ghost use Rattle.hdt_c.specs.LookUps.{absent, closed, numbers};
-ghost use Rattle.hdt_c.specs.Pages.{OfGivenPattern, PutsNothing, PutsPageOf, ReturnsPage};
+ghost use Rattle.hdt_c.specs.Pages.{PatternSatisfies, PutsNothing, PutsPage, ReturnsPage};
 ghost use Rattle.hdt_c.specs.PageTexts.{IsAfterPage, ReportsPageText, page_triples};
 ghost use Rattle.hdt_c.specs.Texts.{text_result_for};
+ghost use Rattle.hdt_c.specs.ReasonNumbers.{closed_reason};
 
 use crate::bytes::HdtBytes;
 use crate::handle::{HdtGraph, graph_ref};
 use crate::look_ups::{ABSENT, CLOSED, NO_MEMORY};
 use crate::pattern::{HdtPattern, ids_of_parts};
 use crate::report::HdtTextResult;
-use crate::text::{for_reason, no_graph, text_result_of_fault};
+use crate::text::{no_graph, text_result_for, text_result_of_fault};
 use hdt_file::{DumpFault, Graph, TermWriter};
 use hdt_seq::Steps;
 use hdt_triples::Pattern;
@@ -48,7 +49,7 @@ fn put_page(
     buffer: &mut [[u64; 3]],
     next: &mut u64,
 ) -> u64
-    ensures { PutsPageOf (graph_view graph.now) pattern from result next.new buffer.old buffer.new }
+    ensures { PutsPage (graph_view graph.now) pattern from result next.new buffer.old buffer.new }
 {
     *next = ABSENT;
     let Some(pattern) = pattern else {
@@ -78,7 +79,8 @@ pub extern "C" fn hdt_page(
     out: &mut [[u64; 3]],
     next: &mut u64,
 ) -> u64
-    ensures exact { OfGraph graph.old (λ g. ReturnsPage g (IsGivenPattern g pattern.now) from result next.new out.old out.new) }
+    ensures exact { IfOpen graph.old
+        (λ g. ReturnsPage g (IsGivenPattern g pattern.now) from result next.new out.old out.new) }
     ensures closed { IsClosed graph.old → PutsNothing closed result next.new out.old out.new }
     ensures kept { SameGraph graph.old graph.new }
 {
@@ -111,9 +113,11 @@ fn page_text(
     from: u64,
     most: u64,
 ) -> Result<(Vec<u8>, u64), DumpFault>
-    ensures ok { IfOk result (λ made. IsTextOf (denoted (graph_view graph.now) (page_triples (graph_view graph.now) pattern from most)) made.0.items) }
+    ensures ok { IfOk result (λ made. IsTextOf
+        (denoted (graph_view graph.now) (page_triples (graph_view graph.now) pattern from most)) made.0.items) }
     ensures next { IfOk result (λ made. IsAfterPage (graph_view graph.now) pattern from most made.1) }
-    ensures err { IfErr result (ReportsFirstNonTerm (graph_view graph.now) (page_triples (graph_view graph.now) pattern from most)) }
+    ensures err { IfErr result
+        (ReportsFirstNonTerm (graph_view graph.now) (page_triples (graph_view graph.now) pattern from most)) }
 {
     let mut text = Vec::new(alloc);
     let Some(pattern) = pattern else {
@@ -153,7 +157,7 @@ fn put_page_text(
         Ok((text, after)) => match out.put(alloc, text) {
             Ok(()) => {
                 *next = after;
-                for_reason(0)
+                text_result_for(0)
             }
             Err(_) => text_result_of_fault(DumpFault::OutOfMemory),
         },
@@ -177,8 +181,11 @@ pub extern "C" fn hdt_page_text(
     next: &mut u64,
     outcome: &mut HdtTextResult,
 )
-    ensures exact { OfGraph graph.old (λ g. OfGivenPattern (IsGivenPattern g pattern.now) (ReportsPageText g from most next.new out.new outcome.new)) }
-    ensures closed { IsClosed graph.old → (outcome.new ≡ text_result_for 253) × (next.new ≡ absent) × HoldsNoBytes out.new }
+    ensures exact { IfOpen graph.old
+        (λ g. PatternSatisfies (IsGivenPattern g pattern.now)
+        (ReportsPageText g from most next.new out.new outcome.new)) }
+    ensures closed { IsClosed graph.old → (outcome.new ≡ text_result_for closed_reason) × (next.new ≡ absent)
+        × HoldsNoBytes out.new }
     ensures kept { SameGraph graph.old graph.new }
 {
     match graph.take(alloc) {

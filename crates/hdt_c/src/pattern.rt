@@ -2,7 +2,7 @@
 ghost use Rattle.std.specs.Prelude.{◌≡◌, ◌↔◌, ℕ, Option, Some};
 ghost use Rattle.hdt_dict.specs.Dictionary.{role_strings};
 ghost use Rattle.hdt_triples.specs.declared.pattern.Pattern.{Pattern};
-ghost use Rattle.hdt_file.specs.GraphView.{graph_view};
+ghost use Rattle.hdt_file.specs.Graph.{graph_view};
 ghost use Rattle.hdt_file.specs.TextWriting.{matches_if_given};
 ghost use Rattle.hdt_c.specs.GivenPatterns.{GivesId, IsGivenPattern};
 ghost use Rattle.hdt_c.specs.LookUps.{AreMatches};
@@ -37,7 +37,8 @@ pub struct HdtPattern<'a> {
 /// What a part gives in its role: `Some(None)` if it is any. `None` if it is a string that the role doesn't have, or of
 /// a kind that there isn't.
 fn id_of_part(graph: &Graph<'static>, role: Role, part: &HdtPart<'_>) -> Option<Option<u64>>
-    ensures { (given : Option ℕ) → (result ≡ Some given) ↔ GivesId (role_strings (graph_view graph.now).dictionary role) part.now given }
+    ensures { (given : Option ℕ) → (result ≡ Some given)
+        ↔ GivesId (role_strings (graph_view graph.now).dictionary role) part.now given }
 {
     match part.kind {
         0 => Some(None),
@@ -58,9 +59,11 @@ pub(crate) fn ids_of_parts(graph: &Graph<'static>, given: &HdtPattern<'_>) -> Op
     })
 }
 
-/// The pattern with the IDs that the parts give, whose matches are those of the parts; `None` if one of them gives none.
+/// The pattern with the IDs that the parts give, whose matches are those of the parts; `None` if one of them gives
+/// none.
 pub(crate) fn pattern_of_parts(graph: &Graph<'static>, given: &HdtPattern<'_>) -> Option<Pattern>
-    ensures { AreMatches (graph_view graph.now) (IsGivenPattern (graph_view graph.now) given.now) (matches_if_given (graph_view graph.now) result) }
+    ensures { AreMatches (graph_view graph.now) (IsGivenPattern (graph_view graph.now) given.now)
+        (matches_if_given (graph_view graph.now) result) }
 {
     ids_of_parts(graph, given)
 }

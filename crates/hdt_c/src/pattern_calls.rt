@@ -2,9 +2,10 @@
 ghost use Rattle.std.specs.Prelude.{◌≡◌, length};
 ghost use Rattle.hdt_c.specs.Bytes.{HoldsNoBytes};
 ghost use Rattle.hdt_c.specs.GivenPatterns.{IsGivenPattern};
-ghost use Rattle.hdt_c.specs.Handle.{IsClosed, OfGraph, SameGraph};
-ghost use Rattle.hdt_c.specs.LookUps.{OfMatches, PutsPage, closed};
+ghost use Rattle.hdt_c.specs.Handle.{IsClosed, IfOpen, SameGraph};
+ghost use Rattle.hdt_c.specs.LookUps.{MatchesSatisfy, PutsMatchesAfter, closed};
 ghost use Rattle.hdt_c.specs.Texts.{ReportsText, text_result_for};
+ghost use Rattle.hdt_c.specs.ReasonNumbers.{closed_reason};
 
 use crate::bytes::HdtBytes;
 use crate::finding::{count_matches, find_into};
@@ -24,7 +25,8 @@ pub extern "C" fn hdt_pattern_find(
     skip: u64,
     out: &mut [[u64; 3]],
 ) -> u64
-    ensures exact { OfGraph graph.old (λ g. OfMatches g (IsGivenPattern g pattern.now) (PutsPage skip result out.old out.new)) }
+    ensures exact { IfOpen graph.old
+        (λ g. MatchesSatisfy g (IsGivenPattern g pattern.now) (PutsMatchesAfter skip result out.old out.new)) }
     ensures closed { IsClosed graph.old → (result ≡ closed) × (out.new ≡ out.old) }
     ensures kept { SameGraph graph.old graph.new }
 {
@@ -46,7 +48,8 @@ pub extern "C" fn hdt_pattern_matching(
     graph: &mut HdtGraph,
     pattern: &HdtPattern<'_>,
 ) -> u64
-    ensures exact { OfGraph graph.old (λ g. OfMatches g (IsGivenPattern g pattern.now) (λ found. result ≡ length found)) }
+    ensures exact { IfOpen graph.old
+        (λ g. MatchesSatisfy g (IsGivenPattern g pattern.now) (λ found. result ≡ length found)) }
     ensures closed { IsClosed graph.old → result ≡ closed }
     ensures kept { SameGraph graph.old graph.new }
 {
@@ -70,8 +73,9 @@ pub extern "C" fn hdt_pattern_text(
     out: &mut HdtBytes,
     outcome: &mut HdtTextResult,
 )
-    ensures exact { OfGraph graph.old (λ g. OfMatches g (IsGivenPattern g pattern.now) (λ found. ReportsText g found out.new outcome.new)) }
-    ensures closed { IsClosed graph.old → (outcome.new ≡ text_result_for 253) × HoldsNoBytes out.new }
+    ensures exact { IfOpen graph.old
+        (λ g. MatchesSatisfy g (IsGivenPattern g pattern.now) (λ found. ReportsText g found out.new outcome.new)) }
+    ensures closed { IsClosed graph.old → (outcome.new ≡ text_result_for closed_reason) × HoldsNoBytes out.new }
     ensures kept { SameGraph graph.old graph.new }
 {
     match graph.take(alloc) {

@@ -1,9 +1,9 @@
 //! The number of triples of each predicate.
 ghost use Rattle.std.specs.Prelude.{◌≡◌};
-ghost use Rattle.hdt_file.specs.GraphView.{graph_view};
+ghost use Rattle.hdt_file.specs.Graph.{graph_view};
 ghost use Rattle.hdt_c.specs.CallerBuffer.{overwritten_prefix};
 ghost use Rattle.hdt_c.specs.Counts.{predicate_count, predicate_counts, predicate_len};
-ghost use Rattle.hdt_c.specs.Handle.{IsClosed, OfGraph, SameGraph};
+ghost use Rattle.hdt_c.specs.Handle.{IsClosed, IfOpen, SameGraph};
 ghost use Rattle.hdt_c.specs.LookUps.{closed};
 
 use crate::handle::{HdtGraph, graph_ref};
@@ -44,7 +44,8 @@ fn put_counts(graph: &Graph<'static>, buffer: &mut [u64]) -> u64
 /// as fit, and returns the number of predicates. Each count costs what `hdt_matching` does with a predicate.
 #[unsafe(no_mangle)]
 pub extern "C" fn hdt_predicates(alloc: Global, graph: &mut HdtGraph, counts: &mut [u64]) -> u64
-    ensures exact { OfGraph graph.old (λ g. (result ≡ predicate_len g) × (counts.new ≡ overwritten_prefix (predicate_counts g) counts.old)) }
+    ensures exact { IfOpen graph.old (λ g. (result ≡ predicate_len g)
+        × (counts.new ≡ overwritten_prefix (predicate_counts g) counts.old)) }
     ensures closed { IsClosed graph.old → (result ≡ closed) × (counts.new ≡ counts.old) }
     ensures kept { SameGraph graph.old graph.new }
 {

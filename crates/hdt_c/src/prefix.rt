@@ -1,7 +1,7 @@
 //! The IDs of the strings that begin with a prefix.
 ghost use Rattle.std.specs.Prelude.{◌≡◌};
-ghost use Rattle.hdt_file.specs.GraphView.{graph_view};
-ghost use Rattle.hdt_c.specs.Handle.{IsClosed, OfGraph, SameGraph};
+ghost use Rattle.hdt_file.specs.Graph.{graph_view};
+ghost use Rattle.hdt_c.specs.Handle.{IsClosed, IfOpen, SameGraph};
 ghost use Rattle.hdt_c.specs.LookUps.{closed, role_by_number};
 ghost use Rattle.hdt_c.specs.Ranges.{HasIdsWithPrefix, ReturnsRanges};
 
@@ -54,7 +54,8 @@ pub extern "C" fn hdt_prefix(
     prefix: &[u8],
     ranges: &mut HdtRanges,
 ) -> u64
-    ensures exact { OfGraph graph.old (λ g. ReturnsRanges g (role_by_number role) prefix.now result ranges.old ranges.new) }
+    ensures exact { IfOpen graph.old
+        (λ g. ReturnsRanges g (role_by_number role) prefix.now result ranges.old ranges.new) }
     ensures closed { IsClosed graph.old → (result ≡ closed) × (ranges.new ≡ ranges.old) }
     ensures kept { SameGraph graph.old graph.new }
 {

@@ -1,16 +1,16 @@
 //! Rewriting a file.
 ghost use Rattle.std.specs.Prelude.{◌≡◌, IfOk, IfErr};
-ghost use Rattle.hdt_c.specs.Rewriting.{IsRewriteOf, RefusesRewriting, ReportsRewrite, rewritten};
+ghost use Rattle.hdt_c.specs.Rewriting.{IsRewriteOf, RefusesRewriting, ReportsRewrite, rewritten_verdict};
 
 use crate::bytes::HdtBytes;
-use crate::verdict::{BAD_OPTIONS, HdtVerdict, OUT_OF_MEMORY, for_reason, verdict_of_result};
+use crate::verdict::{BAD_OPTIONS, HdtVerdict, OUT_OF_MEMORY, verdict_for, verdict_of_result};
 use hdt_build::{Options, Report, RewriteFault, rewrite_bytes};
 use hdt_file::open;
 use std::alloc::Global;
 
-/// The verdict of a file that was rewritten.
-fn rewritten(report: Report) -> HdtVerdict
-    ensures { result ≡ rewritten report }
+/// The verdict of a file that was rewritten_verdict.
+fn rewritten_verdict(report: Report) -> HdtVerdict
+    ensures { result ≡ rewritten_verdict report }
 {
     HdtVerdict {
         reason: 0,
@@ -26,7 +26,11 @@ fn rewritten(report: Report) -> HdtVerdict
 }
 
 /// The canonical file of the graph of a file, or the verdict if there is none.
-fn file_of(alloc: Global, bytes: &[u8], block_size: u32) -> Result<(Vec<u8>, Report), HdtVerdict>
+fn rewrite_file(
+    alloc: Global,
+    bytes: &[u8],
+    block_size: u32,
+) -> Result<(Vec<u8>, Report), HdtVerdict>
     ensures ok { IfOk result (λ made. IsRewriteOf bytes.now block_size made.0.items made.1) }
     ensures err { IfErr result (RefusesRewriting bytes.now block_size) }
 {
@@ -40,8 +44,8 @@ fn file_of(alloc: Global, bytes: &[u8], block_size: u32) -> Result<(Vec<u8>, Rep
     };
     match rewrite_bytes(alloc, &graph, &options) {
         Ok(made) => Ok(made),
-        Err(RewriteFault::BadOptions) => Err(for_reason(BAD_OPTIONS)),
-        Err(_) => Err(for_reason(OUT_OF_MEMORY)),
+        Err(RewriteFault::BadOptions) => Err(verdict_for(BAD_OPTIONS)),
+        Err(_) => Err(verdict_for(OUT_OF_MEMORY)),
     }
 }
 
@@ -56,10 +60,10 @@ pub extern "C" fn hdt_rewrite(
 )
     ensures { ReportsRewrite bytes.now block_size out.new verdict.new }
 {
-    *verdict = match file_of(alloc, bytes, block_size) {
+    *verdict = match rewrite_file(alloc, bytes, block_size) {
         Ok((new, report)) => match out.put(alloc, new) {
-            Ok(()) => rewritten(report),
-            Err(_) => for_reason(OUT_OF_MEMORY),
+            Ok(()) => rewritten_verdict(report),
+            Err(_) => verdict_for(OUT_OF_MEMORY),
         },
         Err(fault) => {
             out.free(alloc);

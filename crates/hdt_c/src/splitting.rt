@@ -4,19 +4,15 @@ ghost use Rattle.std.specs.List.{concat};
 ghost use Rattle.hdt_dict.specs.StringBatch.{ends_from};
 ghost use Rattle.hdt_c.specs.Splitting.{HasSplitFault, JoinsParts, ReportsSplit, SplitsText, report_of_line, split_report, split_report_for, split_report_of_fault, written_text, written_texts};
 
-use crate::bytes::HdtBytes;
-use crate::caller_buffer::copy_into;
+use crate::bytes::{HdtBytes, copy_into};
 use crate::report::HdtSplitReport;
 use crate::verdict::{BAD_OPTIONS, OUT_OF_MEMORY};
-use hdt_terms::{LineFault, LineReason, SplitFault, SplitReport, split_document};
+use hdt_terms::{LineFault, LineReason, MAX_PARTS, SplitFault, SplitReport, split_document};
 use hdt_wire::Counted;
 use std::alloc::{AllocError, Global};
 
-/// The largest number of parts.
-const MAX_PARTS: u32 = 65_536;
-
 /// A report with a reason but no line.
-fn for_reason(reason: u32) -> HdtSplitReport
+fn split_report_for(reason: u32) -> HdtSplitReport
     ensures { result ≡ split_report_for reason }
 {
     HdtSplitReport {
@@ -30,7 +26,7 @@ fn for_reason(reason: u32) -> HdtSplitReport
 }
 
 /// The report of a text that was split.
-fn split(report: SplitReport) -> HdtSplitReport
+fn split_report(report: SplitReport) -> HdtSplitReport
     ensures { result ≡ split_report report }
 {
     HdtSplitReport {
@@ -48,7 +44,7 @@ fn report_of_line(fault: LineFault) -> HdtSplitReport
     ensures { result ≡ report_of_line fault }
 {
     match fault.reason {
-        LineReason::OutOfMemory => for_reason(OUT_OF_MEMORY),
+        LineReason::OutOfMemory => split_report_for(OUT_OF_MEMORY),
         reason => HdtSplitReport {
             reason: u32::from(reason.number()),
             has_blank_nodes: 0,
@@ -61,12 +57,12 @@ fn report_of_line(fault: LineFault) -> HdtSplitReport
 }
 
 /// The report of an error.
-fn report_of_fault(fault: SplitFault) -> HdtSplitReport
+fn split_report_of_fault(fault: SplitFault) -> HdtSplitReport
     ensures { result ≡ split_report_of_fault fault }
 {
     match fault {
         SplitFault::Line(line) => report_of_line(line),
-        SplitFault::Write(_) | SplitFault::OutOfMemory => for_reason(OUT_OF_MEMORY),
+        SplitFault::Write(_) | SplitFault::OutOfMemory => split_report_for(OUT_OF_MEMORY),
     }
 }
 
@@ -129,8 +125,8 @@ fn join_parts(
 }
 
 /// `hdt_split`: splits an N-Triples document by the subjects of its triples. `out` has the texts of the parts one after
-/// another, and the byte offset at which each ends is written to `ends`, as many as fit. On an error `out` has no bytes,
-/// and `ends` is unchanged.
+/// another, and the byte offset at which each ends is written to `ends`, as many as fit. On an error `out` has no
+/// bytes, and `ends` is unchanged.
 #[unsafe(no_mangle)]
 pub extern "C" fn hdt_split(
     alloc: Global,
@@ -145,20 +141,20 @@ pub extern "C" fn hdt_split(
 {
     if parts == 0 || parts > MAX_PARTS {
         out.free(alloc);
-        *report = for_reason(BAD_OPTIONS);
+        *report = split_report_for(BAD_OPTIONS);
         return;
     }
     *report = match join_parts(alloc, text, parts, prefix) {
         Ok((bytes, offsets, found)) => match out.put(alloc, bytes) {
             Ok(()) => {
                 copy_into(&offsets, ends);
-                split(found)
+                split_report(found)
             }
-            Err(_) => for_reason(OUT_OF_MEMORY),
+            Err(_) => split_report_for(OUT_OF_MEMORY),
         },
         Err(fault) => {
             out.free(alloc);
-            report_of_fault(fault)
+            split_report_of_fault(fault)
         }
     };
 }

@@ -2,13 +2,12 @@
 ghost use Rattle.std.specs.Prelude.{◌≡◌, IfOk, MatchOption, IsOk};
 ghost use Rattle.std.specs.List.{concat};
 ghost use Rattle.hdt_dict.specs.StringBatch.{ends_from};
-ghost use Rattle.hdt_file.specs.GraphView.{graph_view};
+ghost use Rattle.hdt_file.specs.Graph.{graph_view};
 ghost use Rattle.hdt_c.specs.LookUps.{closed, role_by_number};
-ghost use Rattle.hdt_c.specs.Handle.{IsClosed, OfGraph, SameGraph};
+ghost use Rattle.hdt_c.specs.Handle.{IsClosed, IfOpen, SameGraph};
 ghost use Rattle.hdt_c.specs.StringLists.{AreIdsOfRole, WritesNothing, ReturnsStrings, strings_with_ids};
 
-use crate::bytes::HdtBytes;
-use crate::caller_buffer::copy_into;
+use crate::bytes::{HdtBytes, copy_into};
 use crate::handle::{HdtGraph, graph_ref};
 use crate::look_ups::{ABSENT, CLOSED, NO_MEMORY, role_by_number};
 use hdt_file::Graph;
@@ -23,7 +22,8 @@ fn strings_of(
     role: u32,
     numbers: &[u64],
 ) -> Result<Option<(Vec<u8>, Vec<u64>)>, AllocError>
-    ensures ok { IfOk result (λ made. MatchOption made (AreIdsOfRole (graph_view graph.now) (role_by_number role) numbers.now → ⊥)
+    ensures ok { IfOk result (λ made. MatchOption made
+        (AreIdsOfRole (graph_view graph.now) (role_by_number role) numbers.now → ⊥)
         (λ m. AreIdsOfRole (graph_view graph.now) (role_by_number role) numbers.now
         × (m.0.items ≡ concat (strings_with_ids (graph_view graph.now) (role_by_number role) numbers.now))
         × (m.1.items ≡ ends_from 0 (strings_with_ids (graph_view graph.now) (role_by_number role) numbers.now)))) }
@@ -51,7 +51,8 @@ fn put_strings(
     out: &mut HdtBytes,
     buffer: &mut [u64],
 ) -> u64
-    ensures { ReturnsStrings (graph_view graph.now) (role_by_number role) numbers.now result out.new buffer.old buffer.new }
+    ensures { ReturnsStrings (graph_view graph.now)
+        (role_by_number role) numbers.now result out.new buffer.old buffer.new }
 {
     match strings_of(alloc, graph, role, numbers) {
         Ok(Some((bytes, ends))) => {
@@ -88,7 +89,8 @@ pub extern "C" fn hdt_strings(
     out: &mut HdtBytes,
     ends: &mut [u64],
 ) -> u64
-    ensures exact { OfGraph graph.old (λ g. ReturnsStrings g (role_by_number role) numbers.now result out.new ends.old ends.new) }
+    ensures exact { IfOpen graph.old
+        (λ g. ReturnsStrings g (role_by_number role) numbers.now result out.new ends.old ends.new) }
     ensures closed { IsClosed graph.old → (result ≡ closed) × WritesNothing out.new ends.old ends.new }
     ensures kept { SameGraph graph.old graph.new }
 {

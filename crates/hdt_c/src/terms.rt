@@ -5,7 +5,7 @@ ghost use Rattle.hdt_terms.specs.declared.triple.Term.TheVariants.{Literal};
 ghost use Rattle.hdt_terms.specs.Terms.{quoted};
 ghost use Rattle.hdt_c.specs.TermParts.{IsStringOfKind, IsTermOfKind, ReturnsParts, ReturnsTermString, no_parts, parts_of_term, string_of_term, term_of_kind};
 
-use crate::caller_buffer::copy_into;
+use crate::bytes::copy_into;
 use crate::look_ups::{ABSENT, NO_MEMORY};
 use crate::text::NOT_A_TERM;
 use crate::verdict::OUT_OF_MEMORY;
@@ -16,7 +16,8 @@ use std::alloc::{AllocError, Global};
 #[repr(C)]
 #[derive(Clone, Copy)]
 pub struct HdtTermParts {
-    /// 1: an IRI; 2: a blank node; 3: a literal without a suffix; 4: with a language tag; 5: with a datatype; 0: no term.
+    /// 1: an IRI; 2: a blank node; 3: a literal without a suffix; 4: with a language tag; 5: with a datatype; 0: no
+    /// term.
     pub kind: u32,
     /// The offset of the IRI, the label or the literal's text.
     pub at: u64,
@@ -210,7 +211,8 @@ fn checked_string(
     text: &[u8],
     suffix: &[u8],
 ) -> Result<Option<Vec<u8>>, AllocError>
-    ensures { IfOk result (λ made. IsStringOfKind (term_of_kind kind text.now suffix.now) (option_map (λ bytes. bytes.items) made)) }
+    ensures { IfOk result (λ made. IsStringOfKind (term_of_kind kind text.now suffix.now)
+        (option_map (λ bytes. bytes.items) made)) }
 {
     let string = string_of_kind(alloc, kind, text, suffix)?;
     if is_string_of_kind(alloc, &string, kind, text, suffix)? {

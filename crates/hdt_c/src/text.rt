@@ -1,12 +1,13 @@
 //! The N-Triples text of a graph.
 ghost use Rattle.std.specs.Prelude.{◌≡◌, ◌∷◌, []};
-ghost use Rattle.hdt_file.specs.GraphView.{graph_view};
+ghost use Rattle.hdt_file.specs.Graph.{graph_view};
 ghost use Rattle.hdt_file.specs.Search.{IsPattern};
 ghost use Rattle.hdt_file.specs.TextWriting.{matches_if_given};
-ghost use Rattle.hdt_c.specs.LookUps.{OfMatches, string_if_flag};
+ghost use Rattle.hdt_c.specs.LookUps.{MatchesSatisfy, string_if_flag};
 ghost use Rattle.hdt_c.specs.Bytes.{HoldsNoBytes};
-ghost use Rattle.hdt_c.specs.Handle.{IsClosed, OfGraph, SameGraph};
+ghost use Rattle.hdt_c.specs.Handle.{IsClosed, IfOpen, SameGraph};
 ghost use Rattle.hdt_c.specs.Texts.{ReportsText, text_result_for, role_number, text_result_of_fault};
+ghost use Rattle.hdt_c.specs.ReasonNumbers.{closed_reason};
 
 use crate::bytes::HdtBytes;
 use crate::finding::{pattern_of, string_if_flag};
@@ -25,7 +26,7 @@ pub(crate) const NOT_A_TERM: u32 = 250;
 const IS_CLOSED: u32 = 253;
 
 /// A result with a reason but no string.
-pub(crate) fn for_reason(reason: u32) -> HdtTextResult
+pub(crate) fn text_result_for(reason: u32) -> HdtTextResult
     ensures { result ≡ text_result_for reason }
 {
     HdtTextResult {
@@ -56,7 +57,7 @@ pub(crate) fn text_result_of_fault(fault: DumpFault) -> HdtTextResult
             role: role_number(role),
             number,
         },
-        DumpFault::Write(_) | DumpFault::OutOfMemory => for_reason(OUT_OF_MEMORY),
+        DumpFault::Write(_) | DumpFault::OutOfMemory => text_result_for(OUT_OF_MEMORY),
     }
 }
 
@@ -71,7 +72,7 @@ pub(crate) fn put_text(
 {
     match graph_text(alloc, graph, pattern) {
         Ok(text) => match out.put(alloc, text) {
-            Ok(()) => for_reason(0),
+            Ok(()) => text_result_for(0),
             Err(_) => text_result_of_fault(DumpFault::OutOfMemory),
         },
         Err(fault) => {
@@ -83,10 +84,10 @@ pub(crate) fn put_text(
 
 /// The result of a graph that is not open: there is no text.
 pub(crate) fn no_graph(alloc: Global, out: &mut HdtBytes) -> HdtTextResult
-    ensures { (result ≡ text_result_for 253) × HoldsNoBytes out.new }
+    ensures { (result ≡ text_result_for closed_reason) × HoldsNoBytes out.new }
 {
     out.free(alloc);
-    for_reason(IS_CLOSED)
+    text_result_for(IS_CLOSED)
 }
 
 /// `hdt_text`: makes the N-Triples text of the matches. On an error `out` has no bytes.
@@ -103,8 +104,10 @@ pub extern "C" fn hdt_text(
     out: &mut HdtBytes,
     outcome: &mut HdtTextResult,
 )
-    ensures exact { OfGraph graph.old (λ g. OfMatches g (IsPattern g (string_if_flag has_s s.entry ∷ string_if_flag has_p p.entry ∷ string_if_flag has_o o.entry ∷ [])) (λ found. ReportsText g found out.new outcome.new)) }
-    ensures closed { IsClosed graph.old → (outcome.new ≡ text_result_for 253) × HoldsNoBytes out.new }
+    ensures exact { IfOpen graph.old
+        (λ g. MatchesSatisfy g (IsPattern g (string_if_flag has_s s.entry ∷ string_if_flag has_p p.entry
+        ∷ string_if_flag has_o o.entry ∷ [])) (λ found. ReportsText g found out.new outcome.new)) }
+    ensures closed { IsClosed graph.old → (outcome.new ≡ text_result_for closed_reason) × HoldsNoBytes out.new }
     ensures kept { SameGraph graph.old graph.new }
 {
     match graph.take(alloc) {

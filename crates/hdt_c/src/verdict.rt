@@ -41,12 +41,12 @@ pub(crate) fn verdict_of_result(got: Result<[u64; 5], OpenFault>) -> HdtVerdict
             place: fault.place,
             counts: [0; 5],
         },
-        Err(OpenFault::OutOfMemory) => for_reason(OUT_OF_MEMORY),
+        Err(OpenFault::OutOfMemory) => verdict_for(OUT_OF_MEMORY),
     }
 }
 
 /// A verdict with a reason but no byte offset.
-pub(crate) fn for_reason(reason: u32) -> HdtVerdict
+pub(crate) fn verdict_for(reason: u32) -> HdtVerdict
     ensures { result ≡ verdict_for reason }
 {
     HdtVerdict {

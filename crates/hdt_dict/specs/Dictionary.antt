@@ -8,8 +8,10 @@ use Rattle.hdt_wire.specs.declared.control.Kind.TheVariants as kinds
 use Rattle.hdt_wire.specs.Checks.{◌>>=◌, demand}
 use Rattle.hdt_wire.specs.Control.{ControlInfo, IsControlAt, control_at}
 use Rattle.hdt_wire.specs.ItemChecks.{checks_from}
-use Rattle.hdt_front.specs.Section.{SectionParts, IsSection, string_offset, section_at, PackedParts, packed_parts_at}
+use Rattle.hdt_front.specs.Section.{SectionParts, IsSectionAt, string_offset, section_at, PackedParts, packed_parts_at}
 use Rattle.hdt_dict.specs.Strings.{has}
+use Rattle.hdt_dict.specs.declared.dictionary.SectionId.{SectionId}
+use Rattle.hdt_dict.specs.declared.dictionary.SectionId.TheVariants as sections
 use Rattle.hdt_wire.specs.declared.role.Role.{Role}
 use Rattle.hdt_wire.specs.declared.role.Role.TheVariants.{Subject, Predicate, Object}
 
@@ -29,7 +31,13 @@ pub record SectionLists : Type 0 where
 
 -- the strings of a dictionary
 abbrev pub lists_of_dictionary : DictionaryParts → SectionLists
-lists_of_dictionary d = record { shared = d.shared.strings; subjects = d.subjects.strings; predicates = d.predicates.strings; objects = d.objects.strings }
+lists_of_dictionary d = record {
+  shared = d.shared.strings;
+  subjects = d.subjects.strings;
+  predicates =
+      d.predicates.strings;
+  objects = d.objects.strings;
+}
 
 -- the strings of a role, in the order of their IDs: ID 1 is the first
 abbrev pub role_strings : SectionLists → Role → List (List ℕ)
@@ -38,11 +46,18 @@ role_strings d Predicate = d.predicates
 role_strings d Object = d.shared ++ d.objects
 
 -- the section at an index, from 0, in file order
-abbrev pub section_by_index : DictionaryParts → ℕ → SectionParts
-section_by_index d zero = d.shared
-section_by_index d (suc zero) = d.subjects
-section_by_index d (suc (suc zero)) = d.predicates
-section_by_index d (suc (suc (suc i))) = d.objects
+abbrev pub section_id : ℕ → SectionId
+section_id zero = sections.Shared
+section_id (suc zero) = sections.Subjects
+section_id (suc (suc zero)) = sections.Predicates
+section_id (suc (suc (suc i))) = sections.Objects
+
+-- a section, its strings with their byte offsets
+abbrev pub section_by_id : DictionaryParts → SectionId → SectionParts
+section_by_id d sections.Shared = d.shared
+section_by_id d sections.Subjects = d.subjects
+section_by_id d sections.Predicates = d.predicates
+section_by_id d sections.Objects = d.objects
 
 -- no string is in both lists
 abbrev pub AreDisjoint : List (List ℕ) → List (List ℕ) → Type 0
@@ -50,13 +65,13 @@ AreDisjoint xs ys = (x : List ℕ) → Contains xs x → Contains ys x → ⊥
 
 -- The dictionary is encoded at the offset: control information with any properties, then the four sections. No string
 -- is in two of shared, subjects and objects.
-pub record IsDictionary (d : DictionaryParts) (bytes : List ℕ) (at : ℕ) : Type 0 where
+pub record IsDictionaryAt (d : DictionaryParts) (bytes : List ℕ) (at : ℕ) : Type 0 where
   pub control : ControlInfo
   pub block : IsControlAt kinds.Dictionary control bytes at
-  pub shared : IsSection d.shared bytes control.end
-  pub subjects : IsSection d.subjects bytes d.shared.end
-  pub predicates : IsSection d.predicates bytes d.subjects.end
-  pub objects : IsSection d.objects bytes d.predicates.end
+  pub shared : IsSectionAt d.shared bytes control.end
+  pub subjects : IsSectionAt d.subjects bytes d.shared.end
+  pub predicates : IsSectionAt d.predicates bytes d.subjects.end
+  pub objects : IsSectionAt d.objects bytes d.predicates.end
   pub shared_subjects : AreDisjoint d.shared.strings d.subjects.strings
   pub shared_objects : AreDisjoint d.shared.strings d.objects.strings
   pub subjects_objects : AreDisjoint d.subjects.strings d.objects.strings
@@ -65,7 +80,8 @@ pub record IsDictionary (d : DictionaryParts) (bytes : List ℕ) (at : ℕ) : Ty
 
 -- string i of a section is not one of the others
 unfoldable pub disjoint_check : List (List ℕ) → SectionParts → ℕ → Result (Unit {0}) Fault
-disjoint_check others s i = demand (not (has others (slice_index_or s.strings i []))) (string_offset s i) SectionsOverlap
+disjoint_check others s i =
+    demand (not (has others (slice_index_or s.strings i []))) (string_offset s i) SectionsOverlap
 
 -- no string of a section is one of the others
 abbrev pub disjoint_at : List (List ℕ) → SectionParts → Result (Unit {0}) Fault

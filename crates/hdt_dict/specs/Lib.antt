@@ -5,11 +5,9 @@ pub mod Cost
 pub mod StringBatch
 pub mod Views
 pub mod Iteration
-pub mod Located
 pub mod RoleSections
 pub mod Strings
 pub mod Split
-pub mod DictionaryString
 pub mod Writing
 pub mod Arena
 pub mod Laws

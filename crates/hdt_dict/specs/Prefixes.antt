@@ -14,4 +14,5 @@ IsInRanges r n = ((r.first.start ≤ n) × (n < r.first.end)) ⊎ ((r.second.sta
 
 -- the ranges are one after another, among the IDs of `count` strings
 abbrev pub RangesAscend : PrefixRanges → ℕ → Type 0
-RangesAscend r count = (1 ≤ r.first.start) × (r.first.start ≤ r.first.end) × (r.first.end ≤ r.second.start) × (r.second.start ≤ r.second.end) × (r.second.end ≤ count + 1)
+RangesAscend r count = (1 ≤ r.first.start) × (r.first.start ≤ r.first.end) × (r.first.end ≤ r.second.start)
+    × (r.second.start ≤ r.second.end) × (r.second.end ≤ count + 1)

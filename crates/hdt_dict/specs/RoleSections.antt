@@ -5,16 +5,16 @@ use Rattle.hdt_front.specs.declared.section.Section.{Section}
 use Rattle.hdt_front.specs.Strings.{strings_of, section_of, block_size}
 
 -- the strings of the second section, if there is one
-abbrev pub following : Option Section → List (List ℕ)
-following None = []
-following (Some section) = strings_of section
+abbrev pub second_strings : Option Section → List (List ℕ)
+second_strings None = []
+second_strings (Some section) = strings_of section
 
 -- the most steps of a search in it
-abbrev pub following_search_cost : Option Section → ℕ
-following_search_cost None = 0
-following_search_cost (Some section) = section_search_cost (section_of section)
+abbrev pub second_search_cost : Option Section → ℕ
+second_search_cost None = 0
+second_search_cost (Some section) = section_search_cost (section_of section)
 
 -- its block size
-abbrev pub following_block_size : Option Section → ℕ
-following_block_size None = 0
-following_block_size (Some section) = block_size section
+abbrev pub second_block_size : Option Section → ℕ
+second_block_size None = 0
+second_block_size (Some section) = block_size section

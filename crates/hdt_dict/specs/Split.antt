@@ -2,24 +2,27 @@
 -- that is both a subject and an object is stored once, in the shared section.
 use Rattle.std.specs.Prelude.{ℕ, List, ◌↔◌}
 use Rattle.std.specs.List.{Contains}
-use Rattle.hdt_front.specs.Canonical.{borrowed_texts, texts}
+use Rattle.hdt_front.specs.Canonical.{texts}
 use Rattle.hdt_front.specs.WriterState.{SectionWriterState}
 use Rattle.hdt_front.specs.Order.{IsAscending}
 use Rattle.hdt_dict.specs.declared.parts.Parts.{Parts}
-use Rattle.hdt_dict.specs.declared.parts.BorrowedParts.{BorrowedParts}
 use Rattle.hdt_dict.specs.Dictionary.{SectionLists}
 
 -- the strings of `Parts`
 unfoldable pub lists_of_parts : Parts → SectionLists
-lists_of_parts p = record { shared = texts p.shared.items; subjects = texts p.subjects.items; predicates = texts p.predicates.items; objects = texts p.objects.items }
-
--- the strings of `BorrowedParts`
-unfoldable pub lists_of_borrowed_parts : BorrowedParts → SectionLists
-lists_of_borrowed_parts p = record { shared = borrowed_texts p.shared.items; subjects = borrowed_texts p.subjects.items; predicates = borrowed_texts p.predicates.items; objects = borrowed_texts p.objects.items }
+lists_of_parts p = record {
+  shared = texts p.shared.items;
+  subjects = texts p.subjects.items;
+  predicates =
+      texts p.predicates.items;
+  objects = texts p.objects.items;
+}
 
 -- the strings that four section writers have been given
-abbrev pub lists_of_writers : SectionWriterState → SectionWriterState → SectionWriterState → SectionWriterState → SectionLists
-lists_of_writers s u p o = record { shared = s.strings; subjects = u.strings; predicates = p.strings; objects = o.strings }
+abbrev pub lists_of_writers : SectionWriterState → SectionWriterState → SectionWriterState → SectionWriterState
+    → SectionLists
+lists_of_writers s u p o =
+    record { shared = s.strings; subjects = u.strings; predicates = p.strings; objects = o.strings }
 
 -- The four lists are the sections of the subjects ss, the predicates ps and the objects os. Each list ascends. A string
 -- is in shared exactly if it is both a subject and an object, in subjects exactly if it is only a subject, and in

@@ -4,11 +4,11 @@ use Rattle.std.specs.List.{concat}
 
 -- each ID, from 1, is that of a string
 abbrev pub AreIds : List (List ℕ) → List ℕ → Type 0
-AreIds xs numbers = (i : ℕ) → i < length numbers → (1 ≤ slice_index numbers i) × (slice_index numbers i ≤ length xs)
+AreIds xs ids = (i : ℕ) → i < length ids → (1 ≤ slice_index ids i) × (slice_index ids i ≤ length xs)
 
 -- the strings of these IDs, in the order of the IDs
 abbrev pub strings_by_id : List (List ℕ) → List ℕ → List (List ℕ)
-strings_by_id xs numbers = map (λ n. slice_index_or xs (n - 1) []) numbers
+strings_by_id xs ids = map (λ n. slice_index_or xs (n - 1) []) ids
 
 -- the byte offset at which each of the concatenated strings ends, if the first one starts at an offset
 unfoldable pub ends_from : ℕ → List (List ℕ) → List ℕ
@@ -22,9 +22,9 @@ pub record AppendsStrings (xs : List (List ℕ)) (old new ends after : List ℕ)
 
 -- the strings of the IDs were appended; or one of the IDs is not valid, and neither buffer changed
 abbrev pub AppendsAll : List (List ℕ) → List ℕ → Bool → List ℕ → List ℕ → List ℕ → List ℕ → Type 0
-AppendsAll xs numbers true old new ends after = AreIds xs numbers × AppendsStrings (strings_by_id xs numbers) old new ends after
-AppendsAll xs numbers false old new ends after = (AreIds xs numbers → ⊥) × (new ≡ old) × (after ≡ ends)
+AppendsAll xs ids true old new ends after = AreIds xs ids × AppendsStrings (strings_by_id xs ids) old new ends after
+AppendsAll xs ids false old new ends after = (AreIds xs ids → ⊥) × (new ≡ old) × (after ≡ ends)
 
 -- the IDs never descend, and are at most n
 abbrev pub AscendTo : List ℕ → ℕ → Type 0
-AscendTo numbers n = (i : ℕ) → i < length numbers → (slice_index (0 ∷ numbers) i ≤ slice_index numbers i) × (slice_index numbers i ≤ n)
+AscendTo ids n = (i : ℕ) → i < length ids → (slice_index (0 ∷ ids) i ≤ slice_index ids i) × (slice_index ids i ≤ n)

@@ -2,8 +2,9 @@
 use Rattle.std.specs.Prelude.{◌≡◌, ℕ, ◌<◌, Bool, List, [], slice_index_or, ◌↔◌}
 use Rattle.std.specs.declared.cmp.Ordering.TheVariants.{Less}
 use Rattle.std.specs.List.{Contains, list_any}
+use Rattle.hdt_wire.specs.Control.{HasNoZero}
 use Rattle.hdt_front.specs.Order.{string_cmp}
-use Rattle.std.specs.Str.{bytes_eq}
+use Rattle.std.specs.Str.{bytes_eq, IsUtf8}
 use Rattle.std.specs.Borrow.{Bor}
 
 -- a borrowed string, a `&[u8]`
@@ -25,3 +26,8 @@ has ys x = list_any (λ y. bytes_eq y x) ys
 -- the first n strings are less than x
 abbrev pub FirstBelow : List (List ℕ) → ℕ → List ℕ → Type 0
 FirstBelow ys n x = (k : ℕ) → k < n → string_cmp (slice_index_or ys k x) x ≡ Less
+
+-- The string is one that a dictionary can have: UTF-8 without zero bytes.
+pub record IsDictionaryString (string : List ℕ) : Type 0 where
+  pub utf8 : IsUtf8 string
+  pub no_zero : HasNoZero string

@@ -9,7 +9,13 @@ use Rattle.hdt_dict.specs.Dictionary.{DictionaryParts}
 
 -- its four sections
 unfoldable pub dictionary_of : Dictionary → DictionaryParts
-dictionary_of d = record { shared = section_of d.shared; subjects = section_of d.subjects; predicates = section_of d.predicates; objects = section_of d.objects }
+dictionary_of d = record {
+  shared = section_of d.shared;
+  subjects = section_of d.subjects;
+  predicates =
+      section_of d.predicates;
+  objects = section_of d.objects;
+}
 
 -- ---- the bytes that decoding a string reads
 
@@ -20,7 +26,8 @@ block_bytes (Some s) n = cond (nat_le 1 n && nat_le n (length (strings_of s))) (
 
 -- the same over a section and one that may follow it
 abbrev pub block_bytes_of_two : Section → Option Section → ℕ → List ℕ
-block_bytes_of_two a b n = cond (nat_le n (length (strings_of a))) (block_bytes (Some a) n) (block_bytes b (n - length (strings_of a)))
+block_bytes_of_two a b n =
+    cond (nat_le n (length (strings_of a))) (block_bytes (Some a) n) (block_bytes b (n - length (strings_of a)))
 
 -- the same for a role
 unfoldable pub role_block_bytes : Dictionary → Role → ℕ → List ℕ

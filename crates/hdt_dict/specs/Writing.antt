@@ -23,7 +23,9 @@ mapping = codes "mapping=1;"
 
 -- the canonical bytes with b strings a block: control information and four canonical sections
 unfoldable pub canonical_dictionary : ℕ → SectionLists → List ℕ
-canonical_dictionary b d = control kinds.Dictionary mapping ++ (canonical b d.shared ++ (canonical b d.subjects ++ (canonical b d.predicates ++ canonical b d.objects)))
+canonical_dictionary b d =
+    control kinds.Dictionary mapping
+    ++ (canonical b d.shared ++ (canonical b d.subjects ++ (canonical b d.predicates ++ canonical b d.objects)))
 
 -- the dictionary that these bytes encode at an offset
 unfoldable pub canonical_dictionary_parts : ℕ → SectionLists → ℕ → DictionaryParts
@@ -33,5 +35,6 @@ canonical_dictionary_parts b d at =
       shared = canonical_parts b d.shared a;
       subjects = canonical_parts b d.subjects (a + length (canonical b d.shared));
       predicates = canonical_parts b d.predicates (a + length (canonical b d.shared) + length (canonical b d.subjects));
-      objects = canonical_parts b d.objects (a + length (canonical b d.shared) + length (canonical b d.subjects) + length (canonical b d.predicates));
+      objects = canonical_parts b d.objects
+          (a + length (canonical b d.shared) + length (canonical b d.subjects) + length (canonical b d.predicates));
     }

@@ -57,7 +57,7 @@ impl Arena {
 
     /// Returns an arena of concatenated strings, given the byte offset at which each begins, and at which the last one
     /// ends.
-    pub fn of(bytes: Vec<u8>, starts: Vec<usize>) -> Arena
+    pub fn from_parts(bytes: Vec<u8>, starts: Vec<usize>) -> Arena
         requires { AreStringStarts bytes.items starts.items }
         ensures { result ≡ arena_strings bytes.items starts.items }
     {
@@ -71,7 +71,7 @@ impl Arena {
         self.starts.len() - 1
     }
 
-    /// Returns the string at an index, from 0.
+    /// Returns the string at an index, from 0. It must be less than [`len`](Arena::len).
     pub fn get(&self, at: usize) -> &[u8]
         requires { at < length self.now }
         ensures { result.now ≡ slice_index_or self.now at [] }
@@ -81,7 +81,7 @@ impl Arena {
         slice_between(self.bytes.as_slice(), from, end)
     }
 
-    /// Appends a string. If memory runs out, the arena is unchanged.
+    /// Appends a string. If memory runs out, the arena is unchanged. Amortized linear time in the string.
     pub fn push(&mut self, text: &[u8]) -> Result<(), AllocError>
         ensures ok { OnOk result (self.new ≡ self.old ++ text.now ∷ []) }
         ensures err { OnErr result (self.new ≡ self.old) }
@@ -90,5 +90,14 @@ impl Arena {
         self.bytes.extend_from_slice(text)?;
         self.starts.push(self.bytes.len())?;
         Ok(())
+    }
+
+    /// Removes all strings. Keeps the memory.
+    pub fn clear(&mut self)
+        ensures { self.new ≡ [] }
+    {
+        self.bytes.clear();
+        self.starts.truncate(1);
+        self.starts[0] = 0;
     }
 }

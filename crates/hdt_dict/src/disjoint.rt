@@ -34,7 +34,9 @@ fn find_overlap(
     other: Option<Section<'_>>,
     section: &Section<'_>,
 ) -> Result<Option<usize>, AllocError>
-    ensures { IfOk result (λ r. r ≡ first_offset (λ x. contains_string (located_strings shared.now) x || contains_string (located_of other.entry) x) (located_strings section.now)) }
+    ensures { IfOk result (λ r. r
+        ≡ first_offset (λ x. contains_string (located_strings shared.now) x || contains_string
+        (located_of other.entry) x) (located_strings section.now)) }
 {
     let mut list = Cursor::new(alloc, section)?;
     let mut one = Cursor::new(alloc, shared)?;
@@ -49,7 +51,8 @@ pub(crate) fn check_disjoint(
     other: Option<Section<'_>>,
     section: &Section<'_>,
 ) -> Result<(), ReadFault>
-    ensures { ReadsUnlessOom read_fault_of (λ x. x) result (disjoint_at (strings_before shared.now other.entry) (section_of section.now)) }
+    ensures { ReadsUnlessOom read_fault_of (λ x. x) result
+        (disjoint_at (strings_before shared.now other.entry) (section_of section.now)) }
 {
     match find_overlap(alloc, shared, other, section)? {
         None => Ok(()),

@@ -12,7 +12,7 @@
 //! let mut objects = dictionary.strings(alloc, Role::Object);
 //! while let Some(id) = objects.next()? {
 //!     ids.push(id)?;
-//!     text.extend_from_slice(objects.last())?;
+//!     text.extend_from_slice(objects.string())?;
 //! }
 //! ```
 //!
@@ -25,24 +25,23 @@
 mod arena;
 mod dictionary;
 mod disjoint;
-mod laws;
 mod merge;
 mod overlap;
 mod parts;
 mod prefix;
-mod role_cursor;
+mod role_iter;
 mod role_sections;
 mod string_batch;
 mod writing;
 
 pub use arena::Arena;
-pub use dictionary::Dictionary;
+pub use dictionary::{
+    Dictionary, SectionId, dictionaries_are_exact, dictionary_round_trip, one_dictionary,
+    split_makes_sections,
+};
 pub use hdt_front::{SectionIter, SectionWriter};
 pub use hdt_wire::Role;
-pub use laws::{
-    dictionaries_are_exact, dictionary_is_read_again, one_dictionary, split_makes_sections,
-};
 pub use parts::{Parts, split};
 pub use prefix::PrefixRanges;
-pub use role_cursor::RoleCursor;
+pub use role_iter::RoleIter;
 pub use writing::{finish_dictionary, put_dictionary};

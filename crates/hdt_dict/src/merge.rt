@@ -49,9 +49,12 @@ pub(crate) fn merge<'a>(
 ) -> Result<Merged<'a>, AllocError>
     requires xs_ascending { IsAscending (borrowed_texts xs.now) }
     requires ys_ascending { IsAscending (borrowed_texts ys.now) }
-    ensures both { IfOk result (λ m. borrowed_texts m.both.items ≡ filter (has (borrowed_texts ys.now)) (borrowed_texts xs.now)) }
-    ensures first { IfOk result (λ m. borrowed_texts m.first.items ≡ filter (λ x. not (has (borrowed_texts ys.now) x)) (borrowed_texts xs.now)) }
-    ensures second { IfOk result (λ m. borrowed_texts m.second.items ≡ filter (λ y. not (has (borrowed_texts xs.now) y)) (borrowed_texts ys.now)) }
+    ensures both { IfOk result (λ m. borrowed_texts m.both.items
+        ≡ filter (has (borrowed_texts ys.now)) (borrowed_texts xs.now)) }
+    ensures first { IfOk result (λ m. borrowed_texts m.first.items
+        ≡ filter (λ x. not (has (borrowed_texts ys.now) x)) (borrowed_texts xs.now)) }
+    ensures second { IfOk result (λ m. borrowed_texts m.second.items
+        ≡ filter (λ y. not (has (borrowed_texts xs.now) y)) (borrowed_texts ys.now)) }
 {
     let mut both = Vec::new(alloc);
     let mut first = Vec::new(alloc);

@@ -34,18 +34,18 @@ fn seek_not_less(
     comparison: (Ordering, usize),
 ) -> Result<(Ordering, usize), AllocError>
     requires { IsStaleComparison kept comparison cursor.old x.now }
-    ensures lies { IfOk result (λ r. IsComparison r cursor.new x.now) }
+    ensures comparison { IfOk result (λ r. IsComparison r cursor.new x.now) }
     ensures left { OnOk result (cursor.new ≡ drop_less x.now cursor.old) }
 {
     let mut comparison = update_comparison(cursor, x, kept, comparison);
     while comparison.0 == Ordering::Less {
-        let kept = cursor.advance_with_prefix_len()?;
+        let kept = cursor.advance()?;
         comparison = update_comparison(cursor, x, kept, comparison);
     }
     Ok(comparison)
 }
 
-/// The same for a cursor that may be absent, which is as one at the end.
+/// As [`seek_not_less`]; without a cursor the comparison is that of a cursor at the end.
 fn seek_if_any(
     cursor: &mut Option<Cursor<'_>>,
     x: &[u8],
@@ -53,7 +53,7 @@ fn seek_if_any(
     comparison: (Ordering, usize),
 ) -> Result<(Ordering, usize), AllocError>
     requires { IsStaleComparison kept comparison (unwrap_or cursor.old []) x.now }
-    ensures lies { IfOk result (λ r. IsComparison r (unwrap_or cursor.new []) x.now) }
+    ensures comparison { IfOk result (λ r. IsComparison r (unwrap_or cursor.new []) x.now) }
     ensures left { OnOk result (unwrap_or cursor.new [] ≡ drop_less x.now (unwrap_or cursor.old [])) }
 {
     match cursor {
@@ -71,7 +71,8 @@ pub(crate) fn first_common(
     requires list { LocatedAscend list.old }
     requires one { LocatedAscend one.old }
     requires two { LocatedAscend (unwrap_or two.old []) }
-    ensures { IfOk result (λ r. r ≡ first_offset (λ x. contains_string one.old x || contains_string (unwrap_or two.old []) x) list.old) }
+    ensures { IfOk result (λ r. r
+        ≡ first_offset (λ x. contains_string one.old x || contains_string (unwrap_or two.old []) x) list.old) }
 {
     let mut kept = 0;
     let mut first = (Ordering::Less, 0);
@@ -82,7 +83,7 @@ pub(crate) fn first_common(
         if first.0 == Ordering::Equal || second.0 == Ordering::Equal {
             return Ok(list.place());
         }
-        kept = list.advance_with_prefix_len()?;
+        kept = list.advance()?;
     }
     Ok(None)
 }

@@ -28,7 +28,9 @@ impl<'a> Dictionary<'a> {
     /// [`number_of`](Dictionary::number_of), and allocates nothing.
     pub fn ids_with_prefix(&self, role: Role, prefix: &[u8], steps: &mut Steps) -> PrefixRanges
         // An ID is in one of the ranges exactly if its string begins with the prefix.
-        ensures exact { (n : ℕ) → IsInRanges result n ↔ SomeBeginsWith prefix.now (string_at_id (role_strings (lists_of_dictionary (dictionary_of self.now)) role) n) }
+        ensures exact { (n : ℕ) → IsInRanges result n
+            ↔ SomeBeginsWith prefix.now
+            (string_at_id (role_strings (lists_of_dictionary (dictionary_of self.now)) role) n) }
         ensures ascend { RangesAscend result (length (role_strings (lists_of_dictionary (dictionary_of self.now)) role)) }
         ensures cost { steps.new ≤ steps.old + 2 * role_search_cost (dictionary_of self.now) role }
         ensures more { steps.old ≤ steps.new }

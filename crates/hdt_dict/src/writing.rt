@@ -1,7 +1,7 @@
 //! Writing a dictionary in canonical form.
 ghost use Rattle.std.specs.Prelude.{◌≡◌, ◌≤◌, ◌++◌, length, OnOk, OnErr};
 ghost use Rattle.hdt_wire.specs.Control.{IsPrefixOf};
-ghost use Rattle.hdt_dict.specs.Dictionary.{IsDictionary, SectionLists};
+ghost use Rattle.hdt_dict.specs.Dictionary.{IsDictionaryAt, SectionLists};
 ghost use Rattle.hdt_dict.specs.Split.{lists_of_parts, lists_of_writers};
 ghost use Rattle.hdt_dict.specs.Writing.{AreSections, canonical_dictionary, canonical_dictionary_parts};
 
@@ -20,7 +20,8 @@ fn append_dictionary(
 ) -> Result<(), AllocError>
     requires sections { AreSections (lists_of_parts parts.now) }
     requires block { 1 ≤ block_size }
-    ensures ok { OnOk result (out.new.items ≡ out.old.items ++ canonical_dictionary block_size (lists_of_parts parts.now)) }
+    ensures ok { OnOk result (out.new.items
+        ≡ out.old.items ++ canonical_dictionary block_size (lists_of_parts parts.now)) }
     ensures err { OnErr result (IsPrefixOf out.old.items out.new.items) }
 {
     put_control(Kind::Dictionary, b"mapping=1;", out)?;
@@ -45,9 +46,12 @@ pub fn put_dictionary(
 ) -> Result<(), AllocError>
     requires sections { AreSections (lists_of_parts parts.now) }
     requires block { 1 ≤ block_size }
-    ensures ok { OnOk result (out.new.items ≡ out.old.items ++ canonical_dictionary block_size (lists_of_parts parts.now)) }
+    ensures ok { OnOk result (out.new.items
+        ≡ out.old.items ++ canonical_dictionary block_size (lists_of_parts parts.now)) }
     // It is read back.
-    ensures dictionary { OnOk result (IsDictionary (canonical_dictionary_parts block_size (lists_of_parts parts.now) (length out.old.items)) out.new.items (length out.old.items)) }
+    ensures dictionary { OnOk result
+        (IsDictionaryAt (canonical_dictionary_parts block_size (lists_of_parts parts.now) (length out.old.items))
+        out.new.items (length out.old.items)) }
     ensures err { OnErr result (out.new.items ≡ out.old.items) }
 {
     let start = out.len();
@@ -65,8 +69,10 @@ fn append_finished(
     out: &mut Vec<u8>,
 ) -> Result<(), AllocError>
     requires sections { AreSections (lists_of_writers shared subjects predicates objects) }
-    requires blocks { (subjects.block_size ≡ shared.block_size) × (predicates.block_size ≡ shared.block_size) × (objects.block_size ≡ shared.block_size) }
-    ensures ok { OnOk result (out.new.items ≡ out.old.items ++ canonical_dictionary shared.block_size (lists_of_writers shared subjects predicates objects)) }
+    requires blocks { (subjects.block_size ≡ shared.block_size) × (predicates.block_size ≡ shared.block_size)
+        × (objects.block_size ≡ shared.block_size) }
+    ensures ok { OnOk result (out.new.items
+        ≡ out.old.items ++ canonical_dictionary shared.block_size (lists_of_writers shared subjects predicates objects)) }
     ensures err { OnErr result (IsPrefixOf out.old.items out.new.items) }
 {
     put_control(Kind::Dictionary, b"mapping=1;", out)?;
@@ -87,12 +93,17 @@ pub fn finish_dictionary(
     out: &mut Vec<u8>,
 ) -> Result<(), AllocError>
     requires sections { AreSections (lists_of_writers shared subjects predicates objects) }
-    requires blocks { (subjects.block_size ≡ shared.block_size) × (predicates.block_size ≡ shared.block_size) × (objects.block_size ≡ shared.block_size) }
-    ensures ok { OnOk result (out.new.items ≡ out.old.items ++ canonical_dictionary shared.block_size (lists_of_writers shared subjects predicates objects)) }
-    ensures dictionary { OnOk result (IsDictionary (canonical_dictionary_parts shared.block_size (lists_of_writers shared subjects predicates objects) (length out.old.items)) out.new.items (length out.old.items)) }
+    requires blocks { (subjects.block_size ≡ shared.block_size) × (predicates.block_size ≡ shared.block_size)
+        × (objects.block_size ≡ shared.block_size) }
+    ensures ok { OnOk result (out.new.items
+        ≡ out.old.items ++ canonical_dictionary shared.block_size (lists_of_writers shared subjects predicates objects)) }
+    ensures dictionary { OnOk result
+        (IsDictionaryAt (canonical_dictionary_parts shared.block_size
+        (lists_of_writers shared subjects predicates objects) (length out.old.items)) out.new.items
+        (length out.old.items)) }
     ensures err { OnErr result (out.new.items ≡ out.old.items) }
 {
-    shared.has_blocks();
+    shared.block_size_is_valid();
     let before = out.len();
     let appended = append_finished(shared, subjects, predicates, objects, out);
     truncate_on_error(appended, before, out)

@@ -9,7 +9,7 @@ use Rattle.std.specs.Str.Parse.{AllDigits, IsNumeral, ParsesUnsigned, digits_val
 use Rattle.std.proofs.lemmas.Bool.{and_parts, ltb-true, lt-ltb, ne_eqb}
 use Rattle.std.proofs.lemmas.Fmt.{IsAscii-from_digits}
 use Rattle.std.proofs.lemmas.Str.{IsUtf8-from_ascii}
-use Rattle.hdt_file.specs.Decimal.{Decimal, is_numeral, decimal_number}
+use Rattle.hdt_file.specs.Head.{Decimal, is_numeral, decimal_number}
 
 all_digits : (text : List ℕ) → list_all (λ c. is_digit c 10) text ≡ true → AllDigits 10 text
 all_digits [] e = tt
@@ -19,7 +19,8 @@ digits_all : (text : List ℕ) → AllDigits 10 text → list_all (λ c. is_digi
 digits_all [] h = refl
 digits_all (c ∷ cs) h = rw (lt-ltb _ _ h.0, digits_all cs h.1) refl
 
-read : (text : List ℕ) (n v : ℕ) (ok small : Bool) → (ok ≡ true → AllDigits 10 text × (0 < length text)) → n ≡ digits_value 10 text → (small ≡ true → n < 2 ^ 64)
+read : (text : List ℕ) (n v : ℕ) (ok small : Bool) → (ok ≡ true → AllDigits 10 text × (0 < length text))
+    → n ≡ digits_value 10 text → (small ≡ true → n < 2 ^ 64)
     → (if ok && small then Some n else None) ≡ Some v → Decimal text v × (v < 2 ^ 64)
 read text n v true true digits value below e =
     let same : n ≡ v = cc in
@@ -55,7 +56,9 @@ no_number text none = by (decimal_number text) refl
 
 pub with_plus : (text : List ℕ) (d : ℕ) → get_or text 0 d ≡ 43 → 0 < length text → None ≡ decimal_number text
 with_plus [] d plus some = absurd (omega (arith, some))
-with_plus (c ∷ cs) d plus some = no_number (c ∷ cs) (λ v small h. let low : digit_value 43 < 10 = subst (λ (n : ℕ). digit_value n < 10) plus h.digits.1.0 in omega (arith, low))
+with_plus (c ∷ cs) d plus some =
+    no_number (c ∷ cs) (λ v small h. let low : digit_value 43 < 10 =
+    subst (λ (n : ℕ). digit_value n < 10) plus h.digits.1.0 in omega (arith, low))
 
 pub not_utf8 : (text : List ℕ) → (IsUtf8 text → ⊥) → None ≡ decimal_number text
 not_utf8 text none = no_number text (λ v small h. none (IsUtf8-from_ascii text (IsAscii-from_digits text h.digits.1)))
@@ -65,9 +68,11 @@ without_plus [] d none some = refl
 without_plus (c ∷ cs) d none some = rw (ne_eqb c 43 none) refl
 
 -- `parse` reads the number, if the text has no plus sign
-pub parsed : {E : Type 0} (text : List ℕ) (d : ℕ) (r : Result ℕ E) → get_or text 0 d ≢ 43 → 0 < length text → ParsesUnsigned 64 10 text r → result_ok r ≡ decimal_number text
+pub parsed : {E : Type 0} (text : List ℕ) (d : ℕ) (r : Result ℕ E) → get_or text 0 d ≢ 43 → 0 < length text
+    → ParsesUnsigned 64 10 text r → result_ok r ≡ decimal_number text
 parsed text d (Ok v) none some h =
     let k : IsNumeral 10 text × (digits_value 10 text < 2 ^ 64) = rw (without_plus text d none some) at h.0 in
     let value : v ≡ digits_value 10 text = rw (without_plus text d none some) at h.1 in
     sym (decimal_only text v (rw value k.1) (record { digits = k.0; value = sym value }))
-parsed text d (Err e) none some h = no_number text (λ v small n. h (rw (without_plus text d none some) (n.digits, rw n.value small)))
+parsed text d (Err e) none some h =
+    no_number text (λ v small n. h (rw (without_plus text d none some) (n.digits, rw n.value small)))

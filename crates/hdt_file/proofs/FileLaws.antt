@@ -16,25 +16,26 @@ use Rattle.hdt_file.specs.Dictionary.{HeadAndDictionary, decode_head_and_diction
 use Rattle.hdt_file.proofs.HeadLaws.{front_exact}
 use Rattle.hdt_file.specs.Faults.{open_fault_of}
 use Rattle.hdt_file.specs.File.{FileParts, IsFile, dictionary_counts, decode_file, GraphParts, graph_of_file, IsLayout, decode_graph}
-use Rattle.hdt_file.specs.Graph.{IsGraph}
-use Rattle.hdt_file.specs.LayoutParts.{LayoutParts, decode_parts, graph_of_parts, parts_of_file, parts_of_layout}
-use Rattle.hdt_file.specs.LayoutView.{layout_view}
+use Rattle.hdt_file.specs.Graph.{IsGraph, LayoutParts, decode_parts, graph_of_parts, parts_of_file, parts_of_layout, layout_view}
 use Rattle.hdt_file.specs.declared.fault.OpenFault.{OpenFault}
 use Rattle.hdt_file.specs.declared.fault.OpenFault.TheVariants as opens
 use Rattle.hdt_file.specs.declared.layout.Layout.{Layout}
 
-pub file_exact : (bytes : List ℕ) → IsBytes bytes → length bytes < 2 ^ 64 → Exactly (decode_file bytes) (λ file. IsFile file bytes)
+pub file_exact : (bytes : List ℕ) → IsBytes bytes → length bytes < 2 ^ 64
+    → Exactly (decode_file bytes) (λ file. IsFile file bytes)
 unfolding decode_file
 file_exact bytes fits small = record {
   found = λ file e.
       bind_ok (decode_head_and_dictionary bytes) _ _ e (λ front e1 e.
-      bind_ok (decode_triple_parts (dictionary_counts front.dictionary) bytes front.dictionary.objects.end) _ _ e (λ triples e2 e.
+      bind_ok (decode_triple_parts (dictionary_counts front.dictionary) bytes front.dictionary.objects.end) _ _ e
+      (λ triples e2 e.
       demand_ok (eqb triples.array_z.end (length bytes)) triples.array_z.end TrailingBytes _ _ e (λ h e.
       let both = (front_exact bytes fits small).found front e1 in
       holds_of_ok (λ (file : FileParts). IsFile file bytes) _ _ e (record {
         head = both.head;
         dictionary = both.dictionary;
-        triples = (triples_exact (dictionary_counts front.dictionary) bytes front.dictionary.objects.end fits).found triples e2;
+        triples = (triples_exact (dictionary_counts front.dictionary) bytes front.dictionary.objects.end fits).found
+            triples e2;
         end = eqb-true _ _ h;
       }))));
   only = λ file h.
@@ -47,33 +48,44 @@ file_exact bytes fits small = record {
 }
 
 -- the checks return the graph of a valid file
-pub layout_exact : (bytes : List ℕ) → IsBytes bytes → length bytes < 2 ^ 64 → Exactly (decode_graph bytes) (IsLayout bytes)
+pub layout_exact : (bytes : List ℕ) → IsBytes bytes → length bytes < 2 ^ 64
+    → Exactly (decode_graph bytes) (IsLayout bytes)
 unfolding decode_graph
 layout_exact bytes fits small =
     let file = file_exact bytes fits small in
     record {
-      found = λ g e. bind_ok (decode_file bytes) _ _ e (λ x e1 e. record { file = x; is = file.found x e1; of = ok_is (graph_of_file x) g e });
+      found = λ g e. bind_ok (decode_file bytes) _ _ e
+          (λ x e1 e. record { file = x; is = file.found x e1; of = ok_is (graph_of_file x) g e });
       only = λ g h. rw (file.only h.file h.is) (ap (λ (y : GraphParts). Ok y) h.of);
     }
 
 -- bytes encode at most one file
-pub file_unique : (bytes : List ℕ) (a b : FileParts) → IsBytes bytes → length bytes < 2 ^ 64 → IsFile a bytes → IsFile b bytes → a ≡ b
-file_unique bytes a b fits small p q = one_value (decode_file bytes) (λ (file : FileParts). IsFile file bytes) a b (file_exact bytes fits small) p q
+pub file_unique : (bytes : List ℕ) (a b : FileParts) → IsBytes bytes → length bytes < 2 ^ 64 → IsFile a bytes
+    → IsFile b bytes → a ≡ b
+file_unique bytes a b fits small p q =
+    one_value (decode_file bytes) (λ (file : FileParts). IsFile file bytes) a b (file_exact bytes fits small) p q
 
 -- bytes encode at most one graph
-pub layout_unique : (bytes : List ℕ) (g h : GraphParts) → IsBytes bytes → length bytes < 2 ^ 64 → IsLayout bytes g → IsLayout bytes h → g ≡ h
-layout_unique bytes g h fits small p q = one_value (decode_graph bytes) (IsLayout bytes) g h (layout_exact bytes fits small) p q
+pub layout_unique : (bytes : List ℕ) (g h : GraphParts) → IsBytes bytes → length bytes < 2 ^ 64 → IsLayout bytes g
+    → IsLayout bytes h → g ≡ h
+layout_unique bytes g h fits small p q =
+    one_value (decode_graph bytes) (IsLayout bytes) g h (layout_exact bytes fits small) p q
 
 -- bytes either encode a graph or have one first error
-pub layout_or_fault : (bytes : List ℕ) → IsBytes bytes → length bytes < 2 ^ 64 → UniqueValue (decode_graph bytes) (IsLayout bytes) ⊎ UniqueFault (decode_graph bytes) (IsLayout bytes)
+pub layout_or_fault : (bytes : List ℕ) → IsBytes bytes → length bytes < 2 ^ 64
+    → UniqueValue (decode_graph bytes) (IsLayout bytes) ⊎ UniqueFault (decode_graph bytes) (IsLayout bytes)
 layout_or_fault bytes fits small = value_or_fault (decode_graph bytes) (IsLayout bytes) (layout_exact bytes fits small)
 
 -- the parts of the file that bytes encode are decoded
-pub file_parts : (bytes : List ℕ) (file : FileParts) → IsBytes bytes → length bytes < 2 ^ 64 → IsFile file bytes → decode_parts bytes ≡ Ok (parts_of_file file)
-file_parts bytes file fits small is = ap (λ (r : Result FileParts Fault). viewed parts_of_file r) ((file_exact bytes fits small).only file is)
+pub file_parts : (bytes : List ℕ) (file : FileParts) → IsBytes bytes → length bytes < 2 ^ 64 → IsFile file bytes
+    → decode_parts bytes ≡ Ok (parts_of_file file)
+file_parts bytes file fits small is =
+    ap (λ (r : Result FileParts Fault). viewed parts_of_file r) ((file_exact bytes fits small).only file is)
 
 -- the graph of a layout that was read is the graph of its parts
-pub seen_gives : (r : Result Layout OpenFault) (rows : Result LayoutParts Fault) → ReadsUnlessOom open_fault_of parts_of_layout r rows → ReadsUnlessOom open_fault_of layout_view r (viewed graph_of_parts rows)
+pub seen_gives : (r : Result Layout OpenFault) (rows : Result LayoutParts Fault)
+    → ReadsUnlessOom open_fault_of parts_of_layout r rows
+    → ReadsUnlessOom open_fault_of layout_view r (viewed graph_of_parts rows)
 unfolding layout_view
 seen_gives (Ok l) rows h = ap (λ (x : Result LayoutParts Fault). viewed graph_of_parts x) h
 seen_gives (Err (opens.Fault f)) rows h = ap (λ (x : Result LayoutParts Fault). viewed graph_of_parts x) h

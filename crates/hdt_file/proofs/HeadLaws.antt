@@ -12,12 +12,11 @@ use Rattle.hdt_wire.specs.Exact.{Exactly}
 use Rattle.hdt_wire.specs.Laws.Exact.{holds_of_ok, one_value}
 use Rattle.hdt_wire.specs.Laws.ExactPrimitives.{control_exact}
 use Rattle.hdt_wire.specs.Property.{property_value}
-use Rattle.hdt_file.specs.Decimal.{Decimal, decimal_number}
+use Rattle.hdt_file.specs.Head.{Decimal, decimal_number, HeadParts, IsHead, StatesLength, body_length, decode_head}
 use Rattle.hdt_file.proofs.DecimalLaws.{decimal_found, decimal_only}
 use Rattle.hdt_dict.specs.Dictionary.{dictionary_at}
 use Rattle.hdt_dict.specs.Laws.Dictionary.{dictionary_exact}
 use Rattle.hdt_file.specs.Dictionary.{HeadAndDictionary, IsHeadAndDictionary, decode_head_and_dictionary}
-use Rattle.hdt_file.specs.Head.{HeadParts, IsHead, StatesLength, body_length, decode_head}
 
 -- ---- the length of the body
 
@@ -25,17 +24,20 @@ given : {A : Type 0} (o : Option A) (d : Fault) (y : A) → ok_or o d ≡ Ok y �
 given None d y e = absurd cc
 given (Some x) d y e = cc
 
-stated : (value : Option (List ℕ)) (d : Fault) (n : ℕ) → ok_or (option_and_then decimal_number value) d ≡ Ok n → IsSomeAnd value (λ text. Decimal text n)
+stated : (value : Option (List ℕ)) (d : Fault) (n : ℕ) → ok_or (option_and_then decimal_number value) d ≡ Ok n
+    → IsSomeAnd value (λ text. Decimal text n)
 stated None d n e = absurd cc
 stated (Some text) d n e = (decimal_found text n (given (decimal_number text) d n e)).0
 
-read_again : (value : Option (List ℕ)) (d : Fault) (n : ℕ) → n < 2 ^ 64 → IsSomeAnd value (λ text. Decimal text n) → ok_or (option_and_then decimal_number value) d ≡ Ok n
+read_again : (value : Option (List ℕ)) (d : Fault) (n : ℕ) → n < 2 ^ 64 → IsSomeAnd value (λ text. Decimal text n)
+    → ok_or (option_and_then decimal_number value) d ≡ Ok n
 read_again None d n lt h = absurd h
 read_again (Some text) d n lt h = rw (decimal_only text n lt h) refl
 
 -- ---- the head
 
-pub head_exact : (bytes : List ℕ) → IsBytes bytes → length bytes < 2 ^ 64 → Exactly (decode_head bytes) (λ head. IsHead head bytes)
+pub head_exact : (bytes : List ℕ) → IsBytes bytes → length bytes < 2 ^ 64
+    → Exactly (decode_head bytes) (λ head. IsHead head bytes)
 unfolding decode_head
 head_exact bytes fits small = record {
   found = λ head e.
@@ -47,25 +49,30 @@ head_exact bytes fits small = record {
       holds_of_ok (λ (h : HeadParts). IsHead h bytes) _ _ e (record {
         global = (control_exact Global bytes 0 fits).found global e1;
         header = (control_exact Header bytes global.end fits).found header e2;
-        length = subst (StatesLength header.properties) (sym b.1) (stated (property_value header.properties (codes "length")) _ count e3);
+        length = subst (StatesLength header.properties) (sym b.1)
+            (stated (property_value header.properties (codes "length")) _ count e3);
         body = b.0;
       })))));
   only = λ head h.
       let global = (control_exact Global bytes 0 fits).only head.global h.global in
       let header = (control_exact Header bytes head.global.end fits).only head.header h.header in
       let below : length head.body < 2 ^ 64 = omega (arith, h.body.end_is, h.body.within, small) in
-      let count : body_length head.header ≡ Ok (length head.body) = read_again (property_value head.header.properties (codes "length")) _ (length head.body) below h.length in
+      let count : body_length head.header ≡ Ok (length head.body) =
+      read_again (property_value head.header.properties (codes "length")) _ (length head.body) below h.length in
       let body = bytes_only (length head.body) bytes head.header.end head.body head.end h.body refl in
       rw (global, header, count, body) refl;
 }
 
 -- bytes have at most one head at their start
-pub head_unique : (bytes : List ℕ) (a b : HeadParts) → IsBytes bytes → length bytes < 2 ^ 64 → IsHead a bytes → IsHead b bytes → a ≡ b
-head_unique bytes a b fits small p q = one_value (decode_head bytes) (λ (head : HeadParts). IsHead head bytes) a b (head_exact bytes fits small) p q
+pub head_unique : (bytes : List ℕ) (a b : HeadParts) → IsBytes bytes → length bytes < 2 ^ 64 → IsHead a bytes
+    → IsHead b bytes → a ≡ b
+head_unique bytes a b fits small p q =
+    one_value (decode_head bytes) (λ (head : HeadParts). IsHead head bytes) a b (head_exact bytes fits small) p q
 
 -- ---- the head and the dictionary
 
-pub front_exact : (bytes : List ℕ) → IsBytes bytes → length bytes < 2 ^ 64 → Exactly (decode_head_and_dictionary bytes) (λ f. IsHeadAndDictionary f bytes)
+pub front_exact : (bytes : List ℕ) → IsBytes bytes → length bytes < 2 ^ 64
+    → Exactly (decode_head_and_dictionary bytes) (λ f. IsHeadAndDictionary f bytes)
 unfolding decode_head_and_dictionary
 front_exact bytes fits small = record {
   found = λ f e.

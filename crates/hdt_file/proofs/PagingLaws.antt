@@ -10,7 +10,8 @@ use Rattle.hdt_triples.specs.Patterns.{agrees, matches}
 use Rattle.hdt_file.specs.Paging.{IsNextMatch}
 
 -- the first n + 1 of a list are its first member and the first n of the rest
-one_more : (n : ℕ) (found items new : List Triple) (t : Triple) (left rest : List Triple) → left ≡ t ∷ rest → new ≡ items ++ t ∷ []
+one_more : (n : ℕ) (found items new : List Triple) (t : Triple) (left rest : List Triple) → left ≡ t ∷ rest
+    → new ≡ items ++ t ∷ []
     → found ≡ items ++ take (suc n) left → found ≡ new ++ take n rest
 one_more n found items new t left rest first is h =
     h ∙ ap (λ (l : List Triple). items ++ take (suc n) l) first ∙ sym (append_assoc items (t ∷ []) (take n rest))
@@ -18,7 +19,8 @@ one_more n found items new t left rest first is h =
 
 -- ---- the triples of a page: `all` are the matches, `left` those that the iterator still has
 
-pub record Continues (all : List Triple) (most : ℕ) (old items : List Triple) (remaining : ℕ) (left : List Triple) : Type 0 where
+pub record Continues (all : List Triple) (most : ℕ) (old items : List Triple) (remaining : ℕ)
+    (left : List Triple) : Type 0 where
   pub page : old ++ take most all ≡ items ++ take remaining left
   pub rest : drop most all ≡ drop remaining left
   pub kept : take (length old) items ≡ old
@@ -26,12 +28,16 @@ pub record Continues (all : List Triple) (most : ℕ) (old items : List Triple) 
 pub begins : (all : List Triple) (most : ℕ) (old : List Triple) → Continues all most old old most all
 begins all most old = record { page = refl; rest = refl; kept = take_all (length old) old (omega arith) }
 
-pub continues : (all : List Triple) (most : ℕ) (old items new : List Triple) (remaining n : ℕ) (t : Triple) (left rest : List Triple) → remaining ≡ suc n → left ≡ t ∷ rest → new ≡ items ++ t ∷ []
+pub continues : (all : List Triple) (most : ℕ) (old items new : List Triple) (remaining n : ℕ) (t : Triple)
+    (left rest : List Triple) → remaining ≡ suc n → left ≡ t ∷ rest → new ≡ items ++ t ∷ []
     → Continues all most old items remaining left → Continues all most old new n rest
 continues all most old items new remaining n t left rest count first is c = record {
-  page = one_more n (old ++ take most all) items new t left rest first is (c.page ∙ ap (λ m. items ++ take m left) count);
+  page = one_more n (old ++ take most all) items new t left rest first is (c.page
+      ∙ ap (λ m. items ++ take m left) count);
   rest = c.rest ∙ ap (λ m. drop m left) count ∙ ap (drop (suc n)) first;
-  kept = ap (take (length old)) is ∙ take-append-le (length old) items (t ∷ []) (omega (arith, ap length c.kept, length-take (length old) items)) ∙ c.kept;
+  kept = ap (take (length old)) is
+      ∙ take-append-le (length old) items (t ∷ []) (omega (arith, ap length c.kept, length-take (length old) items))
+      ∙ c.kept;
 }
 
 -- ---- the next match
@@ -45,7 +51,8 @@ pub record IsNextKept (keep : Triple → Bool) (xs : List Triple) (n : ℕ) (t :
   pub rest : filter keep (drop at xs) ≡ drop n (filter keep xs)
   pub later : n ≤ at
 
-next_by : (keep : Triple → Bool) (x : Triple) (xs : List Triple) (n : ℕ) (t : Triple) (b : Bool) → keep x ≡ b → ((m : ℕ) → slice_get (drop m (filter keep xs)) 0 ≡ Some t → IsNextKept keep xs m t)
+next_by : (keep : Triple → Bool) (x : Triple) (xs : List Triple) (n : ℕ) (t : Triple) (b : Bool) → keep x ≡ b
+    → ((m : ℕ) → slice_get (drop m (filter keep xs)) 0 ≡ Some t → IsNextKept keep xs m t)
     → slice_get (drop n (cond b (x ∷ filter keep xs) (filter keep xs))) 0 ≡ Some t → IsNextKept keep (x ∷ xs) n t
 next_by keep x xs n t false e behind is =
     let k = behind n is in
@@ -71,7 +78,8 @@ next_by keep x xs (suc n) t true e behind is =
       later = omega (arith, k.later);
     }
 
-next_kept : (keep : Triple → Bool) (xs : List Triple) (n : ℕ) (t : Triple) → slice_get (drop n (filter keep xs)) 0 ≡ Some t → IsNextKept keep xs n t
+next_kept : (keep : Triple → Bool) (xs : List Triple) (n : ℕ) (t : Triple)
+    → slice_get (drop n (filter keep xs)) 0 ≡ Some t → IsNextKept keep xs n t
 next_kept keep [] zero t is = absurd (none-some t is)
 next_kept keep [] (suc n) t is = absurd (none-some t is)
 next_kept keep (x ∷ xs) n t is = next_by keep x xs n t (keep x) refl (λ m h. next_kept keep xs m t h) is
@@ -83,7 +91,8 @@ pub record IsIndexOfNext (f g : BitmapTriples) (pattern : Pattern) (from most : 
   pub is : triple_at g index ≡ t
   pub next : IsNextMatch (triples_of f) pattern from most index
 
-pub index_of_next : (f g : BitmapTriples) (pattern : Pattern) (from most : ℕ) (t : Triple) (rest : List Triple) → g ≡ f → drop most (matches pattern (drop from (triples_of f))) ≡ t ∷ rest → IsIndexOfNext f g pattern from most t
+pub index_of_next : (f g : BitmapTriples) (pattern : Pattern) (from most : ℕ) (t : Triple) (rest : List Triple) → g ≡ f
+    → drop most (matches pattern (drop from (triples_of f))) ≡ t ∷ rest → IsIndexOfNext f g pattern from most t
 unfolding matches
 index_of_next f g pattern from most t rest same first =
     let ts = triples_of f in

@@ -10,10 +10,10 @@ use Rattle.hdt_triples.specs.TripleSequences.{Triple}
 use Rattle.hdt_triples.specs.Uses.{role_component}
 use Rattle.hdt_file.specs.Denoted.{denoted_triple, string_of}
 use Rattle.hdt_file.specs.File.{GraphParts}
-use Rattle.hdt_file.specs.SkippedLines.{TellsLines}
+use Rattle.hdt_file.specs.Writable.{DecidesWritable}
 use Rattle.hdt_file.specs.Text.{Pairwise}
 use Rattle.hdt_file.specs.TextWriting.{AppendsTerm}
-use Rattle.hdt_file.specs.TermFlags.{IsTermFlag, AreTermFlags, term_flag, has_line}
+use Rattle.hdt_file.specs.TermFlags.{IsTermFlag, AreTermFlags, term_flag, is_writable}
 use Rattle.hdt_file.specs.declared.term_flags.TermFlags.{TermFlags}
 use Rattle.hdt_file.proofs.RenderedTermLaws.{empty_none}
 
@@ -25,14 +25,17 @@ rendered role string old new h = (h.term, h.is)
 
 -- flags for the remaining strings make flags for all of them
 abbrev pub FlagsUpTo : Role → List (List ℕ) → List (List ℕ) → List Bool → Type 0
-FlagsUpTo role all left flags = (more : List Bool) → Pairwise (IsTermFlag role) left more → Pairwise (IsTermFlag role) all (flags ++ more)
+FlagsUpTo role all left flags = (more : List Bool) → Pairwise (IsTermFlag role) left more
+    → Pairwise (IsTermFlag role) all (flags ++ more)
 
-pub all_flags : (role : Role) (all left : List (List ℕ)) (flags : List Bool) → FlagsUpTo role all left flags → left ≡ [] → Pairwise (IsTermFlag role) all flags
+pub all_flags : (role : Role) (all left : List (List ℕ)) (flags : List Bool) → FlagsUpTo role all left flags → left ≡ []
+    → Pairwise (IsTermFlag role) all flags
 all_flags role all [] flags h none = subst (Pairwise (IsTermFlag role) all) (append-nil flags) (h [] tt)
 all_flags role all (x ∷ left) flags h none = absurd cc
 
 -- the flag of string n
-flag_is : (role : Role) (strings : List (List ℕ)) (flags : List Bool) (n : ℕ) → Pairwise (IsTermFlag role) strings flags → IsTermFlag role (unwrap_or (string_at_id strings n) []) (term_flag flags n)
+flag_is : (role : Role) (strings : List (List ℕ)) (flags : List Bool) (n : ℕ) → Pairwise (IsTermFlag role) strings flags
+    → IsTermFlag role (unwrap_or (string_at_id strings n) []) (term_flag flags n)
 flag_is role strings flags zero h = empty_none role
 flag_is role [] [] (suc i) h = empty_none role
 flag_is role [] (b ∷ bs) (suc i) h = absurd h
@@ -48,17 +51,29 @@ flag flags t Subject = term_flag flags.subjects.items t.0
 flag flags t Predicate = term_flag flags.predicates.items t.1
 flag flags t Object = term_flag flags.objects.items t.2
 
-told : (g : GraphParts) (flags : TermFlags) (t : Triple) → AreTermFlags g flags → (role : Role) (b : Bool) → flag flags t role ≡ b → IsTermFlag role (role_component role (denoted_triple g t)) b
-told g flags t h Subject b e = subst (IsTermFlag Subject (string_of g Subject t.0)) e (flag_is Subject (role_strings g.dictionary Subject) flags.subjects.items t.0 h.subjects)
-told g flags t h Predicate b e = subst (IsTermFlag Predicate (string_of g Predicate t.1)) e (flag_is Predicate (role_strings g.dictionary Predicate) flags.predicates.items t.1 h.predicates)
-told g flags t h Object b e = subst (IsTermFlag Object (string_of g Object t.2)) e (flag_is Object (role_strings g.dictionary Object) flags.objects.items t.2 h.objects)
+told : (g : GraphParts) (flags : TermFlags) (t : Triple) → AreTermFlags g flags → (role : Role) (b : Bool)
+    → flag flags t role ≡ b → IsTermFlag role (role_component role (denoted_triple g t)) b
+told g flags t h Subject b e =
+    subst (IsTermFlag Subject (string_of g Subject t.0)) e
+    (flag_is Subject (role_strings g.dictionary Subject) flags.subjects.items t.0 h.subjects)
+told g flags t h Predicate b e =
+    subst (IsTermFlag Predicate (string_of g Predicate t.1)) e
+    (flag_is Predicate (role_strings g.dictionary Predicate) flags.predicates.items t.1 h.predicates)
+told g flags t h Object b e =
+    subst (IsTermFlag Object (string_of g Object t.2)) e
+    (flag_is Object (role_strings g.dictionary Object) flags.objects.items t.2 h.objects)
 
-each_flag : (flags : TermFlags) (t : Triple) → has_line flags t ≡ true → (role : Role) → flag flags t role ≡ true
-each_flag flags t e Subject = (and_parts (flag flags t Subject) (flag flags t Predicate) (and_parts (flag flags t Subject && flag flags t Predicate) (flag flags t Object) e).0).0
-each_flag flags t e Predicate = (and_parts (flag flags t Subject) (flag flags t Predicate) (and_parts (flag flags t Subject && flag flags t Predicate) (flag flags t Object) e).0).1
+each_flag : (flags : TermFlags) (t : Triple) → is_writable flags t ≡ true → (role : Role) → flag flags t role ≡ true
+each_flag flags t e Subject =
+    (and_parts (flag flags t Subject) (flag flags t Predicate)
+    (and_parts (flag flags t Subject && flag flags t Predicate) (flag flags t Object) e).0).0
+each_flag flags t e Predicate =
+    (and_parts (flag flags t Subject) (flag flags t Predicate)
+    (and_parts (flag flags t Subject && flag flags t Predicate) (flag flags t Object) e).0).1
 each_flag flags t e Object = (and_parts (flag flags t Subject && flag flags t Predicate) (flag flags t Object) e).1
 
-false_flag : (flags : TermFlags) (t : Triple) → has_line flags t ≡ false → (role : Role) × (flag flags t role ≡ false)
+false_flag : (flags : TermFlags) (t : Triple) → is_writable flags t ≡ false
+    → (role : Role) × (flag flags t role ≡ false)
 false_flag flags t e = elim (and_cases (flag flags t Subject && flag flags t Predicate) (flag flags t Object) e) [
   | inl front ↦ elim (and_cases (flag flags t Subject) (flag flags t Predicate) front) [
     | inl a ↦ (Subject, a)
@@ -67,7 +82,7 @@ false_flag flags t e = elim (and_cases (flag flags t Subject && flag flags t Pre
   | inr c ↦ (Object, c)
 ]
 
-pub tells : (g : GraphParts) (flags : TermFlags) → AreTermFlags g flags → TellsLines g (has_line flags)
+pub tells : (g : GraphParts) (flags : TermFlags) → AreTermFlags g flags → DecidesWritable g (is_writable flags)
 tells g flags h = record {
   some = λ t e role. told g flags t h role true (each_flag flags t e role);
   none = λ t e. let f = false_flag flags t e in (f.0, told g flags t h f.0 false f.1);

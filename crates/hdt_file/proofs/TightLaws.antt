@@ -11,31 +11,37 @@ use Rattle.hdt_wire.specs.Laws.Checks.{bind_ok}
 use Rattle.hdt_wire.specs.Exact.{Exactly, UniqueValue, UniqueFault}
 use Rattle.hdt_wire.specs.Laws.Exact.{ok_is, each_check, all_checks, holds_if_ok, ok_if_holds, value_or_fault}
 use Rattle.hdt_front.specs.Section.{string_offset}
-use Rattle.hdt_dict.specs.Dictionary.{DictionaryParts, lists_of_dictionary, role_strings}
+use Rattle.hdt_dict.specs.Dictionary.{DictionaryParts, lists_of_dictionary, role_strings, section_by_id}
 use Rattle.hdt_triples.specs.TripleSequences.{Triple, triples_of}
 use Rattle.hdt_triples.specs.Triples.{bitmap_triples}
 use Rattle.hdt_triples.specs.Uses.{Uses, uses}
 use Rattle.hdt_triples.specs.Laws.Uses.{uses_found, uses_only}
-use Rattle.hdt_file.specs.declared.tight.SectionId.{SectionId}
-use Rattle.hdt_file.specs.declared.tight.SectionId.TheVariants as parts
+use Rattle.hdt_dict.specs.declared.dictionary.SectionId.{SectionId}
+use Rattle.hdt_dict.specs.declared.dictionary.SectionId.TheVariants as parts
 use Rattle.hdt_file.specs.File.{FileParts, GraphParts, decode_file, graph_of_file, decode_graph}
 use Rattle.hdt_file.proofs.FileLaws.{file_exact}
-use Rattle.hdt_file.specs.Tight.{IsTight, IsTightLayout, is_used, check_string_used, section_by_id, check_section_used, check_strings_used, decode_tight_graph}
+use Rattle.hdt_file.specs.Tight.{IsTight, IsTightLayout, is_used, check_string_used, check_section_used, check_strings_used, decode_tight_graph}
 
 -- ---- one section
 
-section_found : (d : DictionaryParts) (ts : List Triple) (section : SectionId) → check_section_used d ts section ≡ Ok tt → (n : ℕ) → 1 ≤ n → n ≤ length (section_by_id d section).strings → is_used d ts section n ≡ true
+section_found : (d : DictionaryParts) (ts : List Triple) (section : SectionId) → check_section_used d ts section ≡ Ok tt
+    → (n : ℕ) → 1 ≤ n → n ≤ length (section_by_id d section).strings → is_used d ts section n ≡ true
 unfolding check_string_used
 section_found d ts section h n from to =
-    let row = each_check (check_string_used d ts section) (length (section_by_id d section).strings) 0 h (n - 1) (omega arith) (omega (arith, from, to)) in
+    let row = each_check (check_string_used d ts section) (length (section_by_id d section).strings) 0 h (n - 1)
+    (omega arith) (omega (arith, from, to)) in
     let next : n - 1 + 1 ≡ n = omega (arith, from) in
-    sym (ap (is_used d ts section) next) ∙ holds_if_ok (is_used d ts section (n - 1 + 1)) (string_offset (section_by_id d section) (n - 1)) Unused tt row
+    sym (ap (is_used d ts section) next)
+    ∙ holds_if_ok (is_used d ts section (n - 1 + 1)) (string_offset (section_by_id d section) (n - 1)) Unused tt row
 
-section_only : (d : DictionaryParts) (ts : List Triple) (section : SectionId) → ((n : ℕ) → 1 ≤ n → n ≤ length (section_by_id d section).strings → is_used d ts section n ≡ true) → check_section_used d ts section ≡ Ok tt
+section_only : (d : DictionaryParts) (ts : List Triple) (section : SectionId)
+    → ((n : ℕ) → 1 ≤ n → n ≤ length (section_by_id d section).strings → is_used d ts section n ≡ true)
+    → check_section_used d ts section ≡ Ok tt
 unfolding check_string_used
 section_only d ts section all =
     all_checks (check_string_used d ts section) (length (section_by_id d section).strings) 0
-    (λ i from to. ok_if_holds (is_used d ts section (i + 1)) (string_offset (section_by_id d section) i) Unused (all (i + 1) (omega arith) (omega (arith, to))))
+    (λ i from to. ok_if_holds (is_used d ts section (i + 1)) (string_offset (section_by_id d section) i) Unused
+    (all (i + 1) (omega arith) (omega (arith, to))))
 
 -- ---- all four
 
@@ -44,34 +50,56 @@ abbrev AllUsed : DictionaryParts → List Triple → Type 0
 AllUsed d ts = (role : Role) (n : ℕ) → 1 ≤ n → n ≤ length (role_strings (lists_of_dictionary d) role) → Uses ts role n
 
 -- an ID above those of the shared strings is used if the check of its own section passes
-used_after_shared : (ts : List Triple) (role : Role) (front n : ℕ) → front < n → uses ts role (front + (n - front)) ≡ true → Uses ts role n
+used_after_shared : (ts : List Triple) (role : Role) (front n : ℕ) → front < n
+    → uses ts role (front + (n - front)) ≡ true → Uses ts role n
 used_after_shared ts role front n lt h =
     let same : front + (n - front) ≡ n = omega (arith, lt) in
     uses_found ts role n (sym (ap (uses ts role) same) ∙ h)
 
-all_found : (d : DictionaryParts) (ts : List Triple) → check_section_used d ts parts.Shared ≡ Ok tt → check_section_used d ts parts.Subjects ≡ Ok tt → check_section_used d ts parts.Predicates ≡ Ok tt → check_section_used d ts parts.Objects ≡ Ok tt → AllUsed d ts
+all_found : (d : DictionaryParts) (ts : List Triple) → check_section_used d ts parts.Shared ≡ Ok tt
+    → check_section_used d ts parts.Subjects ≡ Ok tt → check_section_used d ts parts.Predicates ≡ Ok tt
+    → check_section_used d ts parts.Objects ≡ Ok tt → AllUsed d ts
 unfolding is_used
 all_found d ts shared subjects predicates objects Subject n from to =
     elim (cases_lt (length d.shared.strings) n) [
-      | inl lt ↦ used_after_shared ts Subject (length d.shared.strings) n lt (section_found d ts parts.Subjects subjects (n - length d.shared.strings) (omega (arith, lt)) (omega (arith, lt, to, length-append d.shared.strings d.subjects.strings)))
-      | inr le ↦ uses_found ts Subject n (and_parts (uses ts Subject n) (uses ts Object n) (section_found d ts parts.Shared shared n from le)).0
+      | inl lt ↦ used_after_shared ts Subject (length d.shared.strings) n lt
+          (section_found d ts parts.Subjects subjects (n - length d.shared.strings) (omega (arith, lt))
+          (omega (arith, lt, to, length-append d.shared.strings d.subjects.strings)))
+      | inr le ↦ uses_found ts Subject n
+          (and_parts (uses ts Subject n) (uses ts Object n) (section_found d ts parts.Shared shared n from le)).0
     ]
-all_found d ts shared subjects predicates objects Predicate n from to = uses_found ts Predicate n (section_found d ts parts.Predicates predicates n from to)
+all_found d ts shared subjects predicates objects Predicate n from to =
+    uses_found ts Predicate n (section_found d ts parts.Predicates predicates n from to)
 all_found d ts shared subjects predicates objects Object n from to =
     elim (cases_lt (length d.shared.strings) n) [
-      | inl lt ↦ used_after_shared ts Object (length d.shared.strings) n lt (section_found d ts parts.Objects objects (n - length d.shared.strings) (omega (arith, lt)) (omega (arith, lt, to, length-append d.shared.strings d.objects.strings)))
-      | inr le ↦ uses_found ts Object n (and_parts (uses ts Subject n) (uses ts Object n) (section_found d ts parts.Shared shared n from le)).1
+      | inl lt ↦ used_after_shared ts Object (length d.shared.strings) n lt
+          (section_found d ts parts.Objects objects (n - length d.shared.strings) (omega (arith, lt))
+          (omega (arith, lt, to, length-append d.shared.strings d.objects.strings)))
+      | inr le ↦ uses_found ts Object n
+          (and_parts (uses ts Subject n) (uses ts Object n) (section_found d ts parts.Shared shared n from le)).1
     ]
 
 all_only : (d : DictionaryParts) (ts : List Triple) → AllUsed d ts → check_strings_used d ts ≡ Ok tt
 unfolding check_strings_used is_used
 all_only d ts all =
-    let subject : (n : ℕ) → 1 ≤ n → n ≤ length d.shared.strings + length d.subjects.strings → uses ts Subject n ≡ true = λ n from to. uses_only ts Subject n (all Subject n from (omega (arith, to, length-append d.shared.strings d.subjects.strings))) in
-    let object : (n : ℕ) → 1 ≤ n → n ≤ length d.shared.strings + length d.objects.strings → uses ts Object n ≡ true = λ n from to. uses_only ts Object n (all Object n from (omega (arith, to, length-append d.shared.strings d.objects.strings))) in
-    let e0 : check_section_used d ts parts.Shared ≡ Ok tt = section_only d ts parts.Shared (λ n from to. and_from (uses ts Subject n) (uses ts Object n) (subject n from (omega (arith, to))) (object n from (omega (arith, to)))) in
-    let e1 : check_section_used d ts parts.Subjects ≡ Ok tt = section_only d ts parts.Subjects (λ n from to. subject (length d.shared.strings + n) (omega (arith, from)) (omega (arith, to))) in
-    let e2 : check_section_used d ts parts.Predicates ≡ Ok tt = section_only d ts parts.Predicates (λ n from to. uses_only ts Predicate n (all Predicate n from to)) in
-    let e3 : check_section_used d ts parts.Objects ≡ Ok tt = section_only d ts parts.Objects (λ n from to. object (length d.shared.strings + n) (omega (arith, from)) (omega (arith, to))) in
+    let subject : (n : ℕ) → 1 ≤ n → n ≤ length d.shared.strings + length d.subjects.strings → uses ts Subject n ≡ true =
+    λ n from to. uses_only ts Subject n
+    (all Subject n from (omega (arith, to, length-append d.shared.strings d.subjects.strings))) in
+    let object : (n : ℕ) → 1 ≤ n → n ≤ length d.shared.strings + length d.objects.strings → uses ts Object n ≡ true =
+    λ n from to. uses_only ts Object n
+    (all Object n from (omega (arith, to, length-append d.shared.strings d.objects.strings))) in
+    let e0 : check_section_used d ts parts.Shared ≡ Ok tt =
+    section_only d ts parts.Shared
+    (λ n from to. and_from (uses ts Subject n) (uses ts Object n) (subject n from (omega (arith, to)))
+    (object n from (omega (arith, to)))) in
+    let e1 : check_section_used d ts parts.Subjects ≡ Ok tt =
+    section_only d ts parts.Subjects
+    (λ n from to. subject (length d.shared.strings + n) (omega (arith, from)) (omega (arith, to))) in
+    let e2 : check_section_used d ts parts.Predicates ≡ Ok tt =
+    section_only d ts parts.Predicates (λ n from to. uses_only ts Predicate n (all Predicate n from to)) in
+    let e3 : check_section_used d ts parts.Objects ≡ Ok tt =
+    section_only d ts parts.Objects
+    (λ n from to. object (length d.shared.strings + n) (omega (arith, from)) (omega (arith, to))) in
     rw (e0, e1, e2, e3) refl
 
 pub strings_exact : (d : DictionaryParts) (ts : List Triple) → Exactly (check_strings_used d ts) (λ _. AllUsed d ts)
@@ -86,7 +114,8 @@ strings_exact d ts = record {
 
 -- ---- a file
 
-pub tight_exact : (bytes : List ℕ) → IsBytes bytes → length bytes < 2 ^ 64 → Exactly (decode_tight_graph bytes) (IsTightLayout bytes)
+pub tight_exact : (bytes : List ℕ) → IsBytes bytes → length bytes < 2 ^ 64
+    → Exactly (decode_tight_graph bytes) (IsTightLayout bytes)
 unfolding decode_tight_graph
 tight_exact bytes fits small =
     let exact = file_exact bytes fits small in
@@ -97,19 +126,29 @@ tight_exact bytes fits small =
           let same = ok_is (graph_of_file file) g e in
           record {
             layout = record { file = file; is = exact.found file e1; of = same };
-            tight = subst IsTight same ((strings_exact file.dictionary (triples_of (bitmap_triples file.triples))).found u e2);
+            tight = subst IsTight same
+                ((strings_exact file.dictionary (triples_of (bitmap_triples file.triples))).found u e2);
           }));
       only = λ g h.
           let file = h.layout.file in
-          rw (exact.only file h.layout.is, all_only file.dictionary (triples_of (bitmap_triples file.triples)) (subst IsTight (sym h.layout.of) h.tight)) (ap (λ (y : GraphParts). Ok y) h.layout.of);
+          rw (
+            exact.only file h.layout.is,
+            all_only file.dictionary (triples_of (bitmap_triples file.triples))
+                (subst IsTight (sym h.layout.of) h.tight),
+          ) (ap (λ (y : GraphParts). Ok y) h.layout.of);
     }
 
-pub tight_or_fault : (bytes : List ℕ) → IsBytes bytes → length bytes < 2 ^ 64 → UniqueValue (decode_tight_graph bytes) (IsTightLayout bytes) ⊎ UniqueFault (decode_tight_graph bytes) (IsTightLayout bytes)
-tight_or_fault bytes fits small = value_or_fault (decode_tight_graph bytes) (IsTightLayout bytes) (tight_exact bytes fits small)
+pub tight_or_fault : (bytes : List ℕ) → IsBytes bytes → length bytes < 2 ^ 64
+    → UniqueValue (decode_tight_graph bytes) (IsTightLayout bytes)
+    ⊎ UniqueFault (decode_tight_graph bytes) (IsTightLayout bytes)
+tight_or_fault bytes fits small =
+    value_or_fault (decode_tight_graph bytes) (IsTightLayout bytes) (tight_exact bytes fits small)
 
 -- the error of a file without the checks of used strings is also its error with them
 
-same_fault : (r : Result FileParts Fault) (f : Fault) → (r >>= λ file. Ok (graph_of_file file)) ≡ Err f → (r >>= λ file. check_strings_used file.dictionary (triples_of (bitmap_triples file.triples)) >>= λ _. Ok (graph_of_file file)) ≡ Err f
+same_fault : (r : Result FileParts Fault) (f : Fault) → (r >>= λ file. Ok (graph_of_file file)) ≡ Err f
+    → (r >>= λ file. check_strings_used file.dictionary (triples_of (bitmap_triples file.triples)) >>= λ _. Ok
+    (graph_of_file file)) ≡ Err f
 same_fault (Ok file) f h = absurd (cc)
 same_fault (Err e) f h = h
 

@@ -14,13 +14,13 @@ abbrev pub CachesTerm : GraphParts → Role → Option ℕ → List ℕ → Type
 CachesTerm g role None text = ⊤
 CachesTerm g role (Some n) text = AppendsTerm role (string_of g role n) [] text
 
--- the same of a predicate
+-- `CachesTerm` of a predicate
 abbrev pub CachesPredicate : GraphParts → CachedTerm → Type 0
-CachesPredicate g s = CachesTerm g Predicate s.number s.text.items
+CachesPredicate g s = CachesTerm g Predicate s.id s.text.items
 
 -- the last term of each role, and terms of predicates
 pub record CachesTerms (g : GraphParts) (s : TermWriter) : Type 0 where
-  pub subject : CachesTerm g Subject s.subject.number s.subject.text.items
-  pub predicate : CachesTerm g Predicate s.predicate.number s.predicate.text.items
-  pub object : CachesTerm g Object s.object.number s.object.text.items
-  pub kept : All (CachesPredicate g) s.kept.items
+  pub subject : CachesTerm g Subject s.subject.id s.subject.text.items
+  pub predicate : CachesTerm g Predicate s.predicate.id s.predicate.text.items
+  pub object : CachesTerm g Object s.object.id s.object.text.items
+  pub cached_predicates : All (CachesPredicate g) s.cached_predicates.items

@@ -12,7 +12,7 @@ use Rattle.hdt_dict.specs.Dictionary.{role_strings}
 abbrev pub StringTriple : Type 0
 StringTriple = List ℕ × List ℕ × List ℕ
 
--- the string with ID n, from 1, of a role; the empty string if there is no such ID, which no triple of a layout has
+-- the string with ID n, from 1, of a role; the empty string if there is no such ID, which no triple of a valid file has
 abbrev pub string_of : GraphParts → Role → ℕ → List ℕ
 string_of g role n = unwrap_or (string_at_id (role_strings g.dictionary role) n) []
 

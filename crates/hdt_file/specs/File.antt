@@ -5,10 +5,11 @@ use Rattle.hdt_wire.specs.declared.fault.Fault.{Fault}
 use Rattle.hdt_wire.specs.declared.fault.Reason.TheVariants.{TrailingBytes}
 use Rattle.hdt_wire.specs.Checks.{◌>>=◌, demand}
 use Rattle.hdt_wire.specs.Exact.{viewed}
-use Rattle.hdt_dict.specs.Dictionary.{DictionaryParts, SectionLists, IsDictionary, lists_of_dictionary, role_strings}
+use Rattle.hdt_dict.specs.Dictionary.{DictionaryParts, SectionLists, IsDictionaryAt, lists_of_dictionary, role_strings}
 use Rattle.hdt_wire.specs.declared.role.Role.TheVariants.{Subject, Predicate, Object}
-use Rattle.hdt_triples.specs.TripleSequences.{Counts, Triple, triples_of}
-use Rattle.hdt_triples.specs.Triples.{TripleParts, bitmap_triples, IsTriples, decode_triple_parts}
+use Rattle.hdt_triples.specs.TripleSequences.{Triple, triples_of}
+use Rattle.hdt_triples.specs.declared.pattern.Counts.{Counts}
+use Rattle.hdt_triples.specs.Triples.{TripleParts, bitmap_triples, IsTriplesAt, decode_triple_parts}
 use Rattle.hdt_file.specs.Head.{HeadParts, IsHead}
 use Rattle.hdt_file.specs.Dictionary.{decode_head_and_dictionary}
 
@@ -20,7 +21,11 @@ pub record FileParts : Type 0 where
 
 -- the number of strings of each role
 abbrev pub role_counts : SectionLists → Counts
-role_counts d = record { subjects = length (role_strings d Subject); predicates = length (role_strings d Predicate); objects = length (role_strings d Object) }
+role_counts d = record {
+  subjects = length (role_strings d Subject);
+  predicates = length (role_strings d Predicate);
+  objects = length (role_strings d Object);
+}
 
 -- the number of strings of each role: the IDs of a role are 1 to this number
 abbrev pub dictionary_counts : DictionaryParts → Counts
@@ -29,8 +34,8 @@ dictionary_counts d = role_counts (lists_of_dictionary d)
 -- the bytes, all of them, encode the file
 pub record IsFile (file : FileParts) (bytes : List ℕ) : Type 0 where
   pub head : IsHead file.head bytes
-  pub dictionary : IsDictionary file.dictionary bytes file.head.end
-  pub triples : IsTriples (dictionary_counts file.dictionary) file.triples bytes file.dictionary.objects.end
+  pub dictionary : IsDictionaryAt file.dictionary bytes file.head.end
+  pub triples : IsTriplesAt (dictionary_counts file.dictionary) file.triples bytes file.dictionary.objects.end
   pub end : file.triples.array_z.end ≡ length bytes
 
 -- decodes a file, or returns the first error
@@ -51,7 +56,12 @@ pub record GraphParts : Type 0 where
 
 -- the graph of a decoded file
 abbrev pub graph_of_file : FileParts → GraphParts
-graph_of_file file = record { header = file.head.body; dictionary = lists_of_dictionary file.dictionary; triples = triples_of (bitmap_triples file.triples) }
+graph_of_file file = record {
+  header = file.head.body;
+  dictionary = lists_of_dictionary file.dictionary;
+  triples =
+      triples_of (bitmap_triples file.triples);
+}
 
 -- the bytes are a valid encoding of the graph
 pub record IsLayout (bytes : List ℕ) (graph : GraphParts) : Type 0 where

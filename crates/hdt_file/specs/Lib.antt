@@ -1,4 +1,3 @@
-pub mod Decimal
 pub mod Denoted
 pub mod Dictionary
 pub mod Documents
@@ -7,18 +6,15 @@ pub mod File
 pub mod Graph
 pub mod Head
 pub mod Info
-pub mod LayoutView
 pub mod NonTerms
 pub mod Paging
-pub mod LayoutParts
 pub mod Search
-pub mod SkippedLines
+pub mod Writable
 pub mod StringTriples
 pub mod TermFlags
 pub mod Text
 pub mod TextWriting
 pub mod Tight
-pub mod GraphView
 pub mod Laws
 pub mod Inside
 pub mod CachedTerms

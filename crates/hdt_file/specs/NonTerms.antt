@@ -5,7 +5,7 @@ use Rattle.hdt_wire.specs.declared.role.Role.TheVariants.{Subject, Predicate, Ob
 use Rattle.hdt_front.specs.Section.{SectionParts, string_offset}
 use Rattle.hdt_dict.specs.Dictionary.{DictionaryParts}
 use Rattle.hdt_file.specs.File.{FileParts, IsFile, graph_of_file}
-use Rattle.hdt_file.specs.GraphView.{graph_counts}
+use Rattle.hdt_file.specs.Graph.{graph_counts}
 use Rattle.hdt_file.specs.Text.{HasTerm, HasNoTerm}
 use Rattle.hdt_file.specs.declared.non_terms.NonTerm.{NonTerm}
 use Rattle.hdt_file.specs.declared.non_terms.TermVerdict.{TermVerdict}
@@ -14,7 +14,8 @@ use Rattle.hdt_file.specs.declared.non_terms.TermVerdict.{TermVerdict}
 -- the byte offset `place i`.
 abbrev pub AreNonTermsFrom : Role → ℕ → (ℕ → ℕ) → ℕ → List (List ℕ) → List NonTerm → Type 0
 AreNonTermsFrom role before place i [] found = found ≡ []
-AreNonTermsFrom role before place i (x ∷ xs) found = (HasTerm role x × AreNonTermsFrom role before place (i + 1) xs found)
+AreNonTermsFrom role before place i (x ∷ xs) found =
+    (HasTerm role x × AreNonTermsFrom role before place (i + 1) xs found)
     ⊎ (HasNoTerm role x × (more : List NonTerm) × AreNonTermsFrom role before place (i + 1) xs more
     × (found ≡ record { role = role; number = before + i + 1; place = place i } ∷ more))
 

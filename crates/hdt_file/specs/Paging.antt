@@ -14,8 +14,14 @@ pub record IsNextMatch (ts : List Triple) (pattern : Pattern) (from most next : 
   -- there are at least `most` triples before it
   pub later : from + most ≤ next
 
--- Each match is reached by its number among the matches: the pattern gives nothing, a subject, a subject and a predicate
+-- Each match is reached by its number among the matches: the pattern gives nothing, a subject, a subject and a
+-- predicate
 -- (then they are consecutive triples), or only an object (then they are its list).
 pub record HasPositions (p : Pattern) : Type 0 where
   pub predicate : p.s ≡ None → p.p ≡ None
   pub object : (p.s ≡ None) ⊎ (p.o ≡ None)
+
+-- The matches of the pattern are consecutive triples: it gives no object, and a predicate only with a subject.
+pub record HasConsecutiveMatches (p : Pattern) : Type 0 where
+  pub object : p.o ≡ None
+  pub predicate : p.s ≡ None → p.p ≡ None

@@ -33,4 +33,5 @@ part_steps d role (Some x) = role_search_cost d role
 
 -- the most steps of looking up all three
 abbrev pub pattern_steps : DictionaryParts → List (Option BorrowedString) → ℕ
-pattern_steps d given = part_steps d Subject (string_given given 0) + part_steps d Predicate (string_given given 1) + part_steps d Object (string_given given 2)
+pattern_steps d given = part_steps d Subject (string_given given 0) + part_steps d Predicate
+    (string_given given 1) + part_steps d Object (string_given given 2)

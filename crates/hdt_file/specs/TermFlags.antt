@@ -29,5 +29,6 @@ term_flag flags zero = false
 term_flag flags (suc i) = slice_index_or flags i false
 
 -- whether the flags of all three strings are true
-abbrev pub has_line : TermFlags → Triple → Bool
-has_line flags t = term_flag flags.subjects.items t.0 && term_flag flags.predicates.items t.1 && term_flag flags.objects.items t.2
+abbrev pub is_writable : TermFlags → Triple → Bool
+is_writable flags t = term_flag flags.subjects.items t.0 && term_flag flags.predicates.items t.1 && term_flag
+    flags.objects.items t.2

@@ -55,7 +55,8 @@ pub record AppendsLine (g : GraphParts) (t : Triple) (old new : List ℕ) : Type
 
 -- the error names the first string of the triple that is not a term which its role allows; or memory ran out
 abbrev pub ReportsNonTermOfTriple : GraphParts → Triple → DumpFault → Type 0
-ReportsNonTermOfTriple g t (NotATerm role n) = IsFirstNonTermOfTriple (denoted_triple g t) role × (n ≡ role_component role t)
+ReportsNonTermOfTriple g t (NotATerm role n) = IsFirstNonTermOfTriple (denoted_triple g t) role
+    × (n ≡ role_component role t)
 ReportsNonTermOfTriple g t (Write k) = ⊥
 ReportsNonTermOfTriple g t OutOfMemory = ⊤
 

@@ -8,12 +8,12 @@ use Rattle.hdt_wire.specs.declared.role.Role.TheVariants.{Subject, Predicate, Ob
 use Rattle.hdt_wire.specs.Checks.{◌>>=◌, demand}
 use Rattle.hdt_wire.specs.ItemChecks.{checks_from}
 use Rattle.hdt_front.specs.Section.{SectionParts, string_offset}
-use Rattle.hdt_dict.specs.Dictionary.{DictionaryParts, section_by_index, role_strings}
+use Rattle.hdt_dict.specs.Dictionary.{DictionaryParts, section_by_id, role_strings}
 use Rattle.hdt_triples.specs.TripleSequences.{Triple, triples_of}
 use Rattle.hdt_triples.specs.Triples.{bitmap_triples}
 use Rattle.hdt_triples.specs.Uses.{Uses, uses}
-use Rattle.hdt_file.specs.declared.tight.SectionId.{SectionId}
-use Rattle.hdt_file.specs.declared.tight.SectionId.TheVariants as parts
+use Rattle.hdt_dict.specs.declared.dictionary.SectionId.{SectionId}
+use Rattle.hdt_dict.specs.declared.dictionary.SectionId.TheVariants as parts
 use Rattle.hdt_file.specs.File.{GraphParts, IsLayout, decode_file, graph_of_file}
 
 -- each ID of each role, from 1 to the number of strings, occurs in that role in a triple
@@ -27,17 +27,6 @@ pub record IsTightLayout (bytes : List ℕ) (graph : GraphParts) : Type 0 where
 
 -- ---- the checks
 
--- the index of a section, from 0
-abbrev pub section_index : SectionId → ℕ
-section_index parts.Shared = 0
-section_index parts.Subjects = 1
-section_index parts.Predicates = 2
-section_index parts.Objects = 3
-
--- the strings of a section with their byte offsets
-abbrev pub section_by_id : DictionaryParts → SectionId → SectionParts
-section_by_id d section = section_by_index d (section_index section)
-
 -- whether triples use string n, from 1, of a section: a shared string in both roles; the IDs of the subjects section
 -- and of the objects section follow those of the shared strings
 unfoldable pub is_used : DictionaryParts → List Triple → SectionId → ℕ → Bool
@@ -48,11 +37,13 @@ is_used d ts parts.Objects n = uses ts Object (length d.shared.strings + n)
 
 -- the check of string i, from 0, of a section
 unfoldable pub check_string_used : DictionaryParts → List Triple → SectionId → ℕ → Result (Unit {0}) Fault
-check_string_used d ts section i = demand (is_used d ts section (i + 1)) (string_offset (section_by_id d section) i) Unused
+check_string_used d ts section i =
+    demand (is_used d ts section (i + 1)) (string_offset (section_by_id d section) i) Unused
 
 -- the checks of all strings of a section
 abbrev pub check_section_used : DictionaryParts → List Triple → SectionId → Result (Unit {0}) Fault
-check_section_used d ts section = checks_from (check_string_used d ts section) 0 (length (section_by_id d section).strings)
+check_section_used d ts section =
+    checks_from (check_string_used d ts section) 0 (length (section_by_id d section).strings)
 
 -- the checks of all strings, section by section
 unfoldable pub check_strings_used : DictionaryParts → List Triple → Result (Unit {0}) Fault

@@ -21,7 +21,8 @@ fn read_by_checks<'a>(
 ) -> Result<(Head<'a>, Dictionary<'a>, usize), OpenFault>
     ensures exact { ReadsUnlessOom open_fault_of head_and_dictionary_of result (decode_head_and_dictionary bytes.now) }
     ensures next { IfOk result (λ r. r.2 ≡ (dictionary_of r.1).objects.end) }
-    ensures few { IfOk result (λ r. (role : Role) → length (role_strings (lists_of_dictionary (dictionary_of r.1)) role) ≤ length bytes.now) }
+    ensures few { IfOk result (λ r. (role : Role) → length (role_strings (lists_of_dictionary (dictionary_of r.1)) role)
+        ≤ length bytes.now) }
 {
     let head = read_head(bytes)?;
     let (dictionary, end) = Dictionary::read(alloc, bytes, head.end())?;
@@ -46,12 +47,14 @@ pub fn read_dictionary<'a>(
     // What is returned is encoded at the start of the file.
     ensures found { IfOk result (λ r. IsHeadAndDictionary (head_and_dictionary_of r) bytes.now) }
     // What is encoded there is returned, unless memory ran out.
-    ensures only { (front : HeadAndDictionary) → IsHeadAndDictionary front bytes.now → ReadsUnlessOom open_fault_of head_and_dictionary_of result (Ok front) }
+    ensures only { (front : HeadAndDictionary) → IsHeadAndDictionary front bytes.now
+        → ReadsUnlessOom open_fault_of head_and_dictionary_of result (Ok front) }
     // Otherwise it is the first error.
     ensures exact { ReadsUnlessOom open_fault_of head_and_dictionary_of result (decode_head_and_dictionary bytes.now) }
     ensures next { IfOk result (λ r. r.2 ≡ (dictionary_of r.1).objects.end) }
     // A role has at most as many strings as the input has bytes.
-    ensures few { IfOk result (λ r. (role : Role) → length (role_strings (lists_of_dictionary (dictionary_of r.1)) role) ≤ length bytes.now) }
+    ensures few { IfOk result (λ r. (role : Role) → length (role_strings (lists_of_dictionary (dictionary_of r.1)) role)
+        ≤ length bytes.now) }
 {
     read_by_checks(alloc, bytes)
 }
@@ -59,5 +62,6 @@ pub fn read_dictionary<'a>(
 /// The checks of the head and the dictionary are exact: they return what is encoded at the start of the file.
 #[tactic(auto, using(crate::proofs::HeadLaws::front_exact))]
 pub fn head_and_dictionary_are_exact()
-    ensures { (bytes : List ℕ) → IsBytes bytes → length bytes < 2 ^ 64 → Exactly (decode_head_and_dictionary bytes) (λ front. IsHeadAndDictionary front bytes) }
+    ensures { (bytes : List ℕ) → IsBytes bytes → length bytes < 2 ^ 64
+        → Exactly (decode_head_and_dictionary bytes) (λ front. IsHeadAndDictionary front bytes) }
 {}

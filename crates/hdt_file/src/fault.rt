@@ -39,6 +39,14 @@ impl From<ReadFault> for OpenFault {
     }
 }
 
+impl From<AllocError> for OpenFault {
+    ghost from_gives = { λ _ e. e ≡ opens.OutOfMemory };
+
+    fn from(_error: AllocError) -> OpenFault {
+        OpenFault::OutOfMemory
+    }
+}
+
 /// Why the text of a graph's triples was not written, or only in part.
 #[derive(Clone, Copy, Debug, PartialEq, Eq, Error)]
 pub enum DumpFault {

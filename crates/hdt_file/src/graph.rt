@@ -6,7 +6,7 @@ ghost use Rattle.hdt_file.specs.File.{dictionary_counts};
 
 use crate::head::Head;
 use crate::layout::Layout;
-use hdt_dict::{Dictionary, PrefixRanges, Role, RoleCursor};
+use hdt_dict::{Dictionary, PrefixRanges, Role, RoleIter};
 use hdt_seq::Steps;
 use hdt_triples::ListedTriples;
 use std::alloc::{AllocError, Global};
@@ -29,18 +29,15 @@ pub struct Graph<'a> {
     ghost roles: { string_counts (triples_listed triples) ≡ dictionary_counts (dictionary_of dictionary) },
 }
 
-#[tactic(auto, unfolding(crate::specs::GraphView::graph_view, crate::specs::LayoutParts::parts_of_graph))]
+#[tactic(auto, unfolding(crate::specs::Graph::graph_view, crate::specs::Graph::parts_of_graph))]
 impl<'a> Graph<'a> {
     ghost use Rattle.std.specs.Prelude.{◌∷◌, ◌↔◌, ◌≤◌, ◌+◌, ◌*◌, [], Some, None, IsOk, OnErr, IsTrue};
     ghost use Rattle.hdt_dict.specs.StringBatch.{AppendsAll, AreIds, AscendTo};
     ghost use Rattle.hdt_dict.specs.Ids.{string_at_id, AppendsString};
     ghost use Rattle.hdt_dict.specs.Prefixes.{IsInRanges, RangesAscend, SomeBeginsWith};
     ghost use Rattle.hdt_triples.specs.Uses.{Uses};
-    ghost use Rattle.hdt_file.specs.Graph.{IsGraph};
-    ghost use Rattle.hdt_file.specs.LayoutView.{layout_view};
+    ghost use Rattle.hdt_file.specs.Graph.{IsGraph, layout_view, parts_dictionary, parts_held, parts_of_graph, parts_of_layout, graph_view};
     ghost use Rattle.hdt_dict.specs.Cost.{role_decode_cost, role_search_cost};
-    ghost use Rattle.hdt_file.specs.LayoutParts.{parts_dictionary, parts_held, parts_of_graph, parts_of_layout};
-    ghost use Rattle.hdt_file.specs.GraphView.{graph_view};
     ghost use Rattle.hdt_dict.specs.Dictionary.{role_strings};
 
     /// A law: this is the graph of a valid file. The strings of each section are UTF-8 without zero bytes and strictly
@@ -49,7 +46,7 @@ impl<'a> Graph<'a> {
     pub fn is_graph(&self)
         ensures { IsGraph (graph_view self.now) }
     {
-        self.dictionary.are_sections();
+        self.dictionary.sections_are_valid();
     }
 
     /// Returns the header body, borrowed from the input: N-Triples about the file, which are not parsed.
@@ -60,7 +57,7 @@ impl<'a> Graph<'a> {
     }
 
     /// Returns the same file without indexes.
-    #[tactic(auto, unfolding(crate::specs::GraphView::graph_view, crate::specs::LayoutView::layout_view, crate::specs::LayoutParts::parts_of_graph, crate::specs::LayoutParts::parts_of_layout))]
+    #[tactic(auto, unfolding(crate::specs::Graph::graph_view, crate::specs::Graph::layout_view, crate::specs::Graph::parts_of_graph, crate::specs::Graph::parts_of_layout))]
     pub fn layout(&self) -> Layout<'a>
         ensures seen { layout_view result ≡ graph_view self.now }
         ensures parts { parts_of_layout result ≡ parts_of_graph self.now }
@@ -80,9 +77,11 @@ impl<'a> Graph<'a> {
     }
 
     /// Returns the number of strings of each section: shared, subjects, predicates, objects.
-    #[tactic(auto, unfolding(crate::specs::GraphView::graph_view, crate::specs::LayoutParts::parts_of_graph, hdt_dict::specs::Views::dictionary_of))]
+    #[tactic(auto, unfolding(crate::specs::Graph::graph_view, crate::specs::Graph::parts_of_graph, hdt_dict::specs::Views::dictionary_of))]
     pub fn section_lens(&self) -> [u64; 4]
-        ensures { result ≡ length (graph_view self.now).dictionary.shared ∷ length (graph_view self.now).dictionary.subjects ∷ length (graph_view self.now).dictionary.predicates ∷ length (graph_view self.now).dictionary.objects ∷ [] }
+        ensures { result ≡ length (graph_view self.now).dictionary.shared
+            ∷ length (graph_view self.now).dictionary.subjects ∷ length (graph_view self.now).dictionary.predicates
+            ∷ length (graph_view self.now).dictionary.objects ∷ [] }
     {
         self.dictionary.section_lens()
     }
@@ -111,7 +110,7 @@ impl<'a> Graph<'a> {
     }
 
     /// Returns a cursor over the strings of a role, in the order of their IDs. Each is decoded once.
-    pub fn strings(&self, alloc: Global, role: Role) -> RoleCursor<'a>
+    pub fn strings(&self, alloc: Global, role: Role) -> RoleIter<'a>
         ensures { result ≡ record { given = 0; last = []; ahead = role_strings (graph_view self.now).dictionary role } }
     {
         self.dictionary.strings(alloc, role)
@@ -128,18 +127,20 @@ impl<'a> Graph<'a> {
     /// Returns the ID of a string in a role, from 1, or `None` if the role has no such string. It costs a binary search
     /// over the blocks of the role's sections and a scan of one block of each.
     pub fn number_of(&self, role: Role, x: &[u8], steps: &mut Steps) -> Option<u64>
-        ensures exact { (n : ℕ) → (result ≡ Some n) ↔ (string_at_id (role_strings (graph_view self.now).dictionary role) n ≡ Some x.now) }
+        ensures exact { (n : ℕ) → (result ≡ Some n)
+            ↔ (string_at_id (role_strings (graph_view self.now).dictionary role) n ≡ Some x.now) }
         ensures cost { steps.new ≤ steps.old + role_search_cost (parts_dictionary (parts_of_graph self.now)) role }
         ensures more { steps.old ≤ steps.new }
     {
         self.dictionary.number_of(role, x, steps)
     }
 
-    /// Returns the IDs, from 1, of the strings of a role that begin with a prefix, which may be any bytes: all IDs if it
-    /// is empty. It takes at most twice the steps of [`Graph::number_of`], and allocates nothing.
+    /// Returns the IDs, from 1, of the strings of a role that begin with a prefix, which may be any bytes: all IDs if
+    /// it is empty. It takes at most twice the steps of [`Graph::number_of`], and allocates nothing.
     pub fn ids_with_prefix(&self, role: Role, prefix: &[u8], steps: &mut Steps) -> PrefixRanges
         // An ID is in one of the ranges exactly if its string begins with the prefix.
-        ensures exact { (n : ℕ) → IsInRanges result n ↔ SomeBeginsWith prefix.now (string_at_id (role_strings (graph_view self.now).dictionary role) n) }
+        ensures exact { (n : ℕ) → IsInRanges result n
+            ↔ SomeBeginsWith prefix.now (string_at_id (role_strings (graph_view self.now).dictionary role) n) }
         ensures ascend { RangesAscend result (length (role_strings (graph_view self.now).dictionary role)) }
         ensures cost { steps.new ≤ steps.old + 2 * role_search_cost (parts_dictionary (parts_of_graph self.now)) role }
         ensures more { steps.old ≤ steps.new }
@@ -156,7 +157,8 @@ impl<'a> Graph<'a> {
         out: &mut Vec<u8>,
         steps: &mut Steps,
     ) -> Result<bool, AllocError>
-        ensures ok { IfOk result (λ appended. AppendsString (string_at_id (role_strings (graph_view self.now).dictionary role) n) appended out.old.items out.new.items) }
+        ensures ok { IfOk result (λ appended. AppendsString
+            (string_at_id (role_strings (graph_view self.now).dictionary role) n) appended out.old.items out.new.items) }
         ensures err { OnErr result (out.new.items ≡ out.old.items) }
         ensures cost { steps.new ≤ steps.old + role_decode_cost (parts_dictionary (parts_of_graph self.now)) role }
         ensures absent { string_at_id (role_strings (graph_view self.now).dictionary role) n ≡ None → IsOk result }
@@ -180,14 +182,16 @@ impl<'a> Graph<'a> {
         ends: &mut Vec<u64>,
         steps: &mut Steps,
     ) -> Result<bool, AllocError>
-        ensures ok { IfOk result (λ all. AppendsAll (role_strings (graph_view self.now).dictionary role) numbers.now all out.old.items out.new.items ends.old.items ends.new.items) }
+        ensures ok { IfOk result (λ all. AppendsAll (role_strings (graph_view self.now).dictionary role) numbers.now all
+            out.old.items out.new.items ends.old.items ends.new.items) }
         ensures err { OnErr result ((out.new.items ≡ out.old.items) × (ends.new.items ≡ ends.old.items)) }
-        ensures cost { steps.new ≤ steps.old + length numbers.now * role_decode_cost (parts_dictionary (parts_of_graph self.now)) role }
+        ensures cost { steps.new ≤ steps.old + length numbers.now * role_decode_cost
+            (parts_dictionary (parts_of_graph self.now)) role }
         ensures once { (n : ℕ) → AscendTo numbers.now n → steps.new ≤ steps.old + n }
         ensures more { steps.old ≤ steps.new }
         ensures absent { (AreIds (role_strings (graph_view self.now).dictionary role) numbers.now → ⊥) → IsOk result }
     {
         self.dictionary
-            .strings_of(alloc, role, numbers, out, ends, steps)
+            .strings_by_id(alloc, role, numbers, out, ends, steps)
     }
 }

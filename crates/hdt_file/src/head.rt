@@ -1,9 +1,8 @@
 //! The head of a file: global control information, that of the header, and the header body.
 ghost use Rattle.std.specs.Prelude.{◌≡◌, ℕ, List, ◌<◌, ◌^◌, length, Ok, IfOk};
 ghost use Rattle.hdt_wire.specs.Checks.{Reads, IsBytes};
-ghost use Rattle.hdt_wire.specs.Control.{control_info_of};
-ghost use Rattle.hdt_file.specs.Head.{HeadParts, head_parts, body_length, decode_head, IsHead};
-ghost use Rattle.hdt_file.specs.Decimal.{decimal_number};
+ghost use Rattle.hdt_wire.specs.Control.{control_view};
+ghost use Rattle.hdt_file.specs.Head.{HeadParts, head_parts, body_length, decode_head, decimal_number, IsHead};
 
 use hdt_wire::{Control, Fault, Kind, Reason, bytes_at, property, read_control};
 
@@ -19,19 +18,19 @@ pub struct Head<'a> {
 #[tactic(auto, unfolding(crate::specs::Head::head_parts))]
 impl<'a> Head<'a> {
     ghost use Rattle.std.specs.Prelude.{◌≡◌};
-    ghost use Rattle.hdt_wire.specs.Control.{control_info_of};
+    ghost use Rattle.hdt_wire.specs.Control.{control_view};
     ghost use Rattle.hdt_file.specs.Head.{head_parts};
 
     /// Returns the global control information.
     pub fn global(&self) -> Control<'a>
-        ensures { control_info_of result ≡ (head_parts self.now).global }
+        ensures { control_view result ≡ (head_parts self.now).global }
     {
         self.global
     }
 
     /// Returns the control information of the header.
     pub fn header(&self) -> Control<'a>
-        ensures { control_info_of result ≡ (head_parts self.now).header }
+        ensures { control_view result ≡ (head_parts self.now).header }
     {
         self.header
     }
@@ -53,7 +52,7 @@ impl<'a> Head<'a> {
 
 /// The length of the header body in bytes, as the property `length` states it.
 fn body_length(header: &Control<'_>) -> Result<u64, Fault>
-    ensures { result ≡ body_length (control_info_of header.now) }
+    ensures { result ≡ body_length (control_view header.now) }
 {
     let fault = Fault {
         place: header.properties_at() as u64,

@@ -1,19 +1,18 @@
 //! The sizes of a file's parts.
-ghost use Rattle.std.specs.Prelude.{◌≡◌, ◌≤◌, ◌<◌, length, Err, IfErr, IfOk, IfSome, Ok};
+ghost use Rattle.std.specs.Prelude.{◌≡◌, Err, IfErr, IfOk, IfSome, Ok};
 ghost use Rattle.hdt_wire.specs.Checks.{ReadsUnlessOom};
-ghost use Rattle.hdt_front.specs.Faults.{read_fault_of};
-ghost use Rattle.hdt_front.specs.Strings.{strings_of};
+ghost use Rattle.hdt_front.specs.Strings.{section_of, strings_of};
+ghost use Rattle.hdt_dict.specs.Views.{dictionary_of};
 ghost use Rattle.hdt_file.specs.Faults.{open_fault_of};
 ghost use Rattle.hdt_file.specs.File.{decode_graph};
-ghost use Rattle.hdt_file.specs.Info.{IsFileInfo, total_len};
-ghost use Rattle.hdt_file.specs.Inside.InfoChecks.{section_info_at, dictionary_info_at, entry_bits_at, info_by_checks};
+ghost use Rattle.hdt_file.specs.Graph.{parts_of_layout};
+ghost use Rattle.hdt_file.specs.Info.{IsFileInfo, total_len, section_info, dictionary_info, file_info, decode_info};
 
 use crate::fault::OpenFault;
-use crate::head::read_head;
 use crate::layout::Layout;
-use hdt_front::{ReadFault, Section, SectionIter};
-use hdt_seq::{Bits, Numbers, byte_at};
-use hdt_wire::{Fault, Kind, read_control, read_vbyte};
+use hdt_dict::{Dictionary, SectionId};
+use hdt_front::{Section, SectionIter};
+use hdt_wire::{Kind, read_control};
 use std::alloc::{AllocError, Global};
 
 /// The sizes of a section of the dictionary.
@@ -80,98 +79,85 @@ fn string_bytes(alloc: Global, section: &Section<'_>) -> Result<u128, AllocError
     let mut total: u128 = 0;
     'strings: for i in 0..section.len() {
         strings.next()?;
-        total += strings.last().len() as u128;
+        total += strings.string().len() as u128;
     }
     Ok(total)
 }
 
-/// Reads the section at a byte offset. Returns its sizes and the offset after it.
-#[tactic(auto, unfolding(crate::specs::Inside::InfoChecks::section_info_at, hdt_front::specs::Strings::section_of))]
-fn section_info(alloc: Global, bytes: &[u8], at: usize) -> Result<(SectionInfo, usize), ReadFault>
-    ensures exact { ReadsUnlessOom read_fault_of (λ r. r) result (section_info_at bytes.now at) }
-    ensures end { IfOk result (λ r. (at < r.1) × (r.1 ≤ length bytes.now)) }
+/// The sizes of a section that begins at a byte offset.
+#[tactic(auto, unfolding(hdt_front::specs::Strings::section_of))]
+fn section_info(alloc: Global, section: &Section<'_>, at: usize) -> Result<SectionInfo, AllocError>
+    ensures { IfOk result (λ info. info ≡ section_info (section_of section.now) at) }
 {
-    let (section, end) = Section::read(alloc, bytes, at)?;
-    let string_bytes = string_bytes(alloc, &section)?;
-    let (_, size_at) = read_vbyte(bytes, at + 1)?;
-    let (_, block_size_at) = read_vbyte(bytes, size_at)?;
-    let (block_size, crc_at) = read_vbyte(bytes, block_size_at)?;
-    let (offset_bits, _) = byte_at(bytes, crc_at + 2)?;
-    let info = SectionInfo {
-        bytes: (end - at) as u64,
+    Ok(SectionInfo {
+        bytes: section.end().saturating_sub(at) as u64,
         strings: section.len(),
-        block_size,
-        string_bytes,
-        offset_bits,
-    };
-    Ok((info, end))
+        block_size: section.block_size(),
+        string_bytes: string_bytes(alloc, section)?,
+        offset_bits: section.offset_bits(),
+    })
 }
 
-/// Reads the dictionary at a byte offset. Returns the sizes of its sections and the offset after it.
-#[tactic(auto, unfolding(crate::specs::Inside::InfoChecks::dictionary_info_at, hdt_wire::specs::Control::control_info_of))]
+/// The sizes of the sections of a dictionary, the first of which begins at a byte offset.
 fn dictionary_info(
     alloc: Global,
-    bytes: &[u8],
+    dictionary: &Dictionary<'_>,
     at: usize,
-) -> Result<(DictionaryInfo, usize), ReadFault>
-    ensures { ReadsUnlessOom read_fault_of (λ r. r) result (dictionary_info_at bytes.now at) }
+) -> Result<DictionaryInfo, AllocError>
+    ensures { IfOk result (λ info. info ≡ dictionary_info (dictionary_of dictionary.now) at) }
 {
-    let control = read_control(bytes, at, Kind::Dictionary)?;
-    let (shared, subjects_at) = section_info(alloc, bytes, control.end())?;
-    let (subjects, predicates_at) = section_info(alloc, bytes, subjects_at)?;
-    let (predicates, objects_at) = section_info(alloc, bytes, predicates_at)?;
-    let (objects, end) = section_info(alloc, bytes, objects_at)?;
-    let info = DictionaryInfo {
-        shared,
-        subjects,
-        predicates,
-        objects,
-    };
-    Ok((info, end))
-}
-
-/// Reads the bits of an entry of each sequence of the triples at a byte offset.
-#[tactic(auto, unfolding(crate::specs::Inside::InfoChecks::entry_bits_at, hdt_wire::specs::Control::control_info_of))]
-fn entry_bits(bytes: &[u8], at: usize) -> Result<EntryBits, Fault>
-    ensures { result ≡ entry_bits_at bytes.now at }
-{
-    let control = read_control(bytes, at, Kind::Triples)?;
-    let (_, bitmap_z_at) = Bits::read(bytes, control.end())?;
-    let (_, array_y_at) = Bits::read(bytes, bitmap_z_at)?;
-    let (_, array_z_at) = Numbers::read(bytes, array_y_at)?;
-    let (array_y, _) = byte_at(bytes, array_y_at + 1)?;
-    let (array_z, _) = byte_at(bytes, array_z_at + 1)?;
-    Ok(EntryBits {
-        bitmap_y: 1,
-        bitmap_z: 1,
-        array_y,
-        array_z,
+    let shared = dictionary.section(SectionId::Shared);
+    let subjects = dictionary.section(SectionId::Subjects);
+    let predicates = dictionary.section(SectionId::Predicates);
+    let objects = dictionary.section(SectionId::Objects);
+    Ok(DictionaryInfo {
+        shared: section_info(alloc, shared, at)?,
+        subjects: section_info(alloc, subjects, shared.end())?,
+        predicates: section_info(alloc, predicates, subjects.end())?,
+        objects: section_info(alloc, objects, predicates.end())?,
     })
 }
 
-/// Reads a file part by part.
-#[tactic(auto, unfolding(crate::specs::Inside::InfoChecks::info_by_checks, crate::specs::LayoutView::layout_view, crate::specs::LayoutParts::parts_of_layout, crate::specs::Head::head_parts))]
-fn info_by_checks(alloc: Global, bytes: &[u8]) -> Result<FileInfo, OpenFault>
-    ensures { ReadsUnlessOom open_fault_of (λ info. info) result (info_by_checks bytes.now) }
+/// The sizes of the parts of a file of so many bytes, the first section of which begins at a byte offset.
+#[tactic(auto, unfolding(crate::specs::Graph::layout_view, crate::specs::Graph::parts_of_layout, crate::specs::Head::head_parts, hdt_triples::specs::Views::entry_widths))]
+fn layout_info(
+    alloc: Global,
+    layout: &Layout<'_>,
+    bytes: u64,
+    at: usize,
+) -> Result<FileInfo, AllocError>
+    ensures { IfOk result (λ info. info ≡ file_info bytes (parts_of_layout layout.now) at) }
+{
+    let [triples, _, _, _, _] = layout.lens();
+    let (array_y, array_z) = layout.triples.entry_widths();
+    Ok(FileInfo {
+        bytes,
+        header_bytes: layout.head.body().len() as u64,
+        triples,
+        dictionary: dictionary_info(alloc, &layout.dictionary, at)?,
+        entry_bits: EntryBits {
+            bitmap_y: 1,
+            bitmap_z: 1,
+            array_y,
+            array_z,
+        },
+    })
+}
+
+/// Reads a file, one check after another.
+#[tactic(auto, unfolding(crate::specs::Info::decode_info, crate::specs::Graph::parts_of_layout, crate::specs::Head::head_parts, hdt_wire::specs::Control::control_view))]
+fn read_by_checks(alloc: Global, bytes: &[u8]) -> Result<FileInfo, OpenFault>
+    ensures { ReadsUnlessOom open_fault_of (λ info. info) result (decode_info bytes.now) }
 {
     let layout = Layout::read(alloc, bytes)?;
-    let [triples, _, _, _, _] = layout.lens();
-    let head = read_head(bytes)?;
-    let (dictionary, triples_at) = dictionary_info(alloc, bytes, head.end())?;
-    let entry_bits = entry_bits(bytes, triples_at)?;
-    Ok(FileInfo {
-        bytes: bytes.len() as u64,
-        header_bytes: head.body().len() as u64,
-        triples,
-        dictionary,
-        entry_bits,
-    })
+    let control = read_control(bytes, layout.head.end(), Kind::Dictionary)?;
+    Ok(layout_info(alloc, &layout, bytes.len() as u64, control.end())?)
 }
 
 /// Verifies a file as [`verify`](crate::verify) does, and returns the sizes of its parts.
 ///
-/// Linear time in the bytes: each part is read twice, each string decoded four times. It builds no index, and holds at
-/// most three strings at a time.
+/// Linear time in the bytes: each string is decoded once more than by `verify`. It builds no index, and holds at most
+/// three strings at a time.
 ///
 /// # Errors
 ///
@@ -185,9 +171,10 @@ pub fn file_info(alloc: Global, bytes: &[u8]) -> Result<FileInfo, OpenFault>
     // The bytes encode a file whose parts have these sizes.
     ensures found { IfOk result (λ info. IsFileInfo info bytes.now) }
     // If the bytes encode a file, the sizes of its parts are returned, unless memory ran out.
-    ensures only { (info : FileInfo) → IsFileInfo info bytes.now → ReadsUnlessOom open_fault_of (λ x. x) result (Ok info) }
+    ensures only { (info : FileInfo) → IsFileInfo info bytes.now
+        → ReadsUnlessOom open_fault_of (λ x. x) result (Ok info) }
     // Otherwise it is the first error of the file.
     ensures err { IfErr result (λ e. IfSome (open_fault_of e) (λ fault. decode_graph bytes.now ≡ Err fault)) }
 {
-    info_by_checks(alloc, bytes)
+    read_by_checks(alloc, bytes)
 }

@@ -41,9 +41,11 @@ pub fn text_is_a_document()
 /// the strings.
 #[tactic(auto, using(crate::proofs::StringSearchLaws::matches_denoted, crate::proofs::StringSearchLaws::none_denoted))]
 pub fn search_is_a_filter()
-    ensures some { (g : GraphParts) (given : List (Option BorrowedString)) (p : Pattern) → IsGraph g → IsPattern g given p →
+    ensures some { (g : GraphParts) (given : List (Option BorrowedString)) (p : Pattern) → IsGraph g
+        → IsPattern g given p →
         denoted g (matches p g.triples) ≡ filter (has_given_strings given) (denoted g g.triples) }
-    ensures none { (g : GraphParts) (given : List (Option BorrowedString)) → IsGraph g → ((p : Pattern) → IsPattern g given p → ⊥) →
+    ensures none { (g : GraphParts) (given : List (Option BorrowedString)) → IsGraph g
+        → ((p : Pattern) → IsPattern g given p → ⊥) →
         filter (has_given_strings given) (denoted g g.triples) ≡ [] }
 {}
 

@@ -1,14 +1,13 @@
 //! A file without indexes.
 ghost use Rattle.std.specs.Prelude.{◌≡◌, ℕ, length, IfOk, Ok};
 ghost use Rattle.hdt_dict.specs.Views.{dictionary_of};
-ghost use Rattle.hdt_triples.specs.CountsView.{counts_view};
 ghost use Rattle.hdt_triples.specs.IndexViews.{string_counts};
 ghost use Rattle.hdt_file.specs.File.{dictionary_counts};
 
 use crate::dictionary::read_dictionary;
 use crate::fault::OpenFault;
 use crate::head::Head;
-use hdt_dict::{Dictionary, PrefixRanges, Role, RoleCursor};
+use hdt_dict::{Dictionary, PrefixRanges, Role, RoleIter};
 use hdt_seq::Steps;
 use hdt_triples::{Counts, Matches, Pattern, Triples};
 use hdt_wire::{Reason, demand};
@@ -34,7 +33,7 @@ pub struct Layout<'a> {
 
 /// The number of strings of each role of a dictionary.
 fn dictionary_counts(dictionary: &Dictionary<'_>) -> Counts
-    ensures { counts_view result ≡ dictionary_counts (dictionary_of dictionary.now) }
+    ensures { result ≡ dictionary_counts (dictionary_of dictionary.now) }
 {
     Counts {
         subjects: dictionary.count(Role::Subject),
@@ -43,7 +42,7 @@ fn dictionary_counts(dictionary: &Dictionary<'_>) -> Counts
     }
 }
 
-#[tactic(auto, unfolding(crate::specs::LayoutView::layout_view, crate::specs::LayoutParts::parts_of_layout))]
+#[tactic(auto, unfolding(crate::specs::Graph::layout_view, crate::specs::Graph::parts_of_layout))]
 impl<'a> Layout<'a> {
     ghost use Rattle.std.specs.Prelude.{◌↔◌, ◌≤◌, ◌<◌, ◌+◌, ◌*◌, ◌^◌, ◌∷◌, [], Option, Some, None, IsOk, OnErr, min};
     ghost use Rattle.hdt_wire.specs.Checks.{ReadsUnlessOom};
@@ -54,17 +53,15 @@ impl<'a> Layout<'a> {
     ghost use Rattle.hdt_triples.specs.Patterns.{matches};
     ghost use Rattle.hdt_file.specs.Faults.{open_fault_of};
     ghost use Rattle.hdt_file.specs.File.{GraphParts, IsLayout, decode_graph};
-    ghost use Rattle.hdt_file.specs.LayoutView.{layout_view};
+    ghost use Rattle.hdt_file.specs.Graph.{layout_view, parts_bitmap, parts_dictionary, decode_parts, parts_of_layout, graph_counts};
     ghost use Rattle.hdt_dict.specs.Cost.{role_decode_cost, role_search_cost};
-    ghost use Rattle.hdt_file.specs.LayoutParts.{parts_bitmap, parts_dictionary, decode_parts, parts_of_layout};
     ghost use Rattle.hdt_file.specs.Laws.LayoutParts.{parts_by_checks};
     ghost use Rattle.hdt_file.specs.Search.{IsPatternPart, IsPattern, pattern_steps, part_steps};
     ghost use Rattle.hdt_file.specs.TextWriting.{matches_if_given};
-    ghost use Rattle.hdt_file.specs.GraphView.{graph_counts};
     ghost use Rattle.hdt_dict.specs.Dictionary.{role_strings};
 
     /// Reads a file, one check after another.
-    #[tactic(auto, unfolding(crate::specs::Laws::LayoutParts::parts_by_checks, crate::specs::LayoutParts::parts_of_layout))]
+    #[tactic(auto, unfolding(crate::specs::Laws::LayoutParts::parts_by_checks, crate::specs::Graph::parts_of_layout))]
     fn read_by_checks(alloc: Global, bytes: &'a [u8]) -> Result<Layout<'a>, OpenFault>
         ensures { ReadsUnlessOom open_fault_of parts_of_layout result (parts_by_checks bytes.now) }
     {
@@ -84,7 +81,8 @@ impl<'a> Layout<'a> {
         // The bytes encode the graph that is returned.
         ensures found { IfOk result (λ layout. IsLayout bytes.now (layout_view layout)) }
         // If the bytes encode a graph, it is returned, unless memory ran out.
-        ensures only { (graph : GraphParts) → IsLayout bytes.now graph → ReadsUnlessOom open_fault_of layout_view result (Ok graph) }
+        ensures only { (graph : GraphParts) → IsLayout bytes.now graph
+            → ReadsUnlessOom open_fault_of layout_view result (Ok graph) }
         // Otherwise it is the first error.
         ensures exact { ReadsUnlessOom open_fault_of layout_view result (decode_graph bytes.now) }
         // Its parts are those that the bytes encode.
@@ -94,7 +92,7 @@ impl<'a> Layout<'a> {
     }
 
     /// Returns the number of triples, and of the strings of each section: shared, subjects, predicates, objects.
-    #[tactic(auto, unfolding(crate::specs::LayoutView::layout_view, crate::specs::LayoutParts::parts_of_layout, hdt_dict::specs::Views::dictionary_of))]
+    #[tactic(auto, unfolding(crate::specs::Graph::layout_view, crate::specs::Graph::parts_of_layout, hdt_dict::specs::Views::dictionary_of))]
     pub fn lens(&self) -> [u64; 5]
         ensures { result ≡ graph_counts (layout_view self.now) }
     {
@@ -110,8 +108,13 @@ impl<'a> Layout<'a> {
     }
 
     /// Returns a cursor over the strings of a role, in the order of their IDs. Each is decoded once.
-    pub fn strings(&self, alloc: Global, role: Role) -> RoleCursor<'a>
-        ensures { result ≡ record { given = 0; last = []; ahead = role_strings (layout_view self.now).dictionary role } }
+    pub fn strings(&self, alloc: Global, role: Role) -> RoleIter<'a>
+        ensures { result ≡ record {
+          given = 0;
+          last = [];
+          ahead =
+              role_strings (layout_view self.now).dictionary role;
+        } }
     {
         self.dictionary.strings(alloc, role)
     }
@@ -119,18 +122,20 @@ impl<'a> Layout<'a> {
     /// Returns the ID of a string in a role, from 1, or `None` if the role has no such string. It costs a binary search
     /// over the blocks of the role's sections and a scan of one block of each.
     pub fn number_of(&self, role: Role, x: &[u8], steps: &mut Steps) -> Option<u64>
-        ensures exact { (n : ℕ) → (result ≡ Some n) ↔ (string_at_id (role_strings (layout_view self.now).dictionary role) n ≡ Some x.now) }
+        ensures exact { (n : ℕ) → (result ≡ Some n)
+            ↔ (string_at_id (role_strings (layout_view self.now).dictionary role) n ≡ Some x.now) }
         ensures cost { steps.new ≤ steps.old + role_search_cost (parts_dictionary (parts_of_layout self.now)) role }
         ensures more { steps.old ≤ steps.new }
     {
         self.dictionary.number_of(role, x, steps)
     }
 
-    /// Returns the IDs, from 1, of the strings of a role that begin with a prefix, which may be any bytes: all IDs if it
-    /// is empty. It takes at most twice the steps of [`Layout::number_of`], and allocates nothing.
+    /// Returns the IDs, from 1, of the strings of a role that begin with a prefix, which may be any bytes: all IDs if
+    /// it is empty. It takes at most twice the steps of [`Layout::number_of`], and allocates nothing.
     pub fn ids_with_prefix(&self, role: Role, prefix: &[u8], steps: &mut Steps) -> PrefixRanges
         // An ID is in one of the ranges exactly if its string begins with the prefix.
-        ensures exact { (n : ℕ) → IsInRanges result n ↔ SomeBeginsWith prefix.now (string_at_id (role_strings (layout_view self.now).dictionary role) n) }
+        ensures exact { (n : ℕ) → IsInRanges result n
+            ↔ SomeBeginsWith prefix.now (string_at_id (role_strings (layout_view self.now).dictionary role) n) }
         ensures ascend { RangesAscend result (length (role_strings (layout_view self.now).dictionary role)) }
         ensures cost { steps.new ≤ steps.old + 2 * role_search_cost (parts_dictionary (parts_of_layout self.now)) role }
         ensures more { steps.old ≤ steps.new }
@@ -147,7 +152,8 @@ impl<'a> Layout<'a> {
         out: &mut Vec<u8>,
         steps: &mut Steps,
     ) -> Result<bool, AllocError>
-        ensures ok { IfOk result (λ appended. AppendsString (string_at_id (role_strings (layout_view self.now).dictionary role) n) appended out.old.items out.new.items) }
+        ensures ok { IfOk result (λ appended. AppendsString
+            (string_at_id (role_strings (layout_view self.now).dictionary role) n) appended out.old.items out.new.items) }
         ensures err { OnErr result (out.new.items ≡ out.old.items) }
         ensures cost { steps.new ≤ steps.old + role_decode_cost (parts_dictionary (parts_of_layout self.now)) role }
         ensures absent { string_at_id (role_strings (layout_view self.now).dictionary role) n ≡ None → IsOk result }
@@ -159,8 +165,10 @@ impl<'a> Layout<'a> {
     /// The ID of the given string in a role, or `Some(None)` (any ID) without one; `None` if the role has no such
     /// string.
     fn part(&self, role: Role, given: Option<&[u8]>, steps: &mut Steps) -> Option<Option<u64>>
-        ensures exact { (n : Option ℕ) → (result ≡ Some n) ↔ IsPatternPart (role_strings (layout_view self.now).dictionary role) given.entry n }
-        ensures cost { steps.new ≤ steps.old + part_steps (parts_dictionary (parts_of_layout self.now)) role given.entry }
+        ensures exact { (n : Option ℕ) → (result ≡ Some n)
+            ↔ IsPatternPart (role_strings (layout_view self.now).dictionary role) given.entry n }
+        ensures cost { steps.new ≤ steps.old + part_steps
+            (parts_dictionary (parts_of_layout self.now)) role given.entry }
         ensures more { steps.old ≤ steps.new }
     {
         match given {

@@ -6,6 +6,12 @@
 //!
 //! Functions that state no cost take constant time and allocate nothing. Laws do nothing when called.
 //!
+//! Modules, in reading order: `head`, `dictionary`, `layout` (a file without indexes), `graph` (a file with indexes),
+//! `opening`, `tight` (files without unused strings), `search` (matches and their pages), `fault`. N-Triples:
+//! `term_writing` (a term, a line), `term_tables` (many lines), `rendering` (chooses one of these), `text`;
+//! `term_flags`, `writable` (matches that have a line), `non_terms` (strings that are not terms). `info` (sizes);
+//! `laws`.
+//!
 //! ```rust
 //! let (head, dictionary, end) = read_dictionary(alloc, bytes)?;
 //! let base = property(head.global().properties(), b"BaseURI");
@@ -29,27 +35,24 @@ mod fault;
 mod graph;
 mod head;
 mod info;
-mod kept_lines;
 mod laws;
 mod layout;
 mod non_terms;
 mod opening;
-mod paging;
 mod rendering;
 mod search;
-mod skipping;
 mod term_flags;
 mod term_tables;
 mod term_writing;
 mod text;
 mod tight;
+mod writable;
 
 pub use dictionary::{head_and_dictionary_are_exact, read_dictionary};
 pub use fault::{DumpFault, OpenFault};
 pub use graph::Graph;
 pub use head::{Head, one_head, read_head};
 pub use info::{DictionaryInfo, EntryBits, FileInfo, SectionInfo, file_info};
-pub use kept_lines::{KeptLines, append_kept_text, graph_lines, layout_lines};
 pub use laws::{denoted_triples_are_distinct, one_text, search_is_a_filter, text_is_a_document};
 pub use layout::Layout;
 pub use non_terms::{NonTerm, TermVerdict, verify_terms};
@@ -57,4 +60,7 @@ pub use opening::{layouts_are_graphs, one_layout, open, verify};
 pub use term_flags::TermFlags;
 pub use term_writing::TermWriter;
 pub use text::{append_graph_text, graph_text, layout_text, write_graph};
-pub use tight::{SectionId, one_tight_layout, open_tight, verify_tight};
+pub use tight::{one_tight_layout, open_tight, verify_tight};
+pub use writable::{
+    WritableMatches, append_triples_text, graph_writable_matches, layout_writable_matches,
+};

@@ -2,16 +2,17 @@
 ghost use Rattle.std.specs.Prelude.{◌≡◌, ◌<◌, ◌+◌, ◌^◌, ◌++◌, List, length, OnOk, IfOk, IfErr, IfSome, Err};
 ghost use Rattle.hdt_file.specs.Faults.{open_fault_of};
 ghost use Rattle.hdt_file.specs.File.{decode_graph};
-ghost use Rattle.hdt_dict.specs.Dictionary.{section_by_index};
+ghost use Rattle.hdt_dict.specs.Dictionary.{section_by_id};
 ghost use Rattle.hdt_dict.specs.Views.{dictionary_of};
-ghost use Rattle.hdt_file.specs.LayoutParts.{parts_dictionary, parts_of_layout};
+ghost use Rattle.hdt_file.specs.Graph.{parts_dictionary, parts_of_layout};
 ghost use Rattle.hdt_file.specs.declared.non_terms.NonTerm.{NonTerm as NonTermOf};
 ghost use Rattle.hdt_file.specs.NonTerms.{AreNonTerms, AreNonTermsOf, IsTermVerdict};
 
 use crate::fault::OpenFault;
 use crate::layout::Layout;
 use crate::term_flags::is_term;
-use hdt_dict::{Dictionary, Role};
+use hdt_dict::SectionId::{Objects, Predicates, Shared, Subjects};
+use hdt_dict::{Dictionary, Role, SectionId};
 use std::alloc::{AllocError, Global};
 
 /// A string that is not a term which its role allows.
@@ -35,26 +36,27 @@ pub struct TermVerdict {
     pub non_terms: Vec<NonTerm>,
 }
 
-/// Appends the strings of a section, by its index, that are not terms which the role allows. Their IDs follow `before`
+/// Appends the strings of a section that are not terms which the role allows. Their IDs follow `before`
 /// other ones.
 fn append_non_terms(
     alloc: Global,
     dictionary: &Dictionary<'_>,
-    section: usize,
+    section: SectionId,
     role: Role,
     before: u64,
     found: &mut Vec<NonTerm>,
 ) -> Result<(), AllocError>
-    requires index { section < 4 }
-    requires fits { before + length (section_by_index (dictionary_of dictionary.now) section).strings < 2 ^ 64 }
-    ensures { OnOk result ((more : List NonTermOf) × AreNonTermsOf role before (section_by_index (dictionary_of dictionary.now) section) more × (found.new.items ≡ found.old.items ++ more)) }
+    requires { before + length (section_by_id (dictionary_of dictionary.now) section).strings < 2 ^ 64 }
+    ensures { OnOk result ((more : List NonTermOf)
+        × AreNonTermsOf role before (section_by_id (dictionary_of dictionary.now) section) more
+        × (found.new.items ≡ found.old.items ++ more)) }
 {
     let mut strings = dictionary.located_strings(alloc, section);
     let mut text = Vec::new(alloc);
     let mut number = before;
     'strings: while let Some(place) = strings.next()? {
         number += 1;
-        if !is_term(role, strings.last(), &mut text)? {
+        if !is_term(role, strings.string(), &mut text)? {
             found.push(NonTerm {
                 role,
                 number,
@@ -65,20 +67,20 @@ fn append_non_terms(
     Ok(())
 }
 
-/// The strings of a layout that are not terms which their roles allow. Linear time: each string of each role is decoded
+/// The strings of a file that are not terms which their roles allow. Linear time: each string of each role is decoded
 /// once.
 fn non_terms(alloc: Global, layout: &Layout<'_>) -> Result<Vec<NonTerm>, AllocError>
     ensures { IfOk result (λ found. AreNonTerms (parts_dictionary (parts_of_layout layout.now)) found.items) }
 {
     let [_, shared, _, _, _] = layout.lens();
     let dictionary = &layout.dictionary;
-    let mut found = Vec::new(alloc);
-    append_non_terms(alloc, dictionary, 0, Role::Subject, 0, &mut found)?;
-    append_non_terms(alloc, dictionary, 1, Role::Subject, shared, &mut found)?;
-    append_non_terms(alloc, dictionary, 2, Role::Predicate, 0, &mut found)?;
-    append_non_terms(alloc, dictionary, 0, Role::Object, 0, &mut found)?;
-    append_non_terms(alloc, dictionary, 3, Role::Object, shared, &mut found)?;
-    Ok(found)
+    let mut all = Vec::new(alloc);
+    append_non_terms(alloc, dictionary, Shared, Role::Subject, 0, &mut all)?;
+    append_non_terms(alloc, dictionary, Subjects, Role::Subject, shared, &mut all)?;
+    append_non_terms(alloc, dictionary, Predicates, Role::Predicate, 0, &mut all)?;
+    append_non_terms(alloc, dictionary, Shared, Role::Object, 0, &mut all)?;
+    append_non_terms(alloc, dictionary, Objects, Role::Object, shared, &mut all)?;
+    Ok(all)
 }
 
 /// Verifies a file as [`crate::verify`] does, and finds its strings that are not terms which their roles allow: triples

@@ -5,18 +5,15 @@ ghost use Rattle.hdt_wire.specs.Checks.{ReadsUnlessOom, IsBytes};
 ghost use Rattle.hdt_file.specs.Faults.{open_fault_of};
 ghost use Rattle.hdt_file.specs.declared.fault.OpenFault.TheVariants as opens;
 ghost use Rattle.hdt_file.specs.File.{FileParts, IsFile, GraphParts, IsLayout, decode_graph};
-ghost use Rattle.hdt_file.specs.Graph.{IsGraph};
-ghost use Rattle.hdt_file.specs.LayoutView.{layout_view};
-ghost use Rattle.hdt_file.specs.LayoutParts.{graph_of_parts, parts_of_file, decode_parts, parts_of_graph, parts_of_layout};
-ghost use Rattle.hdt_file.specs.GraphView.{graph_view, graph_counts};
+ghost use Rattle.hdt_file.specs.Graph.{IsGraph, layout_view, graph_of_parts, parts_of_file, decode_parts, parts_of_graph, parts_of_layout, graph_view, graph_counts};
 
 use crate::fault::OpenFault;
 use crate::graph::Graph;
 use crate::layout::Layout;
 use std::alloc::Global;
 
-/// The graph of a layout: builds the indexes of its triples.
-#[tactic(auto, unfolding(crate::specs::LayoutParts::parts_of_graph, crate::specs::LayoutParts::parts_of_layout))]
+/// Builds the indexes of the triples of a file that was read.
+#[tactic(auto, unfolding(crate::specs::Graph::parts_of_graph, crate::specs::Graph::parts_of_layout))]
 pub(crate) fn index_layout(alloc: Global, layout: Layout<'_>) -> Result<Graph<'_>, OpenFault>
     ensures graph { IfOk result (λ graph. parts_of_graph graph ≡ parts_of_layout layout.entry) }
     ensures err { IfErr result (λ e. e ≡ opens.OutOfMemory) }
@@ -43,12 +40,13 @@ pub(crate) fn index_layout(alloc: Global, layout: Layout<'_>) -> Result<Graph<'_
 /// let graph = open(alloc, bytes)?;
 /// let subjects = graph.count(Role::Subject);
 /// ```
-#[tactic(auto, unfolding(crate::specs::GraphView::graph_view, crate::specs::LayoutView::layout_view))]
+#[tactic(auto, unfolding(crate::specs::Graph::graph_view, crate::specs::Graph::layout_view))]
 pub fn open<'a>(alloc: Global, bytes: &'a [u8]) -> Result<Graph<'a>, OpenFault>
     // The bytes encode the graph that is returned.
     ensures found { IfOk result (λ graph. IsLayout bytes.now (graph_view graph)) }
     // If the bytes encode a graph, it is returned, unless memory ran out.
-    ensures only { (graph : GraphParts) → IsLayout bytes.now graph → ReadsUnlessOom open_fault_of graph_view result (Ok graph) }
+    ensures only { (graph : GraphParts) → IsLayout bytes.now graph
+        → ReadsUnlessOom open_fault_of graph_view result (Ok graph) }
     // Otherwise it is the first error.
     ensures exact { ReadsUnlessOom open_fault_of graph_view result (decode_graph bytes.now) }
     // Its parts are those that the bytes encode; the costs of its calls depend on them.
@@ -64,7 +62,8 @@ pub fn verify(alloc: Global, bytes: &[u8]) -> Result<[u64; 5], OpenFault>
     // The bytes encode a graph with these counts.
     ensures found { IfOk result (λ lens. IsViewOf graph_counts (IsLayout bytes.now) lens) }
     // If the bytes encode a graph, its counts are returned, unless memory ran out.
-    ensures only { (graph : GraphParts) → IsLayout bytes.now graph → ReadsUnlessOom open_fault_of (λ lens. lens) result (Ok (graph_counts graph)) }
+    ensures only { (graph : GraphParts) → IsLayout bytes.now graph
+        → ReadsUnlessOom open_fault_of (λ lens. lens) result (Ok (graph_counts graph)) }
     // Otherwise it is the first error.
     ensures exact { ReadsUnlessOom open_fault_of (λ lens. lens) result (viewed graph_counts (decode_graph bytes.now)) }
 {
@@ -76,12 +75,17 @@ pub fn verify(alloc: Global, bytes: &[u8]) -> Result<[u64; 5], OpenFault>
 /// its graph.
 #[tactic(auto, using(crate::proofs::FileLaws::layout_exact, crate::proofs::FileLaws::layout_unique, crate::proofs::FileLaws::file_unique, crate::proofs::FileLaws::layout_or_fault, crate::proofs::FileLaws::file_parts, crate::specs::Laws::LayoutParts::graph_is))]
 pub fn one_layout()
-    ensures exact { (bytes : List ℕ) → IsBytes bytes → length bytes < 2 ^ 64 → Exactly (decode_graph bytes) (IsLayout bytes) }
-    ensures one { (bytes : List ℕ) (g h : GraphParts) → IsBytes bytes → length bytes < 2 ^ 64 → IsLayout bytes g → IsLayout bytes h → g ≡ h }
-    ensures file { (bytes : List ℕ) (a b : FileParts) → IsBytes bytes → length bytes < 2 ^ 64 → IsFile a bytes → IsFile b bytes → a ≡ b }
-    ensures or_fault { (bytes : List ℕ) → IsBytes bytes → length bytes < 2 ^ 64 → UniqueValue (decode_graph bytes) (IsLayout bytes) ⊎ UniqueFault (decode_graph bytes) (IsLayout bytes) }
+    ensures exact { (bytes : List ℕ) → IsBytes bytes → length bytes < 2 ^ 64
+        → Exactly (decode_graph bytes) (IsLayout bytes) }
+    ensures one { (bytes : List ℕ) (g h : GraphParts) → IsBytes bytes → length bytes < 2 ^ 64 → IsLayout bytes g
+        → IsLayout bytes h → g ≡ h }
+    ensures file { (bytes : List ℕ) (a b : FileParts) → IsBytes bytes → length bytes < 2 ^ 64 → IsFile a bytes
+        → IsFile b bytes → a ≡ b }
+    ensures or_fault { (bytes : List ℕ) → IsBytes bytes → length bytes < 2 ^ 64
+        → UniqueValue (decode_graph bytes) (IsLayout bytes) ⊎ UniqueFault (decode_graph bytes) (IsLayout bytes) }
     ensures of_parts { (bytes : List ℕ) → viewed graph_of_parts (decode_parts bytes) ≡ decode_graph bytes }
-    ensures file_parts { (bytes : List ℕ) (file : FileParts) → IsBytes bytes → length bytes < 2 ^ 64 → IsFile file bytes → decode_parts bytes ≡ Ok (parts_of_file file) }
+    ensures file_parts { (bytes : List ℕ) (file : FileParts) → IsBytes bytes → length bytes < 2 ^ 64 → IsFile file bytes
+        → decode_parts bytes ≡ Ok (parts_of_file file) }
 {}
 
 /// In the graph of a valid file the strings of each section are UTF-8 without zero bytes and strictly ascend; no string

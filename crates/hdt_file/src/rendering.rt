@@ -4,7 +4,7 @@ ghost use Rattle.hdt_wire.specs.Control.{IsPrefixOf};
 ghost use Rattle.hdt_triples.specs.Remaining.{remaining_matches};
 ghost use Rattle.hdt_file.specs.Denoted.{denoted};
 ghost use Rattle.hdt_file.specs.CachedTerms.{CachesTerms};
-ghost use Rattle.hdt_file.specs.LayoutView.{layout_view};
+ghost use Rattle.hdt_file.specs.Graph.{layout_view};
 ghost use Rattle.hdt_file.specs.Text.{IsTextOf};
 ghost use Rattle.hdt_file.specs.TextWriting.{AppendsText, ReportsFirstNonTerm, limited};
 
@@ -84,7 +84,7 @@ fn object_blocks_if_few<'a>(
     for (subject, predicate, object) in triples {
         let block = dictionary.block(Role::Object, *object);
         last_subject = with_block_len(dictionary, Role::Subject, *subject, last_subject);
-        if term_writer.keeps(*predicate) {
+        if term_writer.caches_predicate(*predicate) {
             last_predicate = (*predicate, 0);
         } else {
             last_predicate = with_block_len(
@@ -242,8 +242,10 @@ pub(crate) fn append_matches(
     requires fits { length (remaining_matches found) < 2 ^ 64 }
     requires kept { CachesTerms (layout_view layout.now) term_writer.old }
     ensures kept { CachesTerms (layout_view layout.now) term_writer.new }
-    ensures ok { OnOk result (AppendsText (layout_view layout.now) (limited most (remaining_matches found.entry)) out.old.items out.new.items) }
-    ensures err { IfErr result (ReportsFirstNonTerm (layout_view layout.now) (limited most (remaining_matches found.entry))) }
+    ensures ok { OnOk result (AppendsText (layout_view layout.now)
+        (limited most (remaining_matches found.entry)) out.old.items out.new.items) }
+    ensures err { IfErr result
+        (ReportsFirstNonTerm (layout_view layout.now) (limited most (remaining_matches found.entry))) }
     ensures left { OnErr result (out.new.items ≡ out.old.items) }
 {
     let mut matches = found;
@@ -262,8 +264,10 @@ pub(crate) fn matches_text(
     most: Option<u64>,
 ) -> Result<Vec<u8>, DumpFault>
     requires { length (remaining_matches found) < 2 ^ 64 }
-    ensures ok { IfOk result (λ text. IsTextOf (denoted (layout_view layout.now) (limited most (remaining_matches found.entry))) text.items) }
-    ensures err { IfErr result (ReportsFirstNonTerm (layout_view layout.now) (limited most (remaining_matches found.entry))) }
+    ensures ok { IfOk result (λ text. IsTextOf
+        (denoted (layout_view layout.now) (limited most (remaining_matches found.entry))) text.items) }
+    ensures err { IfErr result
+        (ReportsFirstNonTerm (layout_view layout.now) (limited most (remaining_matches found.entry))) }
 {
     let mut text = Vec::new(alloc);
     append_matches(

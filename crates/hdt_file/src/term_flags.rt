@@ -1,6 +1,6 @@
 //! Which strings of a graph are terms that their roles allow, and so which triples have a line of N-Triples.
 ghost use Rattle.std.specs.Prelude.{◌≡◌, IfOk};
-ghost use Rattle.hdt_file.specs.LayoutView.{layout_view};
+ghost use Rattle.hdt_file.specs.Graph.{layout_view};
 ghost use Rattle.hdt_file.specs.TermFlags.{AreRoleFlags, AreTermFlags, IsTermFlag, term_flag};
 
 use crate::layout::Layout;
@@ -38,7 +38,7 @@ fn role_flags(alloc: Global, layout: &Layout<'_>, role: Role) -> Result<Vec<bool
     let mut text = Vec::new(alloc);
     let mut strings = layout.strings(alloc, role);
     'strings: while let Some(_number) = strings.next()? {
-        flags.push(is_term(role, strings.last(), &mut text)?)?;
+        flags.push(is_term(role, strings.string(), &mut text)?)?;
     }
     Ok(flags)
 }
@@ -57,9 +57,9 @@ fn term_flag(flags: &[bool], n: u64) -> bool
 }
 
 impl TermFlags {
-    ghost use Rattle.hdt_file.specs.TermFlags.{has_line};
+    ghost use Rattle.hdt_file.specs.TermFlags.{is_writable};
 
-    /// Returns the flags of a layout. Time linear in the dictionary, however it is front-coded: each string of each role
+    /// Returns the flags of a file. Time linear in the dictionary, however it is front-coded: each string of each role
     /// is decoded once. Memory: one byte for each, while the flags are kept, and the longest string and its term.
     pub fn of(alloc: Global, layout: &Layout<'_>) -> Result<TermFlags, AllocError>
         ensures { IfOk result (AreTermFlags (layout_view layout.now)) }
@@ -72,8 +72,8 @@ impl TermFlags {
     }
 
     /// Whether the flags of all three strings of a triple are true.
-    pub(crate) fn has_line(&self, triple: (u64, u64, u64)) -> bool
-        ensures { result ≡ has_line self.now triple }
+    pub(crate) fn is_writable(&self, triple: (u64, u64, u64)) -> bool
+        ensures { result ≡ is_writable self.now triple }
     {
         let (subject, predicate, object) = triple;
         term_flag(&self.subjects, subject)

@@ -2,10 +2,9 @@
 ghost use Rattle.std.specs.Prelude.{◌≡◌, ℕ, List, map, IfOk, IfErr, OnOk};
 ghost use Rattle.hdt_file.specs.File.{GraphParts};
 ghost use Rattle.hdt_wire.specs.Control.{IsPrefixOf};
-ghost use Rattle.hdt_triples.specs.Uses.{role_component};
-ghost use Rattle.hdt_file.specs.Inside.RenderedTerms.{AreMarked, AreRendered, RendersRole, AreTables, AppendsRenderedIfMarked, RendersTriple, IsRendered, is_marked, rendered_string};
+ghost use Rattle.hdt_file.specs.Inside.RenderedTerms.{AreRendered, RendersRole, AreTables, AppendsRenderedIfMarked, RendersTriple, IsRendered, is_marked, rendered_string};
 ghost use Rattle.hdt_file.specs.TextWriting.{AppendsLine, AppendsTerm, AppendsText, ReportsFirstNonTerm, ReportsNonTermOfTriple, ReportsNonTerm};
-ghost use Rattle.hdt_file.specs.LayoutView.{layout_view};
+ghost use Rattle.hdt_file.specs.Graph.{layout_view};
 ghost use Rattle.hdt_dict.specs.Dictionary.{role_strings};
 
 use crate::fault::DumpFault;
@@ -13,6 +12,7 @@ use crate::layout::Layout;
 use crate::term_writing::render_term;
 use hdt_dict::{Arena, Role};
 use hdt_terms::StringFault;
+use hdt_triples::use_flags;
 use std::alloc::{AllocError, Global};
 
 /// For each role, the strings in the order of their IDs as they are written in a line. An entry is empty if the string
@@ -22,36 +22,6 @@ pub(crate) struct TermTables {
     subjects: Arena,
     predicates: Arena,
     objects: Arena,
-}
-
-/// The ID of a triple in a role.
-fn id_in_role(role: Role, triple: (u64, u64, u64)) -> u64
-    ensures { result ≡ role_component role triple }
-{
-    match role {
-        Role::Subject => triple.0,
-        Role::Predicate => triple.1,
-        Role::Object => triple.2,
-    }
-}
-
-/// Marks each ID that triples have in a role.
-fn mark_used(
-    alloc: Global,
-    count: u64,
-    role: Role,
-    triples: &[(u64, u64, u64)],
-) -> Result<Vec<bool>, AllocError>
-    ensures { IfOk result (λ marks. AreMarked role marks.items triples.now) }
-{
-    let mut marks = vec![in alloc; false; (count as usize).saturating_add(1)]?;
-    'marked: for at in 0..triples.len() {
-        let number = id_in_role(role, triples[at]) as usize;
-        if number < marks.len() {
-            marks[number] = true;
-        }
-    }
-    Ok(marks)
 }
 
 /// Whether an ID is marked; an ID out of range counts as marked.
@@ -89,17 +59,18 @@ fn render_marked(
     role: Role,
     marks: &[bool],
 ) -> Result<Arena, AllocError>
-    ensures { IfOk result (λ arena. AreRendered role marks.now 1 (role_strings (layout_view layout.now).dictionary role) arena) }
+    ensures { IfOk result (λ arena. AreRendered role marks.now 1
+        (role_strings (layout_view layout.now).dictionary role) arena) }
 {
     let mut bytes = Vec::new(alloc);
     let mut starts = Vec::new(alloc);
     let mut strings = layout.strings(alloc, role);
     starts.push(0)?;
     'strings: while let Some(number) = strings.next()? {
-        put_rendered_if_marked(is_marked(marks, number), role, strings.last(), &mut bytes)?;
+        put_rendered_if_marked(is_marked(marks, number), role, strings.string(), &mut bytes)?;
         starts.push(bytes.len())?;
     }
-    Ok(Arena::of(bytes, starts))
+    Ok(Arena::from_parts(bytes, starts))
 }
 
 /// The table of the strings that triples have in a role.
@@ -111,7 +82,8 @@ fn render_used(
 ) -> Result<Arena, AllocError>
     ensures { IfOk result (RendersRole (layout_view layout.now) role triples.now) }
 {
-    let marks = mark_used(alloc, layout.count(role), role, triples)?;
+    let ids = (layout.count(role) as usize).saturating_add(1);
+    let marks = use_flags(alloc, triples, role, ids)?;
     Ok(render_marked(alloc, layout, role, &marks)?)
 }
 
@@ -160,8 +132,10 @@ pub(crate) fn total_line_len(tables: &TermTables, triples: &[(u64, u64, u64)]) -
 
 /// Appends an entry; an empty one is an error, as its string is not a term. After an error `out` is unchanged.
 fn append_rendered(role: Role, n: u64, rendered: &[u8], out: &mut Vec<u8>) -> Result<(), DumpFault>
-    ensures ok { OnOk result ((string : List ℕ) → IsRendered role string rendered.now → AppendsTerm role string out.old.items out.new.items) }
-    ensures err { IfErr result (λ e. (string : List ℕ) → IsRendered role string rendered.now → ReportsNonTerm role n string e) }
+    ensures ok { OnOk result ((string : List ℕ) → IsRendered role string rendered.now
+        → AppendsTerm role string out.old.items out.new.items) }
+    ensures err { IfErr result (λ e. (string : List ℕ) → IsRendered role string rendered.now
+        → ReportsNonTerm role n string e) }
     ensures kept { IsPrefixOf out.old.items out.new.items }
 {
     if rendered.is_empty() {
@@ -177,8 +151,10 @@ fn append_line_from_tables(
     object: &[u8],
     out: &mut Vec<u8>,
 ) -> Result<(), DumpFault>
-    ensures ok { OnOk result ((g : GraphParts) → RendersTriple g tables.now triple → object.now ≡ rendered_string tables.now.objects triple.2 → AppendsLine g triple out.old.items out.new.items) }
-    ensures err { IfErr result (λ e. (g : GraphParts) → RendersTriple g tables.now triple → object.now ≡ rendered_string tables.now.objects triple.2 → ReportsNonTermOfTriple g triple e) }
+    ensures ok { OnOk result ((g : GraphParts) → RendersTriple g tables.now triple
+        → object.now ≡ rendered_string tables.now.objects triple.2 → AppendsLine g triple out.old.items out.new.items) }
+    ensures err { IfErr result (λ e. (g : GraphParts) → RendersTriple g tables.now triple
+        → object.now ≡ rendered_string tables.now.objects triple.2 → ReportsNonTermOfTriple g triple e) }
     ensures kept { IsPrefixOf out.old.items out.new.items }
 {
     let (s, p, o) = triple;
@@ -199,7 +175,8 @@ fn rendered_objects<'t>(
     tables: &'t TermTables,
     triples: &[(u64, u64, u64)],
 ) -> Result<Vec<&'t [u8]>, AllocError>
-    ensures { IfOk result (λ made. map (λ x. x.now) made.items ≡ map (λ t. rendered_string tables.now.objects t.2) triples.now) }
+    ensures { IfOk result (λ made. map (λ x. x.now) made.items
+        ≡ map (λ t. rendered_string tables.now.objects t.2) triples.now) }
 {
     let mut made = Vec::with_capacity(alloc, triples.len())?;
     'triples: for triple in triples {
@@ -228,8 +205,10 @@ pub(crate) fn append_lines(
     triples: &[(u64, u64, u64)],
     out: &mut Vec<u8>,
 ) -> Result<(), DumpFault>
-    ensures ok { OnOk result ((g : GraphParts) → AreTables g triples.now tables.now → AppendsText g triples.now out.old.items out.new.items) }
-    ensures err { IfErr result (λ e. (g : GraphParts) → AreTables g triples.now tables.now → ReportsFirstNonTerm g triples.now e) }
+    ensures ok { OnOk result ((g : GraphParts) → AreTables g triples.now tables.now
+        → AppendsText g triples.now out.old.items out.new.items) }
+    ensures err { IfErr result (λ e. (g : GraphParts) → AreTables g triples.now tables.now
+        → ReportsFirstNonTerm g triples.now e) }
     ensures kept { IsPrefixOf out.old.items out.new.items }
 {
     let objects = rendered_objects(alloc, tables, triples)?;

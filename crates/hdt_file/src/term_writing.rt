@@ -11,7 +11,7 @@ ghost use Rattle.hdt_file.specs.CachedTerms.{CachesPredicate, CachesTerm, Caches
 ghost use Rattle.hdt_wire.specs.Control.{IsPrefixOf};
 ghost use Rattle.hdt_wire.specs.declared.role.Role.TheVariants.{Predicate, Object};
 ghost use Rattle.hdt_file.specs.TextWriting.{AppendsLine, AppendsTerm, ReportsNonTermOfTriple, ReportsNonTerm, separator};
-ghost use Rattle.hdt_file.specs.LayoutView.{layout_view};
+ghost use Rattle.hdt_file.specs.Graph.{layout_view};
 
 use crate::fault::DumpFault;
 use crate::layout::Layout;
@@ -87,7 +87,7 @@ fn append_string_as_term(
 /// A string of a role as it is written in a line, cached for lines with the same string.
 #[derive(Drop)]
 struct CachedTerm {
-    number: Option<u64>,
+    id: Option<u64>,
     text: Vec<u8>,
 }
 
@@ -96,10 +96,10 @@ const TERM_CAPACITY: usize = 128;
 
 impl CachedTerm {
     fn new(alloc: Global, capacity: usize) -> Result<CachedTerm, AllocError>
-        ensures { IfOk result (λ s. s.number ≡ None) }
+        ensures { IfOk result (λ s. s.id ≡ None) }
     {
         Ok(CachedTerm {
-            number: None,
+            id: None,
             text: Vec::with_capacity(alloc, capacity)?,
         })
     }
@@ -112,18 +112,18 @@ impl CachedTerm {
         n: u64,
         string: &mut Vec<u8>,
     ) -> Result<(), DumpFault>
-        requires { CachesTerm (layout_view layout.now) role self.old.number self.old.text.items }
-        ensures kept { CachesTerm (layout_view layout.now) role self.new.number self.new.text.items }
+        requires { CachesTerm (layout_view layout.now) role self.old.id self.old.text.items }
+        ensures kept { CachesTerm (layout_view layout.now) role self.new.id self.new.text.items }
         ensures ok { OnOk result (CachesTerm (layout_view layout.now) role (Some n) self.new.text.items) }
         ensures err { IfErr result (ReportsNonTerm role n (string_of (layout_view layout.now) role n)) }
     {
-        if self.number == Some(n) {
+        if self.id == Some(n) {
             return Ok(());
         }
-        self.number = None;
+        self.id = None;
         self.text.clear();
         append_string_as_term(layout, role, n, string, &mut self.text)?;
-        self.number = Some(n);
+        self.id = Some(n);
         Ok(())
     }
 
@@ -136,10 +136,11 @@ impl CachedTerm {
         string: &mut Vec<u8>,
         out: &mut Vec<u8>,
     ) -> Result<(), DumpFault>
-        requires { CachesTerm (layout_view layout.now) role self.old.number self.old.text.items }
-        ensures kept { CachesTerm (layout_view layout.now) role self.new.number self.new.text.items }
+        requires { CachesTerm (layout_view layout.now) role self.old.id self.old.text.items }
+        ensures kept { CachesTerm (layout_view layout.now) role self.new.id self.new.text.items }
         ensures spelled { OnOk result (CachesTerm (layout_view layout.now) role (Some n) self.new.text.items) }
-        ensures ok { OnOk result (AppendsTerm role (string_of (layout_view layout.now) role n) out.old.items out.new.items) }
+        ensures ok { OnOk result (AppendsTerm role
+            (string_of (layout_view layout.now) role n) out.old.items out.new.items) }
         ensures err { IfErr result (ReportsNonTerm role n (string_of (layout_view layout.now) role n)) }
         ensures left { OnErr result (IsPrefixOf out.old.items out.new.items) }
     {
@@ -149,14 +150,14 @@ impl CachedTerm {
 
     /// Caches string n, which is written as `text`.
     fn set(&mut self, n: u64, text: &[u8]) -> Result<(), AllocError>
-        ensures number { OnOk result (self.new.number ≡ Some n) }
+        ensures id { OnOk result (self.new.id ≡ Some n) }
         ensures text { OnOk result (self.new.text.items ≡ text.now) }
-        ensures err { OnErr result (self.new.number ≡ None) }
+        ensures err { OnErr result (self.new.id ≡ None) }
     {
-        self.number = None;
+        self.id = None;
         self.text.clear();
         self.text.extend_from_slice(text)?;
-        self.number = Some(n);
+        self.id = Some(n);
         Ok(())
     }
 }
@@ -173,37 +174,39 @@ fn slot_of(n: u64) -> usize {
 }
 
 /// The cached term of predicate n.
-fn cached_term(kept: &[CachedTerm], n: u64) -> Option<&[u8]>
-    ensures { (g : GraphParts) → All (CachesPredicate g) kept.now → IfSome result (λ text. CachesTerm g Predicate (Some n) text.now) }
+fn cached_term(slots: &[CachedTerm], n: u64) -> Option<&[u8]>
+    ensures { (g : GraphParts) → All (CachesPredicate g) slots.now
+        → IfSome result (λ text. CachesTerm g Predicate (Some n) text.now) }
 {
-    let place = kept.get(slot_of(n))?;
-    if place.number == Some(n) {
-        Some(&place.text)
+    let slot = slots.get(slot_of(n))?;
+    if slot.id == Some(n) {
+        Some(&slot.text)
     } else {
         None
     }
 }
 
 /// Caches the term of predicate n, if it is short and its slot is free. A slot is never overwritten.
-fn cache_predicate(kept: &mut Vec<CachedTerm>, n: u64, text: &[u8]) -> Result<(), AllocError>
-    ensures { (g : GraphParts) → All (CachesPredicate g) kept.old.items → CachesTerm g Predicate (Some n) text.now → All (CachesPredicate g) kept.new.items }
+fn cache_predicate(slots: &mut Vec<CachedTerm>, n: u64, text: &[u8]) -> Result<(), AllocError>
+    ensures { (g : GraphParts) → All (CachesPredicate g) slots.old.items → CachesTerm g Predicate (Some n) text.now
+        → All (CachesPredicate g) slots.new.items }
 {
     let at = slot_of(n);
-    if at < kept.len() && text.len() <= MAX_CACHED_LEN && kept[at].number.is_none() {
-        kept[at].set(n, text)?;
+    if at < slots.len() && text.len() <= MAX_CACHED_LEN && slots[at].id.is_none() {
+        slots[at].set(n, text)?;
     }
     Ok(())
 }
 
-/// Free slots for the terms of predicates.
-fn places(alloc: Global, count: usize) -> Result<Vec<CachedTerm>, AllocError>
-    ensures { IfOk result (λ kept. (g : GraphParts) → All (CachesPredicate g) kept.items) }
+/// Empty slots for the terms of predicates.
+fn empty_slots(alloc: Global, count: usize) -> Result<Vec<CachedTerm>, AllocError>
+    ensures { IfOk result (λ slots. (g : GraphParts) → All (CachesPredicate g) slots.items) }
 {
-    let mut kept = Vec::with_capacity(alloc, count)?;
-    'places: for _ in 0..count {
-        kept.push(CachedTerm::new(alloc, 0)?)?;
+    let mut slots = Vec::with_capacity(alloc, count)?;
+    'slots: for _ in 0..count {
+        slots.push(CachedTerm::new(alloc, 0)?)?;
     }
-    Ok(kept)
+    Ok(slots)
 }
 
 /// A writer of N-Triples terms. It caches what lines of one graph have in common: the last term of each role, and terms
@@ -215,7 +218,7 @@ pub struct TermWriter {
     predicate: CachedTerm,
     object: CachedTerm,
     last_object: u64,
-    kept: Vec<CachedTerm>,
+    cached_predicates: Vec<CachedTerm>,
 }
 
 impl TermWriter {
@@ -229,7 +232,7 @@ impl TermWriter {
             predicate: CachedTerm::new(alloc, TERM_CAPACITY)?,
             object: CachedTerm::new(alloc, TERM_CAPACITY)?,
             last_object: 0,
-            kept: places(alloc, count)?,
+            cached_predicates: empty_slots(alloc, count)?,
         })
     }
 
@@ -250,8 +253,8 @@ impl TermWriter {
     }
 
     /// Whether the term of predicate n is cached, and so is not decoded again.
-    pub(crate) fn keeps(&self, n: u64) -> bool {
-        cached_term(&self.kept, n).is_some()
+    pub(crate) fn caches_predicate(&self, n: u64) -> bool {
+        cached_term(&self.cached_predicates, n).is_some()
     }
 
     /// Appends predicate n as it is written in a line.
@@ -263,16 +266,17 @@ impl TermWriter {
     ) -> Result<(), DumpFault>
         requires { CachesTerms (layout_view layout.now) self.old }
         ensures kept { CachesTerms (layout_view layout.now) self.new }
-        ensures ok { OnOk result (AppendsTerm Predicate (string_of (layout_view layout.now) Predicate n) out.old.items out.new.items) }
+        ensures ok { OnOk result (AppendsTerm Predicate
+            (string_of (layout_view layout.now) Predicate n) out.old.items out.new.items) }
         ensures err { IfErr result (ReportsNonTerm Predicate n (string_of (layout_view layout.now) Predicate n)) }
         ensures left { OnErr result (IsPrefixOf out.old.items out.new.items) }
     {
-        if let Some(text) = cached_term(&self.kept, n) {
+        if let Some(text) = cached_term(&self.cached_predicates, n) {
             return Ok(out.extend_from_slice(text)?);
         }
         self.predicate
             .put(layout, Role::Predicate, n, &mut self.string, out)?;
-        Ok(cache_predicate(&mut self.kept, n, &self.predicate.text)?)
+        Ok(cache_predicate(&mut self.cached_predicates, n, &self.predicate.text)?)
     }
 
     /// Appends object n as it is written in a line. Most objects occur once, so only repeated ones are cached.
@@ -284,7 +288,8 @@ impl TermWriter {
     ) -> Result<(), DumpFault>
         requires { CachesTerms (layout_view layout.now) self.old }
         ensures kept { CachesTerms (layout_view layout.now) self.new }
-        ensures ok { OnOk result (AppendsTerm Object (string_of (layout_view layout.now) Object n) out.old.items out.new.items) }
+        ensures ok { OnOk result (AppendsTerm Object
+            (string_of (layout_view layout.now) Object n) out.old.items out.new.items) }
         ensures err { IfErr result (ReportsNonTerm Object n (string_of (layout_view layout.now) Object n)) }
         ensures left { OnErr result (IsPrefixOf out.old.items out.new.items) }
     {

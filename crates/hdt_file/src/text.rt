@@ -4,10 +4,9 @@ ghost use Rattle.hdt_wire.specs.Counted.{inner, failures};
 ghost use Rattle.hdt_wire.specs.declared.role.Role.{Role};
 ghost use Rattle.hdt_file.specs.Denoted.{denoted};
 ghost use Rattle.hdt_file.specs.CachedTerms.{CachesTerms};
-ghost use Rattle.hdt_file.specs.LayoutView.{layout_view};
+ghost use Rattle.hdt_file.specs.Graph.{layout_view, graph_view};
 ghost use Rattle.hdt_file.specs.Text.{IsFirstNonTerm, IsTextOf};
 ghost use Rattle.hdt_file.specs.TextWriting.{AppendsText, ReportsFirstNonTerm, WritesPrefix, WritesText, matches_if_given, limited};
-ghost use Rattle.hdt_file.specs.GraphView.{graph_view};
 
 use crate::fault::DumpFault;
 use crate::graph::Graph;
@@ -36,14 +35,16 @@ pub fn graph_text(
     graph: &Graph<'_>,
     pattern: Option<Pattern>,
 ) -> Result<Vec<u8>, DumpFault>
-    ensures ok { IfOk result (λ text. IsTextOf (denoted (graph_view graph.now) (matches_if_given (graph_view graph.now) pattern)) text.items) }
-    ensures err { IfErr result (ReportsFirstNonTerm (graph_view graph.now) (matches_if_given (graph_view graph.now) pattern)) }
+    ensures ok { IfOk result (λ text. IsTextOf
+        (denoted (graph_view graph.now) (matches_if_given (graph_view graph.now) pattern)) text.items) }
+    ensures err { IfErr result
+        (ReportsFirstNonTerm (graph_view graph.now) (matches_if_given (graph_view graph.now) pattern)) }
 {
     matches_text(alloc, &graph.layout(), graph.search_if_given(pattern), None)
 }
 
-/// Appends the text of the first `most` matches, or of all of them, as [`graph_text`] does, with a writer that is new or
-/// was used only for this graph. One writer for many texts decodes frequent predicates only once;
+/// Appends the text of the first `most` matches, or of all of them, as [`graph_text`] does, with a writer that is new
+/// or was used only for this graph. One writer for many texts decodes frequent predicates only once;
 /// [`TermWriter::with_cache`] says how much it caches. After an error it can still be used, and `out` is unchanged.
 pub fn append_graph_text(
     alloc: Global,
@@ -56,25 +57,31 @@ pub fn append_graph_text(
     // Before and after the call, the writer caches terms of this graph only.
     requires { CachesTerms (graph_view graph.now) term_writer.old }
     ensures kept { CachesTerms (graph_view graph.now) term_writer.new }
-    ensures ok { OnOk result (AppendsText (graph_view graph.now) (limited most (matches_if_given (graph_view graph.now) pattern)) out.old.items out.new.items) }
-    ensures err { IfErr result (ReportsFirstNonTerm (graph_view graph.now) (limited most (matches_if_given (graph_view graph.now) pattern))) }
+    ensures ok { OnOk result (AppendsText (graph_view graph.now)
+        (limited most (matches_if_given (graph_view graph.now) pattern)) out.old.items out.new.items) }
+    ensures err { IfErr result
+        (ReportsFirstNonTerm (graph_view graph.now) (limited most (matches_if_given (graph_view graph.now) pattern))) }
     ensures left { OnErr result (out.new.items ≡ out.old.items) }
 {
     let found = graph.search_if_given(pattern);
     append_matches(alloc, &graph.layout(), found, most, term_writer, out)
 }
 
-/// Returns the text of the first `most` matches of a layout, or of all of them, as [`graph_text`] does. It scans the
+/// Returns the text of the first `most` matches, or of all of them, as [`graph_text`] does. It scans the
 /// triples; with a subject given it makes rank/select indexes for its search, unless there is no memory for them.
-#[tactic(auto, unfolding(crate::specs::LayoutView::layout_view, crate::specs::LayoutParts::parts_of_layout))]
+#[tactic(auto, unfolding(crate::specs::Graph::layout_view, crate::specs::Graph::parts_of_layout))]
 pub fn layout_text(
     alloc: Global,
     layout: &Layout<'_>,
     pattern: Option<Pattern>,
     most: Option<u64>,
 ) -> Result<Vec<u8>, DumpFault>
-    ensures ok { IfOk result (λ text. IsTextOf (denoted (layout_view layout.now) (limited most (matches_if_given (layout_view layout.now) pattern))) text.items) }
-    ensures err { IfErr result (ReportsFirstNonTerm (layout_view layout.now) (limited most (matches_if_given (layout_view layout.now) pattern))) }
+    ensures ok { IfOk result (λ text. IsTextOf
+        (denoted (layout_view layout.now) (limited most (matches_if_given (layout_view layout.now) pattern)))
+        text.items) }
+    ensures err { IfErr result
+        (ReportsFirstNonTerm (layout_view layout.now)
+        (limited most (matches_if_given (layout_view layout.now) pattern))) }
 {
     let Some(pattern) = pattern else {
         return Ok(Vec::new(alloc));
@@ -106,14 +113,17 @@ pub fn write_graph<W: Write>(
     out: &mut Counted<W>,
 ) -> Result<u64, DumpFault>
     // The text, of the length that is returned, was written, and the writer has not failed.
-    ensures ok { IfOk result (WritesText (graph_view graph.now) (matches_if_given (graph_view graph.now) pattern) (W.contents (inner out.old)) (W.contents (inner out.new))) }
+    ensures ok { IfOk result (WritesText (graph_view graph.now) (matches_if_given (graph_view graph.now) pattern)
+        (W.contents (inner out.old)) (W.contents (inner out.new))) }
     ensures well { IsOk result → failures out.new ≡ failures out.old }
     // It names the first string of the first triple that is not a term which its role allows, in the order subject,
     // predicate, object.
-    ensures first { IfErr result (λ e. (role : Role) (n : ℕ) → e ≡ DumpFault.NotATerm role n → IsFirstNonTerm (graph_view graph.now) (matches_if_given (graph_view graph.now) pattern) role n) }
+    ensures first { IfErr result (λ e. (role : Role) (n : ℕ) → e ≡ DumpFault.NotATerm role n
+        → IsFirstNonTerm (graph_view graph.now) (matches_if_given (graph_view graph.now) pattern) role n) }
     // The writer failed in this call, once, after exactly the first n bytes of the text.
     ensures write { IfErr result (λ e. (n : ℕ) → e ≡ DumpFault.Write n → (failures out.new ≡ failures out.old + 1)
-        × WritesPrefix (graph_view graph.now) (matches_if_given (graph_view graph.now) pattern) (W.contents (inner out.old)) (W.contents (inner out.new)) n) }
+        × WritesPrefix (graph_view graph.now) (matches_if_given (graph_view graph.now) pattern)
+        (W.contents (inner out.old)) (W.contents (inner out.new)) n) }
     // After any other error nothing was written.
     ensures unwritten { IfErr result (λ e. ((n : ℕ) → e ≢ DumpFault.Write n) → out.new ≡ out.old) }
 {

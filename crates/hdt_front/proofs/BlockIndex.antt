@@ -19,8 +19,10 @@ next_same i b inside e short not_last =
     sym (ap (λ k. k % b) whole ∙ mod-mul-add (i / b) b (inside + 1) (omega (arith, short, not_last)))
 
 -- A byte with its top bit set is a VByte.
-pub one_byte : (rest : List ℕ) → 0 < length rest → 128 ≤ get_or rest 0 0 → get_or rest 0 0 < 256 → (let r : Result (ℕ × ℕ) Fault = Ok (get_or rest 0 0 - 128, 1) in r) ≡ vbyte_at rest 0
+pub one_byte : (rest : List ℕ) → 0 < length rest → 128 ≤ get_or rest 0 0 → get_or rest 0 0 < 256
+    → (let r : Result (ℕ × ℕ) Fault = Ok (get_or rest 0 0 - 128, 1) in r) ≡ vbyte_at rest 0
 one_byte [] some top byte = absurd (omega (arith, some))
 one_byte (b ∷ rest) some top byte =
-    let spelled : EncodedAt VByte (b ∷ rest) 0 (b - 128) 1 = record { in_order = omega arith; within = omega arith; spelled = (omega (arith, byte), omega (arith, top)) } in
+    let spelled : EncodedAt VByte (b ∷ rest) 0 (b - 128) 1 =
+    record { in_order = omega arith; within = omega arith; spelled = (omega (arith, byte), omega (arith, top)) } in
     sym (vbyte_only (b ∷ rest) 0 (b - 128) 1 (omega (arith, byte)) spelled)

@@ -4,8 +4,8 @@ use Rattle.std.specs.declared.cmp.Ordering.TheVariants.{Less, Equal, Greater}
 use Rattle.std.specs.Ordering.{is_lt, is_eq}
 use Rattle.std.proofs.lemmas.Bool.Decides.{nat_tests}
 use Rattle.hdt_front.specs.Laws.CommonPrefix.{both, shared_prefix_left, equal_bytes}
-use Rattle.hdt_front.specs.Searching.{lcp_len, IsBefore, IsBoundary, IsPosition, Compares, is_before, is_before_by}
-use Rattle.hdt_front.specs.Order.{string_cmp}
+use Rattle.hdt_front.specs.Inside.Searching.{IsBefore, IsBoundary, IsPosition, Compares, is_before, is_before_by}
+use Rattle.hdt_front.specs.Order.{string_cmp, lcp_len}
 use Rattle.hdt_front.specs.Prefixes.{BeginsWith, IsPrefixRange}
 use Rattle.hdt_front.proofs.AscendingIds.{Ascends, after}
 use Rattle.hdt_front.proofs.LcpOrder.{lcp_at_least_kept, apart}
@@ -26,14 +26,17 @@ eq_is b c e = grind (arith, nat_tests, e)
 
 -- ---- a string begins with a prefix if their longest common prefix is the prefix
 
-begins_step : (eq : Bool) (b c n m : ℕ) (s x : List ℕ) → nat_eq b c ≡ eq → (n ≡ m → s ≡ x) → cond eq (1 + n) 0 ≡ suc m → b ∷ s ≡ c ∷ x
-begins_step true b c n m s x e rest same = let r = rest (omega (arith, same)) in ap (λ a. a ∷ s) (eq_is b c e) ∙ ap (λ t. c ∷ t) r
+begins_step : (eq : Bool) (b c n m : ℕ) (s x : List ℕ) → nat_eq b c ≡ eq → (n ≡ m → s ≡ x) → cond eq (1 + n) 0 ≡ suc m
+    → b ∷ s ≡ c ∷ x
+begins_step true b c n m s x e rest same = let r = rest (omega (arith, same)) in ap (λ a. a ∷ s) (eq_is b c e)
+    ∙ ap (λ t. c ∷ t) r
 begins_step false b c n m s x e rest same = absurd (omega (arith, same))
 
 pub begins : (s x : List ℕ) → lcp_len s x ≡ length x → BeginsWith x s
 begins s [] same = refl
 begins [] (c ∷ x) same = absurd (omega (arith, same))
-begins (b ∷ s) (c ∷ x) same = begins_step (nat_eq b c) b c (lcp_len s x) (length x) (take (length x) s) x refl (λ h. begins s x h) same
+begins (b ∷ s) (c ∷ x) same =
+    begins_step (nat_eq b c) b c (lcp_len s x) (length x) (take (length x) s) x refl (λ h. begins s x h) same
 
 first_same : (b c : ℕ) (s x : List ℕ) → b ∷ s ≡ c ∷ x → (b ≡ c) × (s ≡ x)
 first_same b c s x e = (cc, cc)
@@ -47,7 +50,8 @@ shares_all (b ∷ s) (c ∷ x) h =
     omega (arith, shares_all s x e.1, ap (λ (t : Bool). cond t (1 + lcp_len s x) 0) (equal_bytes b c e.0))
 
 -- Such a string is not less than the prefix.
-not_less_step : (lt eq : Bool) (o : Ordering) (n m : ℕ) → (lt ≡ true → eq ≡ true → ⊥) → (n ≡ m → is_lt o ≡ false) → cond eq (1 + n) 0 ≡ suc m → is_lt (both lt eq o) ≡ false
+not_less_step : (lt eq : Bool) (o : Ordering) (n m : ℕ) → (lt ≡ true → eq ≡ true → ⊥) → (n ≡ m → is_lt o ≡ false)
+    → cond eq (1 + n) 0 ≡ suc m → is_lt (both lt eq o) ≡ false
 not_less_step true true o n m not_both rest same = absurd (not_both refl refl)
 not_less_step false true o n m not_both rest same = rest (omega (arith, same))
 not_less_step lt false o n m not_both rest same = absurd (omega (arith, same))
@@ -56,14 +60,18 @@ pub not_less : (s x : List ℕ) → lcp_len s x ≡ length x → is_lt (string_c
 not_less [] [] same = refl
 not_less (b ∷ s) [] same = refl
 not_less [] (c ∷ x) same = absurd (omega (arith, same))
-not_less (b ∷ s) (c ∷ x) same = not_less_step (nat_lt b c) (nat_eq b c) (string_cmp s x) (lcp_len s x) (length x) (apart b c) (λ h. not_less s x h) same
+not_less (b ∷ s) (c ∷ x) same =
+    not_less_step (nat_lt b c) (nat_eq b c) (string_cmp s x) (lcp_len s x) (length x) (apart b c)
+    (λ h. not_less s x h) same
 
 -- ---- what is less than a string that is before, is before
 
 same_tests : (n m : ℕ) → nat_eq n m ≡ nat_eq (1 + n) (suc m)
 same_tests n m = grind (arith, nat_tests)
 
-less_step : (lt eq : Bool) (o p : Ordering) (n m : ℕ) → (lt ≡ true → eq ≡ true → ⊥) → (o ≡ Less → is_before_by true m p n ≡ true) → both lt eq o ≡ Less → is_before_by true (suc m) (both lt eq p) (cond eq (1 + n) 0) ≡ true
+less_step : (lt eq : Bool) (o p : Ordering) (n m : ℕ) → (lt ≡ true → eq ≡ true → ⊥)
+    → (o ≡ Less → is_before_by true m p n ≡ true) → both lt eq o ≡ Less
+    → is_before_by true (suc m) (both lt eq p) (cond eq (1 + n) 0) ≡ true
 less_step true true o p n m not_both rest less = absurd (not_both refl refl)
 less_step true false o p n m not_both rest less = refl
 less_step false true o p n m not_both rest less = ap (λ (t : Bool). is_lt p || t) (sym (same_tests n m)) ∙ rest less
@@ -81,7 +89,8 @@ less_than_begins [] t (c ∷ x) less same = refl
 less_than_begins (b ∷ s) [] (c ∷ x) less same = absurd (cc)
 less_than_begins (b ∷ s) (a ∷ t) (c ∷ x) less same =
     let e = lcp_first (nat_eq a c) a c (lcp_len t x) (length x) refl same in
-    less_step (nat_lt b c) (nat_eq b c) (string_cmp s t) (string_cmp s x) (lcp_len s x) (length x) (apart b c) (λ h. less_than_begins s t x h e.1)
+    less_step (nat_lt b c) (nat_eq b c) (string_cmp s t) (string_cmp s x) (lcp_len s x) (length x) (apart b c)
+    (λ h. less_than_begins s t x h e.1)
     (subst (λ (d : ℕ). both (nat_lt b d) (nat_eq b d) (string_cmp s t) ≡ Less) e.0 less)
 
 or_cases : (a b : Bool) → (a || b) ≡ true → (a ≡ true) ⊎ (b ≡ true)
@@ -92,7 +101,8 @@ less_before : (past : Bool) (x s : List ℕ) → string_cmp s x ≡ Less → is_
 unfolding is_before
 less_before past x s e = ap (λ (o : Ordering). is_lt o || (past && nat_eq (lcp_len s x) (length x))) e
 
-downward : (past : Bool) (x s t : List ℕ) → string_cmp s t ≡ Less → is_before past x t ≡ true → is_before past x s ≡ true
+downward : (past : Bool) (x s t : List ℕ) → string_cmp s t ≡ Less → is_before past x t ≡ true
+    → is_before past x s ≡ true
 unfolding is_before
 downward false x s t less before = elim (or_cases (is_lt (string_cmp t x)) false before) [
   | inl lt ↦ less_before false x s (nat_list_cmp_total.trans s t x less (less_from (string_cmp t x) lt))
@@ -119,16 +129,20 @@ not_true : (b : Bool) → b ≡ false → b ≡ true → ⊥
 not_true true e f = cc
 not_true false e f = cc
 
-pub first_before : (past : Bool) (x : List ℕ) (xs : List (List ℕ)) (n i : ℕ) → Ascends xs → IsBoundary past x xs n → i < n → is_before past x (get_or xs i []) ≡ true
+pub first_before : (past : Bool) (x : List ℕ) (xs : List (List ℕ)) (n i : ℕ) → Ascends xs → IsBoundary past x xs n
+    → i < n → is_before past x (get_or xs i []) ≡ true
 first_before past x xs n i a b h = elim (earlier_or i n h) [
-  | inl lt ↦ downward past x (get_or xs i []) (get_or xs (n - 1) []) (after xs i (n - 1) a lt (omega (arith, h, b.within))) (b.last (omega (arith, h)))
+  | inl lt ↦ downward past x (get_or xs i []) (get_or xs (n - 1) [])
+      (after xs i (n - 1) a lt (omega (arith, h, b.within))) (b.last (omega (arith, h)))
   | inr same ↦ ap (λ k. is_before past x (get_or xs k [])) same ∙ b.last (omega (arith, h))
 ]
 
-pub rest_not_before : (past : Bool) (x : List ℕ) (xs : List (List ℕ)) (n i : ℕ) → Ascends xs → IsBoundary past x xs n → n ≤ i → i < length xs → is_before past x (get_or xs i []) ≡ false
+pub rest_not_before : (past : Bool) (x : List ℕ) (xs : List (List ℕ)) (n i : ℕ) → Ascends xs → IsBoundary past x xs n
+    → n ≤ i → i < length xs → is_before past x (get_or xs i []) ≡ false
 rest_not_before past x xs n i a b h k = elim (later_or i n h) [
   | inl lt ↦ is_false (is_before past x (get_or xs i [])) (λ before.
-      not_true (is_before past x (get_or xs n [])) (b.next (omega (arith, lt, k))) (downward past x (get_or xs n []) (get_or xs i []) (after xs n i a lt k) before))
+      not_true (is_before past x (get_or xs n [])) (b.next (omega (arith, lt, k)))
+      (downward past x (get_or xs n []) (get_or xs i []) (after xs n i a lt k) before))
   | inr same ↦ ap (λ m. is_before past x (get_or xs m [])) same ∙ b.next (omega (arith, same, k))
 ]
 
@@ -140,7 +154,8 @@ both_false false e f t = t
 
 is_begun : (x s : List ℕ) → is_before false x s ≡ false → is_before true x s ≡ true → BeginsWith x s
 unfolding is_before
-is_begun x s low high = begins s x (eq_is (lcp_len s x) (length x) (both_false (is_lt (string_cmp s x)) (nat_eq (lcp_len s x) (length x)) low high))
+is_begun x s low high = begins s x
+    (eq_is (lcp_len s x) (length x) (both_false (is_lt (string_cmp s x)) (nat_eq (lcp_len s x) (length x)) low high))
 
 begun_not_before : (x s : List ℕ) → BeginsWith x s → is_before false x s ≡ false
 unfolding is_before
@@ -148,7 +163,8 @@ begun_not_before x s h = ap (λ (t : Bool). t || false) (not_less s x (shares_al
 
 begun_before : (x s : List ℕ) → BeginsWith x s → is_before true x s ≡ true
 unfolding is_before
-begun_before x s h = or_holds (is_lt (string_cmp s x)) (nat_eq (lcp_len s x) (length x)) (equal_bytes (lcp_len s x) (length x) (shares_all s x h))
+begun_before x s h = or_holds (is_lt (string_cmp s x)) (nat_eq (lcp_len s x) (length x))
+    (equal_bytes (lcp_len s x) (length x) (shares_all s x h))
 
 weaker : (lt e : Bool) → (lt || (false && e)) ≡ true → (lt || (true && e)) ≡ true
 weaker true e t = refl
@@ -164,20 +180,29 @@ not_lt m n h = elim (cases_lt n m) [
   | inr ge ↦ ge
 ]
 
-pub between : (x : List ℕ) (xs : List (List ℕ)) (m n : ℕ) → Ascends xs → IsBoundary false x xs m → IsBoundary true x xs n → IsPrefixRange xs x (m + 1) (n + 1)
+pub between : (x : List ℕ) (xs : List (List ℕ)) (m n : ℕ) → Ascends xs → IsBoundary false x xs m
+    → IsBoundary true x xs n → IsPrefixRange xs x (m + 1) (n + 1)
 between x xs m n a low high = record {
   some = omega arith;
   ordered = omega (
     arith,
     not_lt m n (λ h.
-        not_true (is_before true x (get_or xs n [])) (high.next (omega (arith, h, low.within))) (before_weaker x (get_or xs n []) (first_before false x xs m n a low h))),
+        not_true (is_before true x (get_or xs n [])) (high.next (omega (arith, h, low.within)))
+        (before_weaker x (get_or xs n []) (first_before false x xs m n a low h))),
   );
   within = omega (arith, high.within);
   inside = λ k h i.
-      is_begun x (get_or xs (k - 1) []) (rest_not_before false x xs m (k - 1) a low (omega (arith, h)) (omega (arith, h, i, high.within))) (first_before true x xs n (k - 1) a high (omega (arith, h, i)));
+      is_begun x (get_or xs (k - 1) [])
+      (rest_not_before false x xs m (k - 1) a low (omega (arith, h)) (omega (arith, h, i, high.within)))
+      (first_before true x xs n (k - 1) a high (omega (arith, h, i)));
   all = λ k h i b. (
-    let l : m ≤ k - 1 = not_lt m (k - 1) (λ lt. not_true (is_before false x (get_or xs (k - 1) [])) (begun_not_before x (get_or xs (k - 1) []) b) (first_before false x xs m (k - 1) a low lt)) in omega (arith, l, h),
-    let u : k - 1 < n = below_by (k - 1) n (λ ge. not_true (is_before true x (get_or xs (k - 1) [])) (rest_not_before true x xs n (k - 1) a high ge (omega (arith, h, i))) (begun_before x (get_or xs (k - 1) []) b)) in omega (arith, u, h),
+    let l : m ≤ k - 1 = not_lt m (k - 1)
+        (λ lt. not_true (is_before false x (get_or xs (k - 1) [])) (begun_not_before x (get_or xs (k - 1) []) b)
+        (first_before false x xs m (k - 1) a low lt)) in omega (arith, l, h),
+    let u : k - 1 < n = below_by (k - 1) n
+        (λ ge. not_true (is_before true x (get_or xs (k - 1) []))
+        (rest_not_before true x xs n (k - 1) a high ge (omega (arith, h, i))) (begun_before x (get_or xs (k - 1) []) b))
+        in omega (arith, u, h),
   );
 }
   where
@@ -196,26 +221,37 @@ none_begins s x has_zero = record {
   within = omega arith;
   inside = λ n h i. absurd (omega (arith, h, i));
   all = λ n h i b.
-      absurd (omega (arith, has_zero, zero_none x (subst NoZero b (take_no_zero (length x) (get_or (strings_of s) (n - 1) []) (string_has_none s (n - 1) (omega (arith, h, i)))))));
+      absurd (omega (
+        arith,
+        has_zero,
+        zero_none x (subst NoZero b
+            (take_no_zero (length x) (get_or (strings_of s) (n - 1) [])
+            (string_has_none s (n - 1) (omega (arith, h, i))))),
+      ));
 }
 
 -- ---- one string after another in a block
 
 -- A string that shares more with the last one than that shares with the searched one is before if the last one is.
-pub kept_before : (past : Bool) (x last text : List ℕ) (k same : ℕ) → k ≤ length last → same < k → IsBefore past last x same → IsBefore past (take k last ++ text) x same
+pub kept_before : (past : Bool) (x last text : List ℕ) (k same : ℕ) → k ≤ length last → same < k
+    → IsBefore past last x same → IsBefore past (take k last ++ text) x same
 unfolding is_before
 kept_before past x last text k same fits more h =
-    let r = shared_prefix_left k (take k last ++ text) last x (omega (arith, more, h.same)) (lcp_at_least_kept k last text fits) in
+    let r = shared_prefix_left k (take k last ++ text) last x (omega (arith, more, h.same))
+    (lcp_at_least_kept k last text fits) in
     record {
-      before = ap (λ (o : Ordering). is_before_by past (length x) o (lcp_len (take k last ++ text) x)) r.0 ∙ ap (λ (l : ℕ). is_before_by past (length x) (string_cmp last x) l) r.1 ∙ h.before;
+      before = ap (λ (o : Ordering). is_before_by past (length x) o (lcp_len (take k last ++ text) x)) r.0
+          ∙ ap (λ (l : ℕ). is_before_by past (length x) (string_cmp last x) l) r.1 ∙ h.before;
       same = r.1 ∙ h.same;
     }
 
 -- A whole string, by its order and its longest common prefix.
-pub by_parts : (past : Bool) (x s : List ℕ) (o : Ordering) (l : ℕ) → o ≡ string_cmp s x → l ≡ lcp_len s x → is_before past x s ≡ is_before_by past (length x) o l
+pub by_parts : (past : Bool) (x s : List ℕ) (o : Ordering) (l : ℕ) → o ≡ string_cmp s x → l ≡ lcp_len s x
+    → is_before past x s ≡ is_before_by past (length x) o l
 unfolding is_before
 by_parts past x s o l order same =
-    ap (λ (p : Ordering). is_before_by past (length x) p (lcp_len s x)) (sym order) ∙ ap (λ (n : ℕ). is_before_by past (length x) o n) (sym same)
+    ap (λ (p : Ordering). is_before_by past (length x) p (lcp_len s x)) (sym order)
+    ∙ ap (λ (n : ℕ). is_before_by past (length x) o n) (sym same)
 
 -- How it compares if it is not before.
 equal_of : (o : Ordering) → is_eq o ≡ true → o ≡ Equal
@@ -228,7 +264,8 @@ greater_of Less b h e = absurd (cc)
 greater_of Equal b h e = absurd (cc)
 greater_of Greater b h e = refl
 
-pub compares : (past : Bool) (x s : List ℕ) (o : Ordering) (l : ℕ) → o ≡ string_cmp s x → l ≡ lcp_len s x → is_before_by past (length x) o l ≡ false
+pub compares : (past : Bool) (x s : List ℕ) (o : Ordering) (l : ℕ) → o ≡ string_cmp s x → l ≡ lcp_len s x
+    → is_before_by past (length x) o l ≡ false
     → (is_eq o ≡ true → Compares past s x Equal) × (is_eq o ≡ false → Compares past s x Greater)
 compares past x s o l order same h =
     let none = by_parts past x s o l order same ∙ h in
@@ -248,10 +285,13 @@ pub less_than : (x s : List ℕ) → is_before false x s ≡ true → string_cmp
 less_than x s h = less_of false x s refl h
 
 -- If the string at a position equals the searched one, those before the position are less.
-pub boundary_at : (past : Bool) (x : List ℕ) (xs : List (List ℕ)) (n : ℕ) → Ascends xs → IsPosition past xs x (Ok n) → IsBoundary past x xs n
+pub boundary_at : (past : Bool) (x : List ℕ) (xs : List (List ℕ)) (n : ℕ) → Ascends xs → IsPosition past xs x (Ok n)
+    → IsBoundary past x xs n
 boundary_at past x xs n a h = record {
   within = omega (arith, h.0);
-  last = λ some. less_before past x (get_or xs (n - 1) []) (sym (alike_right nat_list_cmp_total (get_or xs n []) x (get_or xs (n - 1) []) h.1.1) ∙ after xs (n - 1) n a (omega (arith, some)) h.0);
+  last = λ some. less_before past x (get_or xs (n - 1) [])
+      (sym (alike_right nat_list_cmp_total (get_or xs n []) x (get_or xs (n - 1) []) h.1.1)
+      ∙ after xs (n - 1) n a (omega (arith, some)) h.0);
   next = λ _. h.1.0;
 }
 

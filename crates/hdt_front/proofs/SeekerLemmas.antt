@@ -15,53 +15,69 @@ use Rattle.std.proofs.lemmas.Nat.{div-add-mod'}
 use Rattle.std.proofs.Math.Nat.{mod-lt}
 
 -- A block has fewer strings before it than there are.
-pub head_within : (s : Section) (q : ℕ) → q < blocks_of s → q * s.packed.block < s.packed.count
+pub head_within : (s : Section) (q : ℕ) → q < blocks_of s → q * s.packed.block_size < s.packed.count
 unfolding blocks_of
-head_within s q h = head_inside s.packed.count s.packed.block q (some_block s.packed.count s.packed.block q h) h
+head_within s q h = head_inside s.packed.count s.packed.block_size q
+    (some_block s.packed.count s.packed.block_size q h) h
 
 -- String i, from 0, is the one before string i + 1.
-pub string_before : (s : Section) (i : ℕ) → i < s.packed.count → get_or (strings_of s) i [] ≡ string_before_entry s.packed.block (i + 1) s.packed.bytes.now
+pub string_before : (s : Section) (i : ℕ) → i < s.packed.count
+    → get_or (strings_of s) i [] ≡ string_before_entry s.packed.block_size (i + 1) s.packed.bytes.now
 unfolding strings_of
 string_before s i h =
     let next : suc i ≡ i + 1 = omega arith in
-    string_is s.packed.block s.packed.count i s.packed.bytes.now h ∙ ap (λ k. string_before_entry s.packed.block k s.packed.bytes.now) next
+    string_is s.packed.block_size s.packed.count i s.packed.bytes.now h
+    ∙ ap (λ k. string_before_entry s.packed.block_size k s.packed.bytes.now) next
 
 pub record Passes (s : Section) (i : ℕ) (last rest : List ℕ) : Type 0 where
-  pub ends : len_before_zero (bytes_from_suffix (is_head s.packed.block i) rest) < length (bytes_from_suffix (is_head s.packed.block i) rest)
-  pub string : decoded_string (is_head s.packed.block i) last rest ≡ string_before_entry s.packed.block (i + 1) s.packed.bytes.now
-  pub after : after_entry (is_head s.packed.block i) rest ≡ bytes_from_entry s.packed.block (i + 1) s.packed.bytes.now
+  pub ends : len_before_zero (bytes_from_suffix (is_head s.packed.block_size i) rest)
+      < length (bytes_from_suffix (is_head s.packed.block_size i) rest)
+  pub string : decoded_string (is_head s.packed.block_size i) last rest
+      ≡ string_before_entry s.packed.block_size (i + 1) s.packed.bytes.now
+  pub after : after_entry (is_head s.packed.block_size i) rest
+      ≡ bytes_from_entry s.packed.block_size (i + 1) s.packed.bytes.now
 
 -- The step from string i to the next one.
-pub passes : (s : Section) (i : ℕ) (last rest : List ℕ) → i < s.packed.count → last ≡ string_before_entry s.packed.block i s.packed.bytes.now → rest ≡ bytes_from_entry s.packed.block i s.packed.bytes.now
+pub passes : (s : Section) (i : ℕ) (last rest : List ℕ) → i < s.packed.count
+    → last ≡ string_before_entry s.packed.block_size i s.packed.bytes.now
+    → rest ≡ bytes_from_entry s.packed.block_size i s.packed.bytes.now
     → Passes s i last rest
 unfolding string_before_entry bytes_from_entry
 passes s i last rest h el er =
     let p = block_layout s.packed in
-    let b : ℕ = s.packed.block in
+    let b : ℕ = s.packed.block_size in
     let bytes : List ℕ = s.packed.bytes.now in
     let row = entry_check_at p s.packed.count i bytes h s.read in
     let next : suc i ≡ i + 1 = omega arith in
     record {
-      ends = subst (λ (r : List ℕ). len_before_zero (bytes_from_suffix (is_head b i) r) < length (bytes_from_suffix (is_head b i) r)) (sym er) row.ends;
-      string = ap (λ l. decoded_string (is_head b i) l rest) el ∙ ap (decoded_string (is_head b i) (string_before_entry b i bytes)) er ∙ ap (λ k. string_before_entry b k bytes) next;
+      ends = subst (λ (r : List ℕ). len_before_zero (bytes_from_suffix (is_head b i) r)
+          < length (bytes_from_suffix (is_head b i) r)) (sym er) row.ends;
+      string = ap (λ l. decoded_string (is_head b i) l rest) el
+          ∙ ap (decoded_string (is_head b i) (string_before_entry b i bytes)) er
+          ∙ ap (λ k. string_before_entry b k bytes) next;
       after = ap (after_entry (is_head b i)) er ∙ ap (λ k. bytes_from_entry b k bytes) next;
     }
 
 -- The state of a cursor at a string.
-pub stands : (s : Section) (at : ℕ) (last : List ℕ) → 0 < at → at ≤ s.packed.count → last ≡ string_before_entry s.packed.block at s.packed.bytes.now
+pub seeker_is : (s : Section) (at : ℕ) (last : List ℕ) → 0 < at → at ≤ s.packed.count
+    → last ≡ string_before_entry s.packed.block_size at s.packed.bytes.now
     → (let w : SeekerState = record { section = s; at = at; last = last } in w) ≡ seeker_at s at
-stands s at last some h e =
+seeker_is s at last some h e =
     let next : at - 1 + 1 ≡ at = omega (arith, some) in
-    let string : last ≡ get_or (strings_of s) (at - 1) [] = e ∙ ap (λ k. string_before_entry s.packed.block k s.packed.bytes.now) (sym next) ∙ sym (string_before s (at - 1) (omega (arith, some, h))) in
+    let string : last ≡ get_or (strings_of s) (at - 1) [] =
+    e ∙ ap (λ k. string_before_entry s.packed.block_size k s.packed.bytes.now) (sym next)
+    ∙ sym (string_before s (at - 1) (omega (arith, some, h))) in
     ap (λ (l : List ℕ). (let w : SeekerState = record { section = s; at = at; last = l } in w)) string
 
 -- The block of a string is one of the blocks.
-pub block_exists : (s : Section) (n : ℕ) → 1 ≤ n → n ≤ length (strings_of s) → (1 ≤ s.packed.block) × ((n - 1) / s.packed.block < blocks_of s)
+pub block_exists : (s : Section) (n : ℕ) → 1 ≤ n → n ≤ length (strings_of s) → (1 ≤ s.packed.block_size)
+    × ((n - 1) / s.packed.block_size < blocks_of s)
 unfolding blocks_of
 block_exists s n some h =
-    let size : 1 ≤ s.packed.block = s.packed.some (omega (arith, some, h, count_is s)) in
-    (size, block_inside s.packed.count s.packed.block (n - 1) size (omega (arith, some, h, count_is s)))
+    let size : 1 ≤ s.packed.block_size = s.packed.some (omega (arith, some, h, count_is s)) in
+    (size, block_inside s.packed.count s.packed.block_size (n - 1) size (omega (arith, some, h, count_is s)))
 
 -- Up to string n it has at most as many strings as the block size.
-pub block_short : (s : Section) (n : ℕ) → 1 ≤ n → 1 ≤ s.packed.block → n ≤ strings_before_block s n + s.packed.block
-block_short s n some size = omega (arith, some, div-add-mod' (n - 1) s.packed.block, mod-lt (n - 1) size)
+pub block_short : (s : Section) (n : ℕ) → 1 ≤ n → 1 ≤ s.packed.block_size
+    → n ≤ strings_before_block s n + s.packed.block_size
+block_short s n some size = omega (arith, some, div-add-mod' (n - 1) s.packed.block_size, mod-lt (n - 1) size)

@@ -24,29 +24,38 @@ nonzero : (b : ℕ) → b ≢ 0 → eqb b 0 ≡ false
 nonzero b ne = grind (arith, ne)
 
 pub zero_none : (s : List ℕ) → NoZero s → len_before_zero s ≡ length s
-zero_none s h = position_or_len_is (λ b. eqb b 0) s (length s) 0 (omega arith) (λ j lt. nonzero (get_or s j 0) (nonzero_from s h j 0 lt)) (λ lt. absurd (omega (arith, lt)))
+zero_none s h = position_or_len_is (λ b. eqb b 0) s (length s) 0 (omega arith)
+    (λ j lt. nonzero (get_or s j 0) (nonzero_from s h j 0 lt)) (λ lt. absurd (omega (arith, lt)))
 
 abbrev can : ℕ → List ℕ → List ℕ → Bool
 can i before s = is_utf8 s && (nat_eq (len_before_zero s) (length s) && (nat_eq i 0 || precedes before s))
 
-forth_from : (i : ℕ) (before s : List ℕ) (rest : List (List ℕ)) → can i before s ≡ true → Ascending (i + 1) s rest → Ascending i before (s ∷ rest)
+forth_from : (i : ℕ) (before s : List ℕ) (rest : List (List ℕ)) → can i before s ≡ true → Ascending (i + 1) s rest
+    → Ascending i before (s ∷ rest)
 unfolding Ascending
 forth_from i before s rest e h =
     let a = and_parts (is_utf8 s) _ e in
     let b = and_parts (nat_eq (len_before_zero s) (length s)) _ a.1 in
     (a.0, no_zero s (eqb-true _ _ b.0), b.1, h)
 
-back_from : (i : ℕ) (before s : List ℕ) (rest : List (List ℕ)) → Ascending i before (s ∷ rest) → (can i before s ≡ true) × Ascending (i + 1) s rest
+back_from : (i : ℕ) (before s : List ℕ) (rest : List (List ℕ)) → Ascending i before (s ∷ rest) → (can i before s ≡ true)
+    × Ascending (i + 1) s rest
 unfolding Ascending
-back_from i before s rest h =
-    (and_from (is_utf8 s) _ h.0 (and_from (nat_eq (len_before_zero s) (length s)) _ (eq-eqb _ _ (zero_none s h.1)) h.2), h.3)
+back_from i before s rest h = (
+  and_from (is_utf8 s) _ h.0 (and_from (nat_eq (len_before_zero s) (length s)) _ (eq-eqb _ _ (zero_none s h.1)) h.2),
+  h.3,
+)
 
-pub forth : (P : Type 0) (i : ℕ) (before s : List ℕ) (left rest : List (List ℕ)) → left ≡ s ∷ rest → can i before s ≡ true → (Ascending i before left → P) → Ascending (i + 1) s rest → P
-forth P i before s left rest e test so_far h = so_far (subst (Ascending i before) (sym e) (forth_from i before s rest test h))
+pub forth : (P : Type 0) (i : ℕ) (before s : List ℕ) (left rest : List (List ℕ)) → left ≡ s ∷ rest
+    → can i before s ≡ true → (Ascending i before left → P) → Ascending (i + 1) s rest → P
+forth P i before s left rest e test so_far h =
+    so_far (subst (Ascending i before) (sym e) (forth_from i before s rest test h))
 
-pub back : (P : Type 0) (i : ℕ) (before s : List ℕ) (left rest : List (List ℕ)) → left ≡ s ∷ rest → (P → Ascending i before left) → P → (can i before s ≡ true) × Ascending (i + 1) s rest
+pub back : (P : Type 0) (i : ℕ) (before s : List ℕ) (left rest : List (List ℕ)) → left ≡ s ∷ rest
+    → (P → Ascending i before left) → P → (can i before s ≡ true) × Ascending (i + 1) s rest
 back P i before s left rest e so_far h = back_from i before s rest (subst (Ascending i before) e (so_far h))
 
-pub ended : (P : Type 0) (i : ℕ) (before : List ℕ) (left : List (List ℕ)) → left ≡ [] → (Ascending i before left → P) → P
+pub ended : (P : Type 0) (i : ℕ) (before : List ℕ) (left : List (List ℕ)) → left ≡ [] → (Ascending i before left → P)
+    → P
 unfolding Ascending
 ended P i before left e so_far = so_far (subst (Ascending i before) (sym e) tt)

@@ -6,6 +6,7 @@ use Rattle.std.specs.Borrow.{Bor}
 use Rattle.std.specs.declared.vec.Vec.{Vec}
 use Rattle.hdt_wire.specs.VByte.{vbyte}
 use Rattle.hdt_seq.specs.Numbers.{numbers_encoding}
+use Rattle.hdt_seq.specs.Width.{width_of}
 use Rattle.hdt_front.specs.Decoding.{is_head}
 use Rattle.hdt_front.specs.Section.{SectionParts}
 use Rattle.hdt_front.specs.SectionWriting.{section_preamble, section_encoding}
@@ -30,31 +31,35 @@ encode_entry head before string = entry_with_prefix head (common_prefix_len nat_
 -- The entries of strings in blocks of b; the first has index i and follows the string `before`.
 unfoldable pub encode_entries : ℕ → ℕ → List ℕ → List (List ℕ) → List (List ℕ)
 encode_entries b i before [] = []
-encode_entries b i before (string ∷ strings) = encode_entry (is_head b i) before string ∷ encode_entries b (i + 1) string strings
+encode_entries b i before (string ∷ strings) =
+    encode_entry (is_head b i) before string ∷ encode_entries b (i + 1) string strings
 
 -- The block offsets of entries, and the end. The first entry has index i and begins at offset `at`.
-unfoldable pub starts_from : ℕ → ℕ → ℕ → List (List ℕ) → List ℕ
-starts_from b i at [] = at ∷ []
-starts_from b i at (entry ∷ entries) = cond (is_head b i) (at ∷ []) [] ++ starts_from b (i + 1) (at + length entry) entries
+unfoldable pub block_offsets_from : ℕ → ℕ → ℕ → List (List ℕ) → List ℕ
+block_offsets_from b i at [] = at ∷ []
+block_offsets_from b i at (entry ∷ entries) =
+    cond (is_head b i) (at ∷ []) [] ++ block_offsets_from b (i + 1) (at + length entry) entries
 
 -- The front-coded bytes of strings in blocks of b.
 abbrev pub packed_of : ℕ → List (List ℕ) → List ℕ
 packed_of b strings = concat (encode_entries b 0 [] strings)
 
 -- The block offsets of strings in blocks of b.
-abbrev pub starts_of : ℕ → List (List ℕ) → List ℕ
-starts_of b strings = starts_from b 0 0 (encode_entries b 0 [] strings)
+abbrev pub block_offsets : ℕ → List (List ℕ) → List ℕ
+block_offsets b strings = block_offsets_from b 0 0 (encode_entries b 0 [] strings)
 
 -- The canonical bytes of a section with block size b.
 unfoldable pub canonical : ℕ → List (List ℕ) → List ℕ
-canonical b strings = section_encoding (length strings) b (starts_of b strings) (packed_of b strings)
+canonical b strings = section_encoding (length strings) b (block_offsets b strings) (packed_of b strings)
 
 -- The section that these bytes encode at an offset.
 unfoldable pub canonical_parts : ℕ → List (List ℕ) → ℕ → SectionParts
 canonical_parts b strings at = record {
   strings = strings;
   block_size = b;
+  offset_bits = width_of (block_offsets b strings);
   packed = packed_of b strings;
-  packed_offset = at + length (section_preamble (length strings) (length (packed_of b strings)) b) + 1 + length (numbers_encoding (starts_of b strings));
+  packed_offset = at + length (section_preamble (length strings) (length (packed_of b strings)) b) + 1 + length
+      (numbers_encoding (block_offsets b strings));
   end = at + length (canonical b strings);
 }

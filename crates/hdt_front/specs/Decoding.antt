@@ -1,6 +1,6 @@
 -- Decoding front-coded strings. These functions are total: on bytes that are not a valid front coding their values have
 -- no meaning.
-use Rattle.std.specs.Prelude.{ℕ, ◌+◌, ◌%◌, ◌==◌, Bool, List, [], ◌∷◌, ◌++◌, take, drop, cond, zero, suc, Result, Ok, Err}
+use Rattle.std.specs.Prelude.{ℕ, ◌+◌, ◌-◌, ◌/◌, ◌%◌, ◌==◌, Bool, List, [], ◌∷◌, ◌++◌, take, drop, cond, zero, suc, Result, Ok, Err}
 use Rattle.hdt_wire.specs.declared.fault.Fault.{Fault}
 use Rattle.hdt_wire.specs.Checks.{len_before_zero}
 use Rattle.hdt_wire.specs.VByte.{vbyte_at}
@@ -10,7 +10,7 @@ abbrev pub value_or : {A : Type 0} → A → Result A Fault → A
 value_or d (Ok x) = x
 value_or d (Err f) = d
 
--- The prefix length of the entry at the front of the bytes; 0 if the entry is the first of its block (`head`), which
+-- The prefix length of the entry at the start of the bytes; 0 if the entry is the first of its block (`head`), which
 -- stores no prefix length.
 unfoldable pub kept : Bool → List ℕ → ℕ
 kept head bytes = cond head 0 (value_or (0, 0) (vbyte_at bytes 0)).0
@@ -35,8 +35,13 @@ after_entry head bytes = drop (len_before_zero (bytes_from_suffix head bytes) + 
 abbrev pub is_head : ℕ → ℕ → Bool
 is_head b i = (i % b) == 0
 
+-- The number of blocks of n strings: n divided by the block size, rounded up.
+abbrev pub block_count : ℕ → ℕ → ℕ
+block_count n block_size = (n + (block_size - 1)) / block_size
+
 -- The next n strings. The first has index i and follows the string `before`.
 unfoldable pub decoded_strings : ℕ → ℕ → ℕ → List ℕ → List ℕ → List (List ℕ)
 decoded_strings b zero i before bytes = []
 decoded_strings b (suc n) i before bytes =
-    decoded_string (is_head b i) before bytes ∷ decoded_strings b n (i + 1) (decoded_string (is_head b i) before bytes) (after_entry (is_head b i) bytes)
+    decoded_string (is_head b i) before bytes
+    ∷ decoded_strings b n (i + 1) (decoded_string (is_head b i) before bytes) (after_entry (is_head b i) bytes)

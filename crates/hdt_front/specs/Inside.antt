@@ -2,3 +2,6 @@
 pub mod ReadViews
 pub mod LoadRuns
 pub mod AsciiEntries
+pub mod PartialStrings
+pub mod Searching
+pub mod WriterFields

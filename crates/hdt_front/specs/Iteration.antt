@@ -20,8 +20,9 @@ strings items = map (λ (p : LocatedString). p.string) items
 unfoldable pub located_from : BlockLayout → ℕ → ℕ → List ℕ → List ℕ → List LocatedString
 located_from p zero i before rest = []
 located_from p (suc n) i before rest =
-    record { string = decoded_string (is_head p.block i) before rest; place = rest_offset p rest }
-    ∷ located_from p n (i + 1) (decoded_string (is_head p.block i) before rest) (after_entry (is_head p.block i) rest)
+    record { string = decoded_string (is_head p.block_size i) before rest; place = rest_offset p rest }
+    ∷ located_from p n (i + 1) (decoded_string (is_head p.block_size i) before rest)
+    (after_entry (is_head p.block_size i) rest)
 
 -- The strings ascend from x on.
 abbrev pub After : List ℕ → List LocatedString → Type 0

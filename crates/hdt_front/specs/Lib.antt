@@ -12,7 +12,6 @@ pub mod Faults
 pub mod StringIds
 pub mod Cost
 pub mod Strings
-pub mod Searching
 pub mod Prefixes
 pub mod SeekerState
 pub mod Iteration

@@ -11,4 +11,5 @@ pub record IsPrefixRange (strings : List (List ℕ)) (prefix : List ℕ) (start 
   pub ordered : start ≤ end
   pub within : end ≤ length strings + 1
   pub inside : (n : ℕ) → start ≤ n → n < end → BeginsWith prefix (get_or strings (n - 1) [])
-  pub all : (n : ℕ) → 1 ≤ n → n ≤ length strings → BeginsWith prefix (get_or strings (n - 1) []) → (start ≤ n) × (n < end)
+  pub all : (n : ℕ) → 1 ≤ n → n ≤ length strings → BeginsWith prefix (get_or strings (n - 1) [])
+      → (start ≤ n) × (n < end)

@@ -15,17 +15,19 @@ use Rattle.hdt_seq.specs.Sequence.{Sequence, entry_offset, byte_at, crc8_at, pac
 use Rattle.hdt_seq.specs.Numbers.{numbers_at}
 use Rattle.hdt_wire.specs.VByte.{IsVByteAt}
 use Rattle.hdt_seq.specs.ExactSequences.{IsLogSequenceAt}
-use Rattle.hdt_front.specs.Decoding.{is_head, decoded_strings}
+use Rattle.hdt_front.specs.Decoding.{is_head, block_count, decoded_strings}
 use Rattle.hdt_front.specs.EntryFacts.{bytes_from_entry}
 use Rattle.hdt_front.specs.Order.{IsAscending}
 use Rattle.hdt_front.specs.FrontCoding.{IsEntry}
 use Rattle.hdt_front.specs.StringChecks.{BlockLayout, strings_check}
 
--- A section: its strings, the block size, the front-coded bytes and their offset in the input, and the offset after the
--- section.
+-- A section: its strings, the block size, the width in bits of a block offset, the front-coded bytes and their offset
+-- in
+-- the input, and the offset after the section.
 pub record SectionParts : Type 0 where
   pub strings : List (List ℕ)
   pub block_size : ℕ
+  pub offset_bits : ℕ
   pub packed : List ℕ
   pub packed_offset : ℕ
   pub end : ℕ
@@ -40,9 +42,11 @@ pub record AreFrontCoded (block_size : ℕ) (strings : List (List ℕ)) (packed 
   pub entries : List (List ℕ)
   pub joined : packed ≡ concat entries
   pub one_each : length entries ≡ length strings
-  pub each : (i : ℕ) → i < length strings → IsEntry (is_head block_size i) (before strings i) (slice_index_or strings i []) (slice_index_or entries i [])
-  pub heads : (i : ℕ) → i < length strings → is_head block_size i ≡ true → slice_index starts (i / block_size) ≡ length (concat (take i entries))
-  pub last : 0 < length strings → slice_index starts ((length strings + (block_size - 1)) / block_size) ≡ length packed
+  pub each : (i : ℕ) → i < length strings
+      → IsEntry (is_head block_size i) (before strings i) (slice_index_or strings i []) (slice_index_or entries i [])
+  pub heads : (i : ℕ) → i < length strings → is_head block_size i ≡ true
+      → slice_index starts (i / block_size) ≡ length (concat (take i entries))
+  pub last : 0 < length strings → slice_index starts (block_count (length strings) block_size) ≡ length packed
 
 -- The strings can form a section: they are UTF-8 without zero bytes, and ascend by unsigned bytes.
 pub record AreSectionStrings (strings : List (List ℕ)) : Type 0 where
@@ -54,10 +58,10 @@ pub record AreSectionStrings (strings : List (List ℕ)) : Type 0 where
 -- or the single block offset 0.
 abbrev pub HasBlockOffsets : ℕ → ℕ → List ℕ → Type 0
 HasBlockOffsets zero block_size starts = (starts ≡ []) ⊎ (starts ≡ 0 ∷ [])
-HasBlockOffsets (suc n) block_size starts = length starts ≡ (suc n + (block_size - 1)) / block_size + 1
+HasBlockOffsets (suc n) block_size starts = length starts ≡ block_count (suc n) block_size + 1
 
 -- The section is encoded at the offset.
-pub record IsSection (s : SectionParts) (bytes : List ℕ) (at : ℕ) : Type 0 where
+pub record IsSectionAt (s : SectionParts) (bytes : List ℕ) (at : ℕ) : Type 0 where
   -- the offsets of the numbers after the first, of the CRC-8, and of the block offsets
   pub size_offset : ℕ
   pub block_size_offset : ℕ
@@ -72,12 +76,13 @@ pub record IsSection (s : SectionParts) (bytes : List ℕ) (at : ℕ) : Type 0 w
   pub code : HasSlice bytes crc_offset (crc8 (slice_range bytes at crc_offset) ∷ []) starts_offset
   pub some : 0 < length s.strings → 0 < s.block_size
   -- the block offsets, and the front-coded bytes with their CRC-32C
-  pub starts_stand : IsLogSequenceAt starts bytes starts_offset
+  pub block_offsets_at : IsLogSequenceAt starts bytes starts_offset
   pub started : HasBlockOffsets (length s.strings) s.block_size starts.items
+  pub width : s.offset_bits ≡ starts.offsets.width
   pub place : s.packed_offset ≡ starts.end
   pub packed : HasSlice bytes s.packed_offset (s.packed ++ little_bytes 4 (crc32 s.packed)) s.end
   -- the strings
-  pub folded : AreFrontCoded s.block_size s.strings s.packed starts.items
+  pub front_coded : AreFrontCoded s.block_size s.strings s.packed starts.items
   pub strings : AreSectionStrings s.strings
 
 -- The offset in the input of the entry of string i, from 0.
@@ -89,10 +94,17 @@ string_offset s i = s.packed_offset + (length s.packed - length (bytes_from_entr
 -- Whether `count` block offsets are valid for this number of strings and block size.
 abbrev pub is_start_count : ℕ → ℕ → ℕ → Bool
 is_start_count zero block_size count = nat_le count 1
-is_start_count (suc n) block_size count = count == (suc n + (block_size - 1)) / block_size + 1
+is_start_count (suc n) block_size count = count == block_count (suc n) block_size + 1
 
 abbrev pub block_layout_with : Sequence ℕ → ℕ → ℕ → BlockLayout
-block_layout_with starts block_size size = record { block = block_size; base = starts.end; size = size; starts = starts.items; starts_at = starts.places }
+block_layout_with starts block_size size =
+    record {
+      block_size = block_size;
+      packed_at = starts.end;
+      size = size;
+      block_offsets = starts.items;
+      block_offsets_at = starts.offsets;
+    }
 
 -- The parts of a section before its strings are decoded: their number, the block size, the block offsets, the
 -- front-coded bytes, and the offset after the section.
@@ -129,8 +141,8 @@ unfoldable pub packed_parts_at : List ℕ → ℕ → Result PackedParts Fault
 packed_parts_at bytes at = do
   head ← preamble_at bytes at
   starts ← numbers_at bytes head.starts_offset
-  _ ← demand (is_start_count head.count head.block_size (length starts.items)) starts.places.count BlockCount
-  _ ← demand (not (head.count == 0) || slice_index starts.items 0 == 0) (entry_offset starts.places 0) BlockPlace
+  _ ← demand (is_start_count head.count head.block_size (length starts.items)) starts.offsets.count BlockCount
+  _ ← demand (not (head.count == 0) || slice_index starts.items 0 == 0) (entry_offset starts.offsets 0) BlockPlace
   packed ← packed_at (8 * head.size) bytes starts.end
   Ok (record { count = head.count; block_size = head.block_size; starts = starts; packed = packed.0; end = packed.1 })
 
@@ -139,6 +151,7 @@ abbrev pub decoded_section : PackedParts → SectionParts
 decoded_section p = record {
   strings = decoded_strings p.block_size p.count 0 [] p.packed;
   block_size = p.block_size;
+  offset_bits = p.starts.offsets.width;
   packed = p.packed;
   packed_offset = p.starts.end;
   end = p.end;
@@ -148,5 +161,6 @@ decoded_section p = record {
 unfoldable pub section_at : List ℕ → ℕ → Result SectionParts Fault
 section_at bytes at = do
   parts ← packed_parts_at bytes at
-  _ ← strings_check (block_layout_with parts.starts parts.block_size (length parts.packed)) parts.count 0 [] parts.packed
+  _ ← strings_check (block_layout_with parts.starts parts.block_size (length parts.packed)) parts.count 0 []
+      parts.packed
   Ok (decoded_section parts)

@@ -26,5 +26,5 @@ pub record CanBeWritten (strings : List (List ℕ)) (block_size : ℕ) (starts p
   pub starts_fit : EachFits 64 starts
   pub some : 0 < length strings → 0 < block_size
   pub started : HasBlockOffsets (length strings) block_size starts
-  pub folded : AreFrontCoded block_size strings packed starts
+  pub front_coded : AreFrontCoded block_size strings packed starts
   pub strings_are : AreSectionStrings strings

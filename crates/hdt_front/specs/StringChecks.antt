@@ -9,20 +9,20 @@ use Rattle.hdt_wire.specs.Checks.{◌>>=◌, demand, len_before_zero}
 use Rattle.hdt_wire.specs.VByte.{vbyte_at}
 use Rattle.hdt_seq.specs.Sequence.{SequenceOffsets, entry_offset}
 use Rattle.hdt_front.specs.Order.{string_cmp}
-use Rattle.hdt_front.specs.Decoding.{is_head}
+use Rattle.hdt_front.specs.Decoding.{is_head, block_count}
 
 -- The layout of front-coded strings: the block size, the offset and the size of the front-coded bytes, the stored block
 -- offsets and the byte offsets of these.
 pub record BlockLayout : Type 0 where
-  pub block : ℕ
-  pub base : ℕ
+  pub block_size : ℕ
+  pub packed_at : ℕ
   pub size : ℕ
-  pub starts : List ℕ
-  pub starts_at : SequenceOffsets
+  pub block_offsets : List ℕ
+  pub block_offsets_at : SequenceOffsets
 
 -- The byte offset in the input of the unread bytes.
 abbrev pub rest_offset : BlockLayout → List ℕ → ℕ
-rest_offset p rest = p.base + (p.size - length rest)
+rest_offset p rest = p.packed_at + (p.size - length rest)
 
 -- A prefix length must end within the front-coded bytes.
 abbrev pub packed_reason : Reason → Reason
@@ -38,19 +38,14 @@ prefix_result place rest (Err f) = Err (record { place = place; reason = packed_
 -- stored block offset, and the prefix is empty.
 unfoldable pub prefix_check : BlockLayout → ℕ → List ℕ → Result (ℕ × List ℕ) Fault
 prefix_check p i rest =
-    if is_head p.block i
-    then demand (get_or p.starts (i / p.block) 0 == p.size - length rest) (entry_offset p.starts_at (i / p.block)) BlockPlace >>= (λ _. Ok (0, rest))
+    if is_head p.block_size i
+    then demand (get_or p.block_offsets (i / p.block_size) 0 == p.size - length rest)
+    (entry_offset p.block_offsets_at (i / p.block_size)) BlockPlace >>= (λ _. Ok (0, rest))
     else prefix_result (rest_offset p rest) rest (vbyte_at rest 0)
 
 -- Whether the first string is less than the second.
 abbrev pub precedes : List ℕ → List ℕ → Bool
 precedes x y = is_lt (string_cmp x y)
-
--- The last checks of the string at an offset: it is UTF-8, and greater than the previous one.
-abbrev pub check_decoded : Bool → Bool → ℕ → Result (Unit {0}) Fault
-check_decoded valid later place = do
-  _ ← demand valid place NotUtf8
-  demand later place StringsNotAscending
 
 -- The checks of string i, in order: the string, and the bytes after its entry.
 unfoldable pub string_check : BlockLayout → ℕ → List ℕ → List ℕ → Result (List ℕ × List ℕ) Fault
@@ -59,7 +54,8 @@ string_check p i before rest = do
   _ ← demand (nat_le front.0 (length before)) (rest_offset p rest) PrefixTooLong
   _ ← demand (nat_lt (len_before_zero front.1) (length front.1)) (rest_offset p front.1) PackedLength
   _ ← demand (is_utf8 (take front.0 before ++ take (len_before_zero front.1) front.1)) (rest_offset p rest) NotUtf8
-  _ ← demand (i == 0 || precedes before (take front.0 before ++ take (len_before_zero front.1) front.1)) (rest_offset p rest) StringsNotAscending
+  _ ← demand (i == 0 || precedes before (take front.0 before ++ take (len_before_zero front.1) front.1))
+      (rest_offset p rest) StringsNotAscending
   Ok (take front.0 before ++ take (len_before_zero front.1) front.1, drop (len_before_zero front.1 + 1) front.1)
 
 -- The checks of n strings, the first of which has index i and follows the string `before`; then those of the end: no
@@ -67,7 +63,8 @@ string_check p i before rest = do
 unfoldable pub strings_check : BlockLayout → ℕ → ℕ → List ℕ → List ℕ → Result (Unit {0}) Fault
 strings_check p zero i before rest = do
   _ ← demand (length rest == 0) (rest_offset p rest) PackedLength
-  demand (i == 0 || get_or p.starts ((i + (p.block - 1)) / p.block) 0 == p.size) (entry_offset p.starts_at ((i + (p.block - 1)) / p.block)) BlockPlace
+  demand (i == 0 || get_or p.block_offsets (block_count i p.block_size) 0 == p.size)
+      (entry_offset p.block_offsets_at (block_count i p.block_size)) BlockPlace
 strings_check p (suc n) i before rest = do
   one ← string_check p i before rest
   strings_check p n (i + 1) one.0 one.1

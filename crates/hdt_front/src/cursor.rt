@@ -43,7 +43,7 @@ impl<'a> Cursor<'a> {
         ensures { option_copied result ≡ first_string self.now }
     {
         match self.place {
-            Some(_) => Some(self.iter.last()),
+            Some(_) => Some(self.iter.string()),
             None => None,
         }
     }
@@ -53,17 +53,6 @@ impl<'a> Cursor<'a> {
         ensures { result ≡ next_offset self.now }
     {
         self.place
-    }
-
-    /// Compares the current string with `x`; the end is greater than all strings. Takes time linear in their common
-    /// prefix.
-    pub fn order(&self, x: &[u8]) -> Ordering
-        ensures { result ≡ first_order self.now x.now }
-    {
-        match self.string() {
-            Some(string) => string.cmp(x),
-            None => Ordering::Greater,
-        }
     }
 
     /// Compares the current string with `x`, given that their first `from` bytes are equal, which are not read. Returns
@@ -80,19 +69,10 @@ impl<'a> Cursor<'a> {
         }
     }
 
-    /// Moves to the next string. At the end, and if memory runs out, nothing changes.
-    pub fn advance(&mut self) -> Result<(), AllocError>
-        ensures ok { OnOk result (self.new ≡ drop 1 self.old) }
-        ensures err { OnErr result (self.new ≡ self.old) }
-        ensures ended { self.old ≡ [] → IsOk result }
-    {
-        self.advance_with_prefix_len()?;
-        Ok(())
-    }
-
-    /// Moves to the next string as [`advance`](Cursor::advance) does. Returns the prefix length of its entry, which is
-    /// a lower bound on the common prefix with the previous string, or 0 at the end. Takes time linear in the suffix.
-    pub fn advance_with_prefix_len(&mut self) -> Result<usize, AllocError>
+    /// Moves to the next string. Returns the prefix length of its entry, which is a lower bound on the common prefix
+    /// with the previous string, or 0 at the end. At the end, and if memory runs out, nothing changes. Takes time
+    /// linear in the suffix.
+    pub fn advance(&mut self) -> Result<usize, AllocError>
         ensures ok { OnOk result (self.new ≡ drop 1 self.old) }
         ensures kept { IfOk result (λ k. k ≤ next_lcp self.old) }
         ensures err { OnErr result (self.new ≡ self.old) }

@@ -7,7 +7,7 @@ use std::alloc::AllocError;
 
 /// Whether a string is less than another one. Fast if the first bytes differ.
 #[tactic(auto, using(crate::proofs::Order::first_decides))]
-fn is_before(a: &[u8], b: &[u8]) -> bool
+fn precedes(a: &[u8], b: &[u8]) -> bool
     ensures { result ≡ precedes a.now b.now }
 {
     if !a.is_empty() && !b.is_empty() && a[0] != b[0] {
@@ -23,11 +23,11 @@ pub(crate) fn ascends(first: bool, before: &[u8], kept: usize, text: &[u8]) -> b
     requires { kept ≤ length before.now }
     ensures { result ≡ (first || precedes before.now (take kept before.now ++ text.now)) }
 {
-    first || is_before(before.split_at(kept).1, text)
+    first || precedes(before.split_at(kept).1, text)
 }
 
 /// Whether bytes are UTF-8.
-pub(crate) fn valid(bytes: &[u8]) -> bool
+pub(crate) fn is_utf8(bytes: &[u8]) -> bool
     ensures { result ≡ is_utf8 bytes.now }
 {
     if bytes.is_ascii() {
@@ -44,12 +44,12 @@ fn is_ascii_or_utf8(ascii: bool, text: &[u8]) -> bool
     requires { ascii ≡ true → is_utf8 text.now ≡ true }
     ensures { result ≡ is_utf8 text.now }
 {
-    ascii || valid(text)
+    ascii || is_utf8(text)
 }
 
 /// Whether an index is a character boundary of a string.
 #[tactic(auto, using(crate::proofs::Utf8::at_start))]
-fn is_boundary(string: &[u8], at: usize) -> bool
+fn is_char_boundary(string: &[u8], at: usize) -> bool
     requires within { at ≤ length string.now }
     requires utf8 { is_utf8 string.now ≡ true }
     ensures yes { result ≡ true → IsCharBoundary string.now at }
@@ -72,7 +72,7 @@ fn character_start(string: &[u8], place: usize) -> usize
     ensures boundary { IsCharBoundary string.now result }
 {
     let mut at = place;
-    while !is_boundary(string, at) {
+    while !is_char_boundary(string, at) {
         at -= 1;
     }
     at
@@ -108,6 +108,6 @@ pub(crate) fn decode_and_validate(
     if start == kept {
         Ok(is_ascii_or_utf8(ascii, text))
     } else {
-        Ok(valid(string.split_at(start).1))
+        Ok(is_utf8(string.split_at(start).1))
     }
 }

@@ -9,7 +9,7 @@ ghost use Rattle.hdt_front.specs.Inside.AsciiEntries.{IsAsciiEntry};
 use crate::scan::{ascii_len, text_len};
 use hdt_wire::{Fault, read_vbyte};
 
-/// Reads the VByte at the front, as `read_vbyte`. Not inlined: most prefix lengths have one byte.
+/// Reads the leading VByte, as `read_vbyte`. Not inlined: most prefix lengths have one byte.
 #[inline(never)]
 fn read_long_vbyte(rest: &[u8]) -> Result<(u64, usize), Fault>
     ensures exact { result ≡ vbyte_at rest.now 0 }
@@ -18,7 +18,7 @@ fn read_long_vbyte(rest: &[u8]) -> Result<(u64, usize), Fault>
     read_vbyte(rest, 0)
 }
 
-/// Returns the VByte at the front if it has one byte.
+/// Returns the leading VByte if it has one byte.
 #[inline(always)]
 #[tactic(auto, using(crate::proofs::BlockIndex::one_byte))]
 pub(crate) fn one_byte_vbyte(rest: &[u8]) -> Option<u64>
@@ -30,7 +30,7 @@ pub(crate) fn one_byte_vbyte(rest: &[u8]) -> Option<u64>
     None
 }
 
-/// Reads the VByte at the front, as `read_vbyte`, with a fast path for one byte.
+/// Reads the leading VByte, as `read_vbyte`, with a fast path for one byte.
 #[inline(always)]
 pub(crate) fn read_leading_vbyte(rest: &[u8]) -> Result<(u64, usize), Fault>
     ensures exact { result ≡ vbyte_at rest.now 0 }
@@ -42,7 +42,7 @@ pub(crate) fn read_leading_vbyte(rest: &[u8]) -> Result<(u64, usize), Fault>
     }
 }
 
-/// Reads the VByte at the front, and returns zeros if it is invalid. Not inlined, as [`read_long_vbyte`].
+/// Reads the leading VByte, and returns zeros if it is invalid. Not inlined, as [`read_long_vbyte`].
 #[inline(never)]
 fn long_vbyte_or_zero(rest: &[u8]) -> (u64, usize)
     ensures is { result ≡ value_or (0, 0) (vbyte_at rest.now 0) }
@@ -54,7 +54,7 @@ fn long_vbyte_or_zero(rest: &[u8]) -> (u64, usize)
     }
 }
 
-/// Reads the VByte at the front: its value and its length in bytes. Returns zeros if it is invalid.
+/// Reads the leading VByte: its value and its length in bytes. Returns zeros if it is invalid.
 #[inline(always)]
 pub(crate) fn vbyte_or_zero(rest: &[u8]) -> (u64, usize)
     ensures is { result ≡ value_or (0, 0) (vbyte_at rest.now 0) }
@@ -91,7 +91,7 @@ pub(crate) fn split_entry(head: bool, rest: &[u8]) -> (u64, &[u8], &[u8])
     (kept, from.split_at(len).0, from.split_at(len + 1).1)
 }
 
-/// Returns the bytes after the zero-terminated string at the front.
+/// Returns the bytes after the leading zero-terminated string.
 pub(crate) fn after_text(bytes: &[u8]) -> &[u8]
     requires { len_before_zero bytes.now < length bytes.now }
     ensures { result.now ≡ drop (len_before_zero bytes.now + 1) bytes.now }

@@ -3,8 +3,7 @@ ghost use Rattle.std.specs.Prelude.{◌≡◌, ◌≤◌, ◌<◌, ◌+◌, leng
 ghost use Rattle.hdt_wire.specs.Checks.{len_before_zero};
 ghost use Rattle.std.specs.List.{common_prefix_len};
 ghost use Rattle.hdt_front.specs.Inside.LoadRuns.{IsLoadRun};
-ghost use Rattle.hdt_front.specs.Searching.{lcp_len};
-ghost use Rattle.hdt_front.specs.Order.{string_cmp};
+ghost use Rattle.hdt_front.specs.Order.{string_cmp, lcp_len};
 
 use crate::scan::{HALF, LANES, first_set};
 use std::cmp::Ordering;

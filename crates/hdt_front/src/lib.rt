@@ -41,7 +41,7 @@ mod writing;
 
 pub use cursor::Cursor;
 pub use laws::{
-    blocks_are_least, look_ups_are_inverse, one_section, section_is_read_again, sections_are_exact,
+    blocks_are_least, look_ups_are_inverse, one_section, section_round_trip, sections_are_exact,
     string_places,
 };
 pub use lcp::{cmp_from, common_prefix};

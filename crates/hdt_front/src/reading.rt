@@ -7,7 +7,7 @@ ghost use Rattle.hdt_front.specs.declared.section.ReadFault.TheVariants.{Fault a
 ghost use Rattle.hdt_front.specs.Inside.ReadViews.{preamble_view, packed_parts_view};
 ghost use Rattle.hdt_seq.specs.Numbers.{numbers_of, numbers_offsets};
 ghost use Rattle.hdt_seq.specs.Sequence.{entry_offset};
-ghost use Rattle.hdt_front.specs.Section.{SectionParts, IsSection, preamble_at, packed_parts_at, section_at, is_start_count};
+ghost use Rattle.hdt_front.specs.Section.{SectionParts, IsSectionAt, preamble_at, packed_parts_at, section_at, is_start_count};
 
 use crate::packed::PackedStrings;
 use crate::section::{ReadFault, Section};
@@ -16,25 +16,26 @@ use hdt_wire::{Fault, Reason, demand, read_vbyte};
 use std::alloc::Global;
 
 /// Whether the number of block offsets is valid: one more than blocks, or at most one if there are no strings.
-fn is_start_count(count: u64, block: u64, starts: u64) -> bool
-    requires { 0 < count → 0 < block }
-    ensures { result ≡ is_start_count count block starts }
+fn is_start_count(count: u64, block_size: u64, offsets: u64) -> bool
+    requires { 0 < count → 0 < block_size }
+    ensures { result ≡ is_start_count count block_size offsets }
 {
     if count == 0 {
-        return starts <= 1;
+        return offsets <= 1;
     }
-    let blocks = (u128::from(count) + u128::from(block - 1)) / u128::from(block);
-    u128::from(starts) == blocks + 1
+    let blocks = (u128::from(count) + u128::from(block_size - 1)) / u128::from(block_size);
+    u128::from(offsets) == blocks + 1
 }
 
 /// Checks the block offset of a section without strings: it is 0 if present.
-fn check_empty_start(count: u64, starts: &Numbers<'_>) -> Result<(), Fault>
-    ensures { result ≡ demand_is (not (count == 0) || slice_index (numbers_of starts.now) 0 == 0) (entry_offset (numbers_offsets starts.now) 0) BlockPlaceOf }
+fn check_empty_start(count: u64, block_offsets: &Numbers<'_>) -> Result<(), Fault>
+    ensures { result ≡ demand_is (not (count == 0) || slice_index (numbers_of block_offsets.now) 0 == 0)
+        (entry_offset (numbers_offsets block_offsets.now) 0) BlockPlaceOf }
 {
-    if count == 0 && starts.len() > 0 {
+    if count == 0 && block_offsets.len() > 0 {
         return demand(
-            starts.get(0) == 0,
-            starts.entry_place(0) as usize,
+            block_offsets.get(0) == 0,
+            block_offsets.entry_place(0) as usize,
             Reason::BlockPlace,
         );
     }
@@ -47,30 +48,34 @@ fn check_empty_start(count: u64, starts: &Numbers<'_>) -> Result<(), Fault>
 struct Preamble {
     count: u64,
     size: u64,
-    block: u64,
-    starts_at: usize,
+    block_size: u64,
+    block_offsets_at: usize,
 }
 
 /// Reads and checks the preamble.
 #[tactic(auto, unfolding(crate::specs::Section::preamble_at, crate::specs::Inside::ReadViews::preamble_view))]
 fn read_preamble(bytes: &[u8], at: usize) -> Result<Preamble, Fault>
     ensures exact { Reads preamble_view result (preamble_at bytes.now at) }
-    ensures some { IfOk result (λ h. 0 < h.count → 0 < h.block) }
-    ensures end { IfOk result (λ h. (at < h.starts_at) × (h.starts_at ≤ length bytes.now)) }
+    ensures some { IfOk result (λ h. 0 < h.count → 0 < h.block_size) }
+    ensures end { IfOk result (λ h. (at < h.block_offsets_at) × (h.block_offsets_at ≤ length bytes.now)) }
 {
     let (kind, count_at) = byte_at(bytes, at)?;
     demand(kind == 2, at, Reason::SectionKind)?;
     let (count, size_at) = read_vbyte(bytes, count_at)?;
-    let (size, block_at) = read_vbyte(bytes, size_at)?;
-    let (block, code_at) = read_vbyte(bytes, block_at)?;
-    let starts_at = crc8_at(bytes, at, code_at)?;
-    demand(count == 0 || 0 < block, block_at, Reason::BlockSize)?;
+    let (size, block_size_at) = read_vbyte(bytes, size_at)?;
+    let (block_size, code_at) = read_vbyte(bytes, block_size_at)?;
+    let block_offsets_at = crc8_at(bytes, at, code_at)?;
+    demand(
+        count == 0 || 0 < block_size,
+        block_size_at,
+        Reason::BlockSize,
+    )?;
     demand(!(count == 0) || size == 0, size_at, Reason::PackedLength)?;
     Ok(Preamble {
         count,
         size,
-        block,
-        starts_at,
+        block_size,
+        block_offsets_at,
     })
 }
 
@@ -81,20 +86,20 @@ fn read_packed<'a>(bytes: &'a [u8], at: usize) -> Result<(PackedStrings<'a>, usi
     ensures end { IfOk result (λ r. (at + length r.0.bytes.now < r.1) × (r.1 ≤ length bytes.now)) }
 {
     let head = read_preamble(bytes, at)?;
-    let (starts, base) = Numbers::read(bytes, head.starts_at)?;
+    let (block_offsets, packed_offset) = Numbers::read(bytes, head.block_offsets_at)?;
     demand(
-        is_start_count(head.count, head.block, starts.len()),
-        starts.count_place() as usize,
+        is_start_count(head.count, head.block_size, block_offsets.len()),
+        block_offsets.count_place() as usize,
         Reason::BlockCount,
     )?;
-    check_empty_start(head.count, &starts)?;
-    let (packed, end) = packed_at(bytes, base, 8 * u128::from(head.size))?;
+    check_empty_start(head.count, &block_offsets)?;
+    let (packed, end) = packed_at(bytes, packed_offset, 8 * u128::from(head.size))?;
     let packed = PackedStrings {
         bytes: packed,
-        starts,
+        block_offsets,
         count: head.count,
-        block: head.block,
-        base,
+        block_size: head.block_size,
+        packed_at: packed_offset,
     };
     Ok((packed, end))
 }
@@ -138,9 +143,10 @@ impl<'a> Section<'a> {
         at: usize,
     ) -> Result<(Section<'a>, usize), ReadFault>
         // A returned section is encoded at the offset.
-        ensures found { IfOk result (λ r. IsSection (section_of r.0) bytes.now at) }
+        ensures found { IfOk result (λ r. IsSectionAt (section_of r.0) bytes.now at) }
         // A section encoded at the offset is returned, unless memory runs out.
-        ensures only { (s : SectionParts) → IsSection s bytes.now at → ReadsUnlessOom read_fault_of (λ r. section_of r.0) result (Ok s) }
+        ensures only { (s : SectionParts) → IsSectionAt s bytes.now at
+            → ReadsUnlessOom read_fault_of (λ r. section_of r.0) result (Ok s) }
         // The result is that of the checks in order: the section, or the first error.
         ensures exact { ReadsUnlessOom read_fault_of (λ r. section_of r.0) result (section_at bytes.now at) }
         // Errors up to the CRC of the strings are found without allocating.

@@ -3,9 +3,9 @@ ghost use Rattle.std.specs.Prelude.{◌≡◌, ◌≤◌, ◌<◌, ◌+◌, ◌-
 ghost use Rattle.hdt_wire.specs.Checks.{len_before_zero};
 ghost use Rattle.hdt_front.specs.Decoding.{bytes_from_suffix, kept, suffix_of, after_entry};
 ghost use Rattle.hdt_front.specs.EntryFacts.{bytes_from_entry};
-ghost use Rattle.hdt_front.specs.Searching.{lcp_len, IsBefore, IsEntryProbe, IsBlockProbe, IsPosition, IsBoundary, is_before_by};
+ghost use Rattle.hdt_front.specs.Inside.Searching.{IsBefore, IsEntryProbe, IsBlockProbe, IsPosition, IsBoundary, is_before_by};
+ghost use Rattle.hdt_front.specs.Order.{string_cmp, lcp_len};
 ghost use Rattle.hdt_front.specs.Prefixes.{IsPrefixRange};
-ghost use Rattle.hdt_front.specs.Order.{string_cmp};
 
 use crate::entry::{after_text, split_entry};
 use crate::lcp::{cmp_stored_from, cmp_with_lcp};
@@ -16,7 +16,7 @@ use std::cmp::Ordering;
 use std::ops::Range;
 
 /// Law: the length of a slice is below 2^63.
-fn is_short(bytes: &[u8])
+fn slice_len_is_below_2_63(bytes: &[u8])
     ensures { length bytes.now < 2 ^ 63 }
 {}
 
@@ -32,7 +32,8 @@ fn is_before(order: Ordering, lcp: usize, x: &[u8], past: bool) -> bool
 /// How a string compares with the searched one, by their order and the length of their longest common prefix.
 #[inline(always)]
 fn probe(order: Ordering, lcp: usize, x: &[u8], past: bool) -> EntryProbe
-    ensures { (string : List ℕ) → order ≡ string_cmp string x.now → lcp ≡ lcp_len string x.now → IsEntryProbe past string x.now result }
+    ensures { (string : List ℕ) → order ≡ string_cmp string x.now → lcp ≡ lcp_len string x.now
+        → IsEntryProbe past string x.now result }
 {
     if is_before(order, lcp, x, past) {
         EntryProbe::Before(lcp)
@@ -48,7 +49,8 @@ fn probe(order: Ordering, lcp: usize, x: &[u8], past: bool) -> EntryProbe
 #[inline(always)]
 fn probe_entry(kept: u64, text: &[u8], same: usize, x: &[u8], past: bool) -> EntryProbe
     requires { same ≤ length x.now }
-    ensures { (last : List ℕ) → kept ≤ length last → IsBefore past last x.now same → IsEntryProbe past (take kept last ++ text.now) x.now result }
+    ensures { (last : List ℕ) → kept ≤ length last → IsBefore past last x.now same
+        → IsEntryProbe past (take kept last ++ text.now) x.now result }
 {
     if kept > same as u64 {
         return EntryProbe::Before(same);
@@ -76,15 +78,18 @@ impl<'a> Section<'a> {
     ) -> (Ordering, usize, &'a [u8])
         requires block { block < blocks_of self.now }
         requires sought { len_before_zero x.now ≡ length x.now }
-        requires so_far { from ≤ lcp_len (get_or (strings_of self.now) (block * self.now.packed.block) []) x.now }
-        ensures order { result.0 ≡ string_cmp (get_or (strings_of self.now) (block * self.now.packed.block) []) x.now }
-        ensures same { result.1 ≡ lcp_len (get_or (strings_of self.now) (block * self.now.packed.block) []) x.now }
+        requires so_far { from ≤ lcp_len (get_or (strings_of self.now) (block * self.now.packed.block_size) []) x.now }
+        ensures order { result.0 ≡ string_cmp (get_or (strings_of self.now) (block * self.now.packed.block_size) [])
+            x.now }
+        ensures same { result.1 ≡ lcp_len (get_or (strings_of self.now) (block * self.now.packed.block_size) []) x.now }
         ensures ends { len_before_zero result.2.now < length result.2.now }
-        ensures rest { drop (len_before_zero result.2.now + 1) result.2.now ≡ bytes_from_entry self.now.packed.block (block * self.now.packed.block + 1) self.now.packed.bytes.now }
+        ensures rest { drop (len_before_zero result.2.now + 1) result.2.now
+            ≡ bytes_from_entry self.now.packed.block_size
+            (block * self.now.packed.block_size + 1) self.now.packed.bytes.now }
         ensures cost { steps.new ≡ steps.old + 1 }
     {
         steps.tick();
-        let head = self.from_head(block);
+        let head = self.bytes_from_block(block);
         let (order, same) = cmp_stored_from(head, x, from);
         (order, same, head)
     }
@@ -95,7 +100,8 @@ impl<'a> Section<'a> {
     fn find_block(&self, x: &[u8], past: bool, steps: &mut Steps) -> BlockProbe<'a>
         requires some { 0 < blocks_of self.now }
         requires sought { len_before_zero x.now ≡ length x.now }
-        ensures lands { IsBlockProbe past (strings_of self.now) self.now.packed.block (blocks_of self.now) self.now.packed.bytes.now x.now result }
+        ensures is { IsBlockProbe past (strings_of self.now) self.now.packed.block_size
+            (blocks_of self.now) self.now.packed.bytes.now x.now result }
         ensures cost { steps.new ≤ steps.old + digits (blocks_of self.now) }
         ensures more { steps.old ≤ steps.new }
     {
@@ -151,14 +157,15 @@ impl<'a> Section<'a> {
         past: bool,
         steps: &mut Steps,
     ) -> Result<u64, u64>
-        requires lands { IsBlockProbe past (strings_of self.now) self.now.packed.block (blocks_of self.now) self.now.packed.bytes.now x.now (BlockProbe.Inside block same rest) }
+        requires is { IsBlockProbe past (strings_of self.now) self.now.packed.block_size
+            (blocks_of self.now) self.now.packed.bytes.now x.now (BlockProbe.Inside block same rest) }
         ensures place { IsPosition past (strings_of self.now) x.now result }
-        ensures cost { steps.new ≤ steps.old + (self.now.packed.block - 1) }
+        ensures cost { steps.new ≤ steps.old + (self.now.packed.block_size - 1) }
         ensures more { steps.old ≤ steps.new }
     {
-        let first = block * self.packed.block;
+        let first = block * self.packed.block_size;
         let left = self.packed.count - first;
-        let many = left.min(self.packed.block);
+        let many = left.min(self.packed.block_size);
         let mut same = same;
         let mut rest = rest;
         for i in 1..many {
@@ -186,7 +193,7 @@ impl<'a> Section<'a> {
     {
         match self.find_block(x, past, steps) {
             BlockProbe::Before => Err(0),
-            BlockProbe::Head(block) => Ok(block * self.packed.block),
+            BlockProbe::Head(block) => Ok(block * self.packed.block_size),
             BlockProbe::Inside(block, same, rest) => {
                 self.scan_block(block, same, rest, x, past, steps)
             }
@@ -229,8 +236,8 @@ impl<'a> Section<'a> {
         }
     }
 
-    /// Returns the IDs of the strings that begin with a prefix, from 1: all strings if the prefix is empty, and an empty
-    /// range if none begins with it. The prefix may be any bytes.
+    /// Returns the IDs of the strings that begin with a prefix, from 1: all strings if the prefix is empty, and an
+    /// empty range if none begins with it. The prefix may be any bytes.
     ///
     /// Two binary searches over the first strings of the blocks, and two scans of one block. Takes at most twice the
     /// steps of [`place_of`](Section::place_of).
@@ -240,7 +247,7 @@ impl<'a> Section<'a> {
         ensures cost { steps.new ≤ steps.old + 2 * section_search_cost (section_of self.now) }
         ensures more { steps.old ≤ steps.new }
     {
-        is_short(self.packed.bytes);
+        slice_len_is_below_2_63(self.packed.bytes);
         if self.blocks() == 0 {
             return 1..1;
         }

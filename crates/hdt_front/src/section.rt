@@ -9,7 +9,7 @@ ghost use Rattle.std.specs.Str.{is_utf8};
 ghost use Rattle.hdt_front.specs.Section.{AreSectionStrings};
 ghost use Rattle.hdt_front.specs.Canonical.{borrowed_texts};
 
-use crate::decode::valid;
+use crate::decode::is_utf8;
 use crate::packed::PackedStrings;
 use crate::scan::text_len;
 use hdt_wire::len_before_zero;
@@ -40,12 +40,12 @@ fn are_bytes(bytes: &[u8])
 {}
 
 impl<'a> Section<'a> {
-    ghost use Rattle.hdt_front.specs.Strings.{strings_of, blocks_of, block_size, block_start};
+    ghost use Rattle.hdt_front.specs.Strings.{strings_of, section_of, blocks_of, block_size, block_start};
     ghost use Rattle.hdt_front.specs.EntryFacts.{bytes_from_entry};
     ghost use Rattle.hdt_front.specs.Section.{AreSectionStrings};
 
     /// Law: the strings are UTF-8 without zero bytes, and ascend.
-    pub fn are_section_strings(&self)
+    pub fn strings_are_valid(&self)
         ensures { AreSectionStrings (strings_of self.now) }
     {
         are_bytes(self.packed.bytes);
@@ -69,21 +69,46 @@ impl<'a> Section<'a> {
         if packed.count == 0 {
             return 0;
         }
-        packed.count.div_ceil(packed.block)
+        packed.count.div_ceil(packed.block_size)
     }
 
-    /// Returns the offset of a block, from 0, in the front-coded bytes.
+    /// Returns the number of strings of each block but the last.
+    #[tactic(auto, unfolding(crate::specs::Strings::section_of))]
+    pub fn block_size(&self) -> u64
+        ensures { result ≡ (section_of self.now).block_size }
+    {
+        self.packed.block_size
+    }
+
+    /// Returns the width in bits of an entry of the block offsets.
+    #[tactic(auto, unfolding(crate::specs::Strings::section_of))]
+    pub fn offset_bits(&self) -> u8
+        ensures { result ≡ (section_of self.now).offset_bits }
+    {
+        self.packed.block_offsets.width()
+    }
+
+    /// Returns the byte offset after the section in the input.
+    #[tactic(auto, unfolding(crate::specs::Strings::section_of))]
+    pub fn end(&self) -> usize
+        ensures { result ≡ (section_of self.now).end }
+    {
+        self.end
+    }
+
+    /// Returns the offset of a block, from 0, in the front-coded bytes. `block` must be less than
+    /// [`blocks`](Section::blocks).
     #[inline(always)]
     pub(crate) fn start_of(&self, block: u64) -> usize
         requires { block < blocks_of self.now }
         ensures is { result ≡ block_start self.now block }
         ensures within { result ≤ length self.now.packed.bytes.now }
     {
-        self.packed.starts.get(block) as usize
+        self.packed.block_offsets.get(block) as usize
     }
 
     /// Returns the front-coded bytes from a block on.
-    pub(crate) fn from_head(&self, block: u64) -> &'a [u8]
+    pub(crate) fn bytes_from_block(&self, block: u64) -> &'a [u8]
         requires { block < blocks_of self.now }
         ensures { result.now ≡ drop (block_start self.now block) self.now.packed.bytes.now }
     {
@@ -92,22 +117,25 @@ impl<'a> Section<'a> {
 
     /// Returns the first string of a block, and the bytes after its entry.
     #[tactic(auto, unfolding(crate::specs::Strings::strings_of, crate::specs::Strings::blocks_of))]
-    pub(crate) fn split_head(&self, block: u64) -> (&'a [u8], &'a [u8])
+    pub(crate) fn split_first_entry(&self, block: u64) -> (&'a [u8], &'a [u8])
         requires { block < blocks_of self.now }
-        ensures string { result.0.now ≡ get_or (strings_of self.now) (block * self.now.packed.block) [] }
-        ensures rest { result.1.now ≡ bytes_from_entry self.now.packed.block (block * self.now.packed.block + 1) self.now.packed.bytes.now }
+        ensures string { result.0.now ≡ get_or (strings_of self.now) (block * self.now.packed.block_size) [] }
+        ensures rest { result.1.now
+            ≡ bytes_from_entry self.now.packed.block_size
+            (block * self.now.packed.block_size + 1) self.now.packed.bytes.now }
     {
-        let entry = self.from_head(block);
+        let entry = self.bytes_from_block(block);
         let end = text_len(entry);
         (&entry[..end], entry.split_at(end + 1).1)
     }
 
-    /// Returns the first string of a block, from 0, borrowed from the input. Takes time linear in the string.
+    /// Returns the first string of a block, from 0, borrowed from the input. `block` must be less than
+    /// [`blocks`](Section::blocks). Takes time linear in the string.
     pub fn head(&self, block: u64) -> &'a [u8]
         requires { block < blocks_of self.now }
         ensures { result.now ≡ get_or (strings_of self.now) (block * block_size self.now) [] }
     {
-        self.split_head(block).0
+        self.split_first_entry(block).0
     }
 }
 
@@ -138,9 +166,11 @@ impl From<hdt_wire::Fault> for ReadFault {
 
 /// Whether a string is UTF-8 without a zero byte, and greater than the previous one unless it is the first.
 fn can_follow(first: bool, before: &[u8], string: &[u8]) -> bool
-    ensures { result ≡ (is_utf8 string.now && (nat_eq (len_before_zero string.now) (length string.now) && (first || precedes before.now string.now))) }
+    ensures { result ≡ (is_utf8
+        string.now && (nat_eq (len_before_zero string.now)
+        (length string.now) && (first || precedes before.now string.now))) }
 {
-    valid(string)
+    is_utf8(string)
         && len_before_zero(string) == string.len()
         && (first || before.cmp(string).is_lt())
 }

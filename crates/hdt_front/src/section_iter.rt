@@ -19,7 +19,7 @@ use std::marker::Model;
 /// let mut strings = SectionIter::new(alloc, &section);
 /// while let Some(start) = strings.next()? {
 ///     starts.push(start)?;
-///     text.extend_from_slice(strings.last())?;
+///     text.extend_from_slice(strings.string())?;
 /// }
 /// ```
 #[derive(Drop)]
@@ -39,9 +39,14 @@ impl<'a> Model for SectionIter<'a> {
     ghost use Rattle.hdt_front.specs.PackedView.{block_layout};
     ghost use Rattle.hdt_front.specs.StringChecks.{strings_check};
 
-    ghost view = { λ w. record { last = w.last.items; ahead = located_from (block_layout w.packed) (w.packed.count - w.next) w.next w.last.items w.rest.now } };
+    ghost view = { λ w. record {
+      last = w.last.items;
+      ahead =
+          located_from (block_layout w.packed) (w.packed.count - w.next) w.next w.last.items w.rest.now;
+    } };
 
-    ghost invariant = { λ w. (w.next ≤ w.packed.count) × (length w.rest.now ≤ length w.packed.bytes.now) × (strings_check (block_layout w.packed) (w.packed.count - w.next) w.next w.last.items w.rest.now ≡ Ok tt) };
+    ghost invariant = { λ w. (w.next ≤ w.packed.count) × (length w.rest.now ≤ length w.packed.bytes.now)
+        × (strings_check (block_layout w.packed) (w.packed.count - w.next) w.next w.last.items w.rest.now ≡ Ok tt) };
 }
 
 impl<'a> SectionIter<'a> {
@@ -58,7 +63,7 @@ impl<'a> SectionIter<'a> {
     }
 
     /// Returns the last decoded string, or an empty slice if there is none yet.
-    pub fn last(&self) -> &[u8]
+    pub fn string(&self) -> &[u8]
         ensures { result.now ≡ self.now.last }
     {
         &self.last
@@ -89,7 +94,7 @@ impl<'a> SectionIter<'a> {
         if self.next == self.packed.count {
             return Ok((None, 0));
         }
-        let head = self.next % self.packed.block == 0;
+        let head = self.next % self.packed.block_size == 0;
         let place = self.packed.place(self.rest);
         let (kept, text, after) = split_entry(head, self.rest);
         decode_over(&mut self.last, kept as usize, text)?;

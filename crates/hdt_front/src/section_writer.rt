@@ -3,9 +3,9 @@ ghost use Rattle.std.specs.Prelude.{◌≡◌, ◌≤◌, ◌<◌, ◌^◌, ◌+
 ghost use Rattle.byteorder.specs.Endian.{little_bytes};
 ghost use Rattle.hdt_wire.specs.Crc.{crc8, crc32};
 ghost use Rattle.hdt_wire.specs.Control.{HasNoZero, IsPrefixOf};
-ghost use Rattle.hdt_front.specs.Section.{AreSectionStrings, IsSection};
+ghost use Rattle.hdt_front.specs.Section.{AreSectionStrings, IsSectionAt};
 ghost use Rattle.hdt_front.specs.SectionWriting.{section_preamble, section_encoding};
-ghost use Rattle.hdt_front.specs.Searching.{lcp_len};
+ghost use Rattle.hdt_front.specs.Order.{lcp_len};
 ghost use Rattle.hdt_front.specs.Canonical.{entry_with_prefix, encode_entry, canonical, canonical_parts};
 ghost use Rattle.hdt_front.specs.WriterState.{last_string};
 
@@ -41,14 +41,20 @@ pub struct SectionWriter {
 
 impl Model for SectionWriter {
     ghost use Rattle.std.specs.Prelude.{[]};
-    ghost use Rattle.hdt_front.specs.WriterState.{SectionWriterState, IsWriterState};
+    ghost use Rattle.hdt_front.specs.WriterState.{SectionWriterState};
+    ghost use Rattle.hdt_front.specs.Inside.WriterFields.{IsWriterState};
     ghost use Rattle.hdt_front.specs.Decoding.{decoded_strings};
 
     ghost Value = { SectionWriterState };
 
-    ghost view = { λ w. record { block_size = w.block_size; strings = decoded_strings w.block_size w.count 0 [] w.packed.items } };
+    ghost view = { λ w. record {
+      block_size = w.block_size;
+      strings =
+          decoded_strings w.block_size w.count 0 [] w.packed.items;
+    } };
 
-    ghost invariant = { λ w. IsWriterState w.block_size (decoded_strings w.block_size w.count 0 [] w.packed.items) w.last.items w.starts.items w.packed.items };
+    ghost invariant = { λ w. IsWriterState w.block_size
+        (decoded_strings w.block_size w.count 0 [] w.packed.items) w.last.items w.starts.items w.packed.items };
 }
 
 /// Appends the entry of a string that shares `same` bytes with the previous one: the full string if it is the first of
@@ -114,7 +120,9 @@ fn append_preamble(
     block_size: u32,
     out: &mut Vec<u8>,
 ) -> Result<(), AllocError>
-    ensures ok { OnOk result (out.new.items ≡ out.old.items ++ (section_preamble count size block_size ++ crc8 (section_preamble count size block_size) ∷ [])) }
+    ensures ok { OnOk result (out.new.items
+        ≡ out.old.items ++ (section_preamble count size block_size ++ crc8 (section_preamble count size block_size)
+        ∷ [])) }
     ensures err { OnErr result (IsPrefixOf out.old.items out.new.items) }
 {
     let start = out.len();
@@ -146,7 +154,8 @@ fn append_parts(
     packed: &[u8],
     out: &mut Vec<u8>,
 ) -> Result<(), AllocError>
-    ensures ok { OnOk result (out.new.items ≡ out.old.items ++ section_encoding count block_size starts.now packed.now) }
+    ensures ok { OnOk result (out.new.items
+        ≡ out.old.items ++ section_encoding count block_size starts.now packed.now) }
     ensures err { OnErr result (IsPrefixOf out.old.items out.new.items) }
 {
     append_preamble(count, packed.len() as u64, block_size, out)?;
@@ -162,7 +171,8 @@ fn put_parts(
     packed: &[u8],
     out: &mut Vec<u8>,
 ) -> Result<(), AllocError>
-    ensures ok { OnOk result (out.new.items ≡ out.old.items ++ section_encoding count block_size starts.now packed.now) }
+    ensures ok { OnOk result (out.new.items
+        ≡ out.old.items ++ section_encoding count block_size starts.now packed.now) }
     ensures err { OnErr result (out.new.items ≡ out.old.items) }
 {
     let start = out.len();
@@ -193,7 +203,7 @@ impl SectionWriter {
     }
 
     /// Law: the block size is at least 1 and below 2^32.
-    pub fn has_blocks(&self)
+    pub fn block_size_is_valid(&self)
         ensures some { 1 ≤ self.now.block_size }
         ensures fits { self.now.block_size < 2 ^ 32 }
     {
@@ -254,7 +264,9 @@ impl SectionWriter {
         requires strings { AreSectionStrings self.strings }
         ensures ok { OnOk result (out.new.items ≡ out.old.items ++ canonical self.block_size self.strings) }
         // The appended bytes are a section with these strings.
-        ensures section { OnOk result (IsSection (canonical_parts self.block_size self.strings (length out.old.items)) out.new.items (length out.old.items)) }
+        ensures section { OnOk result
+            (IsSectionAt (canonical_parts self.block_size self.strings (length out.old.items)) out.new.items
+            (length out.old.items)) }
         ensures err { OnErr result (out.new.items ≡ out.old.items) }
     {
         let mut starts = self.starts;

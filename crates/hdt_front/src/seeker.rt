@@ -19,7 +19,7 @@ use std::marker::Model;
 /// for id in ids {
 ///     if *id > 0 && *id <= section.len() {
 ///         seeker.seek(*id, &mut steps)?;
-///         text.extend_from_slice(seeker.last())?;
+///         text.extend_from_slice(seeker.string())?;
 ///     }
 /// }
 /// ```
@@ -41,8 +41,8 @@ impl<'a> Model for Seeker<'a> {
     ghost view = { λ s. record { section = s.section; at = s.at; last = s.last.items } };
 
     ghost invariant = { λ s. (s.at ≤ s.section.packed.count)
-        × (s.last.items ≡ string_before_entry s.section.packed.block s.at s.section.packed.bytes.now)
-        × (s.rest.now ≡ bytes_from_entry s.section.packed.block s.at s.section.packed.bytes.now) };
+        × (s.last.items ≡ string_before_entry s.section.packed.block_size s.at s.section.packed.bytes.now)
+        × (s.rest.now ≡ bytes_from_entry s.section.packed.block_size s.at s.section.packed.bytes.now) };
 }
 
 impl<'a> Seeker<'a> {
@@ -59,7 +59,7 @@ impl<'a> Seeker<'a> {
     }
 
     /// Returns the current string, or an empty slice before the first one.
-    pub fn last(&self) -> &[u8]
+    pub fn string(&self) -> &[u8]
         ensures { result.now ≡ self.now.last }
     {
         &self.last
@@ -73,9 +73,9 @@ impl<'a> Seeker<'a> {
         ensures cost { steps.new ≡ steps.old + 1 }
     {
         steps.tick();
-        let (head, rest) = self.section.split_head(block);
+        let (head, rest) = self.section.split_first_entry(block);
         decode_over(&mut self.last, 0, head)?;
-        self.at = block * self.section.packed.block + 1;
+        self.at = block * self.section.packed.block_size + 1;
         self.rest = rest;
         Ok(())
     }
@@ -88,7 +88,7 @@ impl<'a> Seeker<'a> {
         ensures cost { steps.new ≡ steps.old + 1 }
     {
         steps.tick();
-        let head = self.at % self.section.packed.block == 0;
+        let head = self.at % self.section.packed.block_size == 0;
         let (kept, text, after) = split_entry(head, self.rest);
         decode_over(&mut self.last, kept as usize, text)?;
         self.rest = after;
@@ -109,16 +109,17 @@ impl<'a> Seeker<'a> {
         ensures far { OnErr result (self.old.at ≤ n → self.old.at < n) }
         ensures more { steps.old ≤ steps.new }
     {
-        let block = (n - 1) / self.section.packed.block;
-        let head = block * self.section.packed.block;
+        let block = (n - 1) / self.section.packed.block_size;
+        let head = block * self.section.packed.block_size;
         if self.at < head || n < self.at {
             self.seek_head(block, steps)?;
         }
         Ok(())
     }
 
-    /// Moves to the string with ID n, from 1. Takes at most as many steps as the block size, and at most n - m if the
-    /// current string has an ID m ≤ n. If memory runs out, the current string may have changed.
+    /// Moves to the string with ID n, from 1. `n` must be at most [`len`](Section::len). Takes at most as many steps as
+    /// the block size, and at most n - m if the current string has an ID m ≤ n. If memory runs out, the current string
+    /// may have changed.
     pub fn seek(&mut self, n: u64, steps: &mut Steps) -> Result<(), AllocError>
         requires from_one { 1 ≤ n }
         requires within { n ≤ length (strings_of self.old.section) }

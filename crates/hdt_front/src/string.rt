@@ -3,7 +3,7 @@ ghost use Rattle.std.specs.Prelude.{◌≡◌, ◌≤◌, ◌<◌, ◌+◌, ◌-
 ghost use Rattle.hdt_wire.specs.Control.{IsPrefixOf};
 ghost use Rattle.hdt_wire.specs.Checks.{len_before_zero};
 ghost use Rattle.hdt_front.specs.Decoding.{after_entry, kept, bytes_from_suffix, suffix_of};
-ghost use Rattle.hdt_front.specs.EntryFacts.{IsPartlyDecoded};
+ghost use Rattle.hdt_front.specs.Inside.PartialStrings.{IsPartlyDecoded};
 ghost use Rattle.hdt_front.specs.Inside.LoadRuns.{IsLoadRun};
 ghost use Rattle.hdt_front.specs.Strings.{strings_of, block_size};
 
@@ -44,13 +44,14 @@ fn decode_in_buffer<'a>(
     steps: &mut Steps,
 ) -> (u64, usize, &'a [u8])
     requires some { 0 < many }
-    requires short { many ≤ section.now.packed.block }
-    requires within { block * section.now.packed.block + many ≤ section.now.packed.count }
+    requires short { many ≤ section.now.packed.block_size }
+    requires within { block * section.now.packed.block_size + many ≤ section.now.packed.count }
     ensures done { (0 < result.0) × (result.0 ≤ many) }
-    ensures stands { IsPartlyDecoded section.now.packed.block block result.0 section.now.packed.bytes.now buffer.new result.1 result.2.now }
+    ensures decoded { IsPartlyDecoded section.now.packed.block_size block result.0 section.now.packed.bytes.now
+        buffer.new result.1 result.2.now }
     ensures cost { steps.new ≡ steps.old + result.0 }
 {
-    let mut rest = section.from_head(block);
+    let mut rest = section.bytes_from_block(block);
     let mut at = 0;
     let mut done = 1;
     steps.tick();
@@ -97,7 +98,8 @@ fn decode_next<'a>(
 ) -> Result<&'a [u8], AllocError>
     requires ends { len_before_zero (bytes_from_suffix head rest.now) < length (bytes_from_suffix head rest.now) }
     requires fits { start + kept head rest.now ≤ length out.old.items }
-    ensures string { OnOk result (out.new.items ≡ take (start + kept head rest.now) out.old.items ++ suffix_of head rest.now) }
+    ensures string { OnOk result (out.new.items ≡ take (start + kept head rest.now) out.old.items
+        ++ suffix_of head rest.now) }
     ensures rest { IfOk result (λ after. after.now ≡ after_entry head rest.now) }
     ensures err { OnErr result (out.new.items ≡ take (start + kept head rest.now) out.old.items) }
 {
@@ -123,11 +125,11 @@ fn append_string(
     ensures more { steps.old ≤ steps.new }
 {
     let start = out.len();
-    let many = i % section.packed.block + 1;
+    let many = i % section.packed.block_size + 1;
     let mut buffer = [0; BUFFER_LEN];
     let (done, len, left) = decode_in_buffer(
         section,
-        i / section.packed.block,
+        i / section.packed.block_size,
         many,
         &mut buffer,
         steps,
@@ -146,8 +148,8 @@ impl<'a> Section<'a> {
     ghost use Rattle.hdt_front.specs.Strings.{packed_block, section_of};
     ghost use Rattle.hdt_front.specs.Section.{string_offset};
 
-    /// Appends the string with ID n, from 1. Decodes at most one block: at most as many steps as the block size. If
-    /// memory runs out, `out` is unchanged.
+    /// Appends the string with ID n, from 1. `n` must be at most [`len`](Section::len). Decodes at most one block: at
+    /// most as many steps as the block size. If memory runs out, `out` is unchanged.
     pub fn string(&self, n: u64, out: &mut Vec<u8>, steps: &mut Steps) -> Result<(), AllocError>
         requires from_one { 1 ≤ n }
         requires within { n ≤ length (strings_of self.now) }
@@ -161,32 +163,33 @@ impl<'a> Section<'a> {
         truncate_on_error(appended, start, out)
     }
 
-    /// Returns the front-coded bytes of the block that contains string n, from 1. Decoding the string reads no other
-    /// strings, so a caller can prefetch them. Reads two block offsets and none of the returned bytes.
+    /// Returns the front-coded bytes of the block that contains string n, from 1. `n` must be at most
+    /// [`len`](Section::len). Decoding the string reads no other strings, so a caller can prefetch them. Reads two
+    /// block offsets and none of the returned bytes.
     #[inline(always)]
     #[tactic(auto, using(std::proofs::lemmas::List::take_min), unfolding(crate::specs::Strings::packed_block))]
-    pub fn block(&self, n: u64) -> &'a [u8]
+    pub fn block_bytes(&self, n: u64) -> &'a [u8]
         requires from_one { 1 ≤ n }
         requires within { n ≤ length (strings_of self.now) }
         ensures { result.now ≡ packed_block self.now (n - 1) }
     {
-        let block = (n - 1) / self.packed.block;
+        let block = (n - 1) / self.packed.block_size;
         let start = self.start_of(block);
-        let len = (self.packed.starts.get(block + 1) as usize).saturating_sub(start);
+        let len = (self.packed.block_offsets.get(block + 1) as usize).saturating_sub(start);
         let bytes = self.packed.bytes.split_at(start).1;
         bytes.split_at(len.min(bytes.len())).0
     }
 
-    /// Returns the byte offset in the input of the entry of string n, from 1, as errors report it. Scans at most one
-    /// block.
+    /// Returns the byte offset in the input of the entry of string n, from 1, as errors report it. `n` must be at most
+    /// [`len`](Section::len). Scans at most one block.
     pub fn string_start(&self, n: u64) -> u64
         requires from_one { 1 ≤ n }
         requires within { n ≤ length (strings_of self.now) }
         ensures { result ≡ string_offset (section_of self.now) (n - 1) }
     {
         let i = n - 1;
-        let mut rest = self.from_head(i / self.packed.block);
-        for k in 0..i % self.packed.block {
+        let mut rest = self.bytes_from_block(i / self.packed.block_size);
+        for k in 0..i % self.packed.block_size {
             rest = split_entry(k == 0, rest).2;
         }
         self.packed.place(rest) as u64

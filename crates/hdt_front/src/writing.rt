@@ -1,6 +1,6 @@
 //! Writing a section in canonical form.
 ghost use Rattle.std.specs.Prelude.{◌≡◌, ◌≤◌, ◌++◌, length, IfOk, OnOk, OnErr};
-ghost use Rattle.hdt_front.specs.Section.{AreSectionStrings, IsSection};
+ghost use Rattle.hdt_front.specs.Section.{AreSectionStrings, IsSectionAt};
 ghost use Rattle.hdt_front.specs.Canonical.{texts, borrowed_texts, canonical, canonical_parts};
 
 use crate::section_writer::SectionWriter;
@@ -17,7 +17,9 @@ fn put_borrowed_section(
     requires block { 1 ≤ block_size }
     ensures ok { OnOk result (out.new.items ≡ out.old.items ++ canonical block_size (borrowed_texts strings.now)) }
     // The appended bytes are a section with these strings.
-    ensures section { OnOk result (IsSection (canonical_parts block_size (borrowed_texts strings.now) (length out.old.items)) out.new.items (length out.old.items)) }
+    ensures section { OnOk result
+        (IsSectionAt (canonical_parts block_size (borrowed_texts strings.now) (length out.old.items)) out.new.items
+        (length out.old.items)) }
     ensures err { OnErr result (out.new.items ≡ out.old.items) }
 {
     let mut writer = SectionWriter::new(alloc, block_size);
@@ -55,7 +57,9 @@ pub fn put_section(
     requires block { 1 ≤ block_size }
     ensures ok { OnOk result (out.new.items ≡ out.old.items ++ canonical block_size (texts strings.now)) }
     // The appended bytes are a section with these strings.
-    ensures section { OnOk result (IsSection (canonical_parts block_size (texts strings.now) (length out.old.items)) out.new.items (length out.old.items)) }
+    ensures section { OnOk result
+        (IsSectionAt (canonical_parts block_size (texts strings.now) (length out.old.items)) out.new.items
+        (length out.old.items)) }
     ensures err { OnErr result (out.new.items ≡ out.old.items) }
 {
     let slices = borrow_strings(alloc, strings)?;

@@ -1,7 +1,7 @@
 //! Calls of hdt_file: look-ups and searches in graphs.
 
 use crate::open::graph_of;
-use hdt_dict::RoleCursor;
+use hdt_dict::RoleIter;
 use hdt_file::Graph;
 use hdt_probe::{Args, Reply};
 use hdt_seq::Steps;
@@ -302,12 +302,12 @@ fn reply_uses_of(args: &mut Args<'_>, reply: &mut Reply) {
 }
 
 /// The strings of an iteration in order, each after its ID.
-pub(crate) fn reply_strings(mut strings: RoleCursor<'_>, reply: &mut Reply) {
+pub(crate) fn reply_strings(mut strings: RoleIter<'_>, reply: &mut Reply) {
     for _ in 0..u64::MAX {
         match strings.next() {
             Ok(Some(number)) => {
                 reply.number(number);
-                reply.bytes(strings.last());
+                reply.bytes(strings.string());
             }
             Ok(None) => return,
             Err(_) => return reply.out_of_memory(),

@@ -261,11 +261,11 @@ fn text_of(args: &mut Args<'_>) -> String {
 
 /// Reads an error in an argument: which argument, its reason and column.
 fn word_fault_of(args: &mut Args<'_>) -> UsageFault {
-    let word = term_argument_of(args);
+    let argument = term_argument_of(args);
     let reason = line_reason_of(args);
     let column = args.number();
     let fault = TermFault { column, reason };
-    UsageFault::InvalidTerm { word, fault }
+    UsageFault::InvalidTerm { argument, fault }
 }
 
 fn reply_usage_line(args: &mut Args<'_>, reply: &mut Reply) {

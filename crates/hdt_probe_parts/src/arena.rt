@@ -54,7 +54,7 @@ fn arena_of(alloc: Global, strings: &[Vec<u8>]) -> Result<Arena, AllocError> {
         bytes.extend_from_slice(string)?;
         starts.push(bytes.len())?;
     }
-    Ok(Arena::of(bytes, starts))
+    Ok(Arena::from_parts(bytes, starts))
 }
 
 fn reply_arena_of(args: &mut Args<'_>, reply: &mut Reply) {

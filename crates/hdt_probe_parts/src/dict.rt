@@ -1,7 +1,7 @@
 //! Calls of hdt_dict: reading dictionaries.
 ghost use Rattle.std.specs.Prelude.{◌≡◌, ◌<◌, length};
 ghost use Rattle.hdt_dict.specs.Views.{dictionary_of};
-ghost use Rattle.hdt_dict.specs.Dictionary.{section_by_index};
+ghost use Rattle.hdt_dict.specs.Dictionary.{section_by_id, section_id};
 
 use crate::front::reply_read_fault;
 use hdt_dict::{Dictionary, Role};
@@ -108,7 +108,7 @@ fn reply_strings_of(args: &mut Args<'_>, reply: &mut Reply) {
         return reply.out_of_memory();
     }
     let steps = &mut Steps::new();
-    match dictionary.strings_of(args.alloc, role, &numbers, &mut bytes, &mut ends, steps) {
+    match dictionary.strings_by_id(args.alloc, role, &numbers, &mut bytes, &mut ends, steps) {
         Ok(are_there) => reply.boolean(are_there),
         Err(_) => reply.out_of_memory(),
     }
@@ -129,7 +129,7 @@ fn reply_block(args: &mut Args<'_>, reply: &mut Reply) {
 /// The number of strings of a section.
 fn section_len(dictionary: &Dictionary<'_>, section: usize) -> u64
     requires { section < 4 }
-    ensures { result ≡ length (section_by_index (dictionary_of dictionary.now) section).strings }
+    ensures { result ≡ length (section_by_id (dictionary_of dictionary.now) (section_id section)).strings }
 {
     let [shared, subjects, predicates, objects] = dictionary.section_lens();
     match section {
@@ -162,7 +162,7 @@ fn reply_strings(args: &mut Args<'_>, reply: &mut Reply) {
         match strings.next() {
             Ok(Some(number)) => {
                 reply.number(number);
-                reply.bytes(strings.last());
+                reply.bytes(strings.string());
             }
             Ok(None) => return,
             Err(_) => return reply.out_of_memory(),
@@ -181,7 +181,7 @@ fn reply_strings_kept(args: &mut Args<'_>, reply: &mut Reply) {
             Ok((Some(number), kept)) => {
                 reply.number(number);
                 reply.size(kept);
-                reply.bytes(strings.last());
+                reply.bytes(strings.string());
             }
             Ok((None, kept)) => {
                 reply.word("none");

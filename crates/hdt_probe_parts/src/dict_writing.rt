@@ -3,7 +3,7 @@ ghost use Rattle.std.specs.Prelude.{◌≡◌, ◌≤◌, IsTrue, IfOk, All};
 ghost use Rattle.hdt_front.specs.Section.{AreSectionStrings};
 ghost use Rattle.hdt_front.specs.Canonical.{borrowed_texts, texts};
 ghost use Rattle.hdt_dict.specs.Split.{lists_of_parts};
-ghost use Rattle.hdt_dict.specs.DictionaryString.{IsDictionaryString};
+ghost use Rattle.hdt_dict.specs.Strings.{IsDictionaryString};
 ghost use Rattle.hdt_dict.specs.Writing.{AreSections};
 
 use hdt_dict::{Parts, SectionWriter, finish_dictionary, put_dictionary, split};

@@ -128,7 +128,7 @@ fn reply_section_block(args: &mut Args<'_>, reply: &mut Reply) {
     if n == 0 || n > section.len() {
         return reply.refused();
     }
-    reply.bytes(section.block(n));
+    reply.bytes(section.block_bytes(n));
     reply.number(section.string_start(n))
 }
 

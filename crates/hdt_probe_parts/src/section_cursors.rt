@@ -28,13 +28,13 @@ fn reply_section_seek(args: &mut Args<'_>, reply: &mut Reply) {
         return;
     };
     let mut seeker = Seeker::new(args.alloc, &section);
-    reply.bytes(seeker.last());
+    reply.bytes(seeker.string());
     for n in &args.numbers() {
         if *n == 0 || *n > section.len() {
             return reply.refused();
         }
         match seeker.seek(*n, &mut Steps::new()) {
-            Ok(()) => reply.bytes(seeker.last()),
+            Ok(()) => reply.bytes(seeker.string()),
             Err(_) => return reply.out_of_memory(),
         }
     }
@@ -50,7 +50,7 @@ fn reply_section_walk(args: &mut Args<'_>, reply: &mut Reply) {
         match walk.next() {
             Ok(Some(place)) => {
                 reply.size(place);
-                reply.bytes(walk.last());
+                reply.bytes(walk.string());
             }
             Ok(None) => return,
             Err(_) => return reply.out_of_memory(),
@@ -70,7 +70,7 @@ fn reply_section_walk_kept(args: &mut Args<'_>, reply: &mut Reply) {
             Ok((Some(place), kept)) => {
                 reply.size(place);
                 reply.size(kept);
-                reply.bytes(walk.last());
+                reply.bytes(walk.string());
             }
             Ok((None, kept)) => {
                 reply.word("none");
@@ -95,7 +95,7 @@ fn reply_section_cursor(args: &mut Args<'_>, reply: &mut Reply) {
             return;
         };
         reply.bytes(string);
-        reply.order(cursor.order(&sought));
+        reply.order(cursor.cmp_with_lcp(&sought, 0).0);
         if cursor.advance().is_err() {
             return reply.out_of_memory();
         }
@@ -133,7 +133,7 @@ fn reply_section_cursor_compared(args: &mut Args<'_>, reply: &mut Reply) {
             }
         }
         reply_compared(&cursor, from, &sought, reply);
-        match cursor.advance_with_prefix_len() {
+        match cursor.advance() {
             Ok(kept) => reply.size(kept),
             Err(_) => return reply.out_of_memory(),
         }

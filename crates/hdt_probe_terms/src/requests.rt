@@ -2,7 +2,7 @@
 
 use crate::faults::reply_term_fault;
 use hdt_probe::{Args, Reply};
-use hdt_terms::{TermFault, read_raw_request, read_request};
+use hdt_terms::{TermFault, parse_raw_request, parse_request};
 
 /// The words of this module, each with its number of arguments.
 pub(crate) const WORDS: &str = "request 1 raw_request 1";
@@ -59,7 +59,7 @@ fn reply_request(args: &mut Args<'_>, reply: &mut Reply) {
     let mut s = nonempty_buffer(args);
     let mut p = nonempty_buffer(args);
     let mut o = nonempty_buffer(args);
-    let outcome = read_request(&text, &mut s, &mut p, &mut o);
+    let outcome = parse_request(&text, &mut s, &mut p, &mut o);
     reply_outcome(outcome, &s, &p, &o, reply)
 }
 
@@ -68,6 +68,6 @@ fn reply_raw_request(args: &mut Args<'_>, reply: &mut Reply) {
     let mut s = nonempty_buffer(args);
     let mut p = nonempty_buffer(args);
     let mut o = nonempty_buffer(args);
-    let outcome = read_raw_request(&text, &mut s, &mut p, &mut o);
+    let outcome = parse_raw_request(&text, &mut s, &mut p, &mut o);
     reply_outcome(outcome, &s, &p, &o, reply)
 }

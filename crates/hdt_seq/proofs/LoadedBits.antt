@@ -33,21 +33,27 @@ masked n s w h = ap (λ m. bit_and (n / 2 ^ s) (m - 1)) (one_shl w 128 (omega (a
 low_bits : (n j s w : ℕ) → s + w ≤ j → n % 2 ^ j / 2 ^ s % 2 ^ w ≡ n / 2 ^ s % 2 ^ w
 low_bits n j s w h =
     let split : j ≡ (j - s) + s = omega (arith, h) in
-    ap (λ m. n % 2 ^ m / 2 ^ s % 2 ^ w) split ∙ ap (λ m. m % 2 ^ w) (field_of n (j - s) s) ∙ mod_less (n / 2 ^ s) (j - s) w (omega (arith, h))
+    ap (λ m. n % 2 ^ m / 2 ^ s % 2 ^ w) split ∙ ap (λ m. m % 2 ^ w) (field_of n (j - s) s)
+    ∙ mod_less (n / 2 ^ s) (j - s) w (omega (arith, h))
 
 -- bits that are all in the first eight bytes
-pub of_eight : (bs : List ℕ) (s w : ℕ) → IsBytes bs → 8 ≤ length bs → s + w ≤ 64 → little_number 8 bs / 2 ^ s % 2 ^ w ≡ little bs / 2 ^ s % 2 ^ w
+pub of_eight : (bs : List ℕ) (s w : ℕ) → IsBytes bs → 8 ≤ length bs → s + w ≤ 64
+    → little_number 8 bs / 2 ^ s % 2 ^ w ≡ little bs / 2 ^ s % 2 ^ w
 of_eight bs s w small size h =
     let low : little_number 8 bs ≡ little bs % 2 ^ 64 = front 8 bs size ∙ little-take bs 8 small in
     ap (λ n. n / 2 ^ s % 2 ^ w) low ∙ low_bits (little bs) 64 s w h
 
 -- up to 64 bits from a bit of the first byte on are in the first nine bytes
-pub of_nine : (bs near : List ℕ) (s w : ℕ) → IsBytes bs → near ≡ take 9 bs → s < 8 → w ≤ 64 → little near / 2 ^ s % 2 ^ w ≡ little bs / 2 ^ s % 2 ^ w
+pub of_nine : (bs near : List ℕ) (s w : ℕ) → IsBytes bs → near ≡ take 9 bs → s < 8 → w ≤ 64
+    → little near / 2 ^ s % 2 ^ w ≡ little bs / 2 ^ s % 2 ^ w
 of_nine bs near s w small is first narrow =
-    ap (λ b. little b / 2 ^ s % 2 ^ w) is ∙ ap (λ n. n / 2 ^ s % 2 ^ w) (little-take bs 9 small) ∙ low_bits (little bs) 72 s w (omega (arith, first, narrow))
+    ap (λ b. little b / 2 ^ s % 2 ^ w) is ∙ ap (λ n. n / 2 ^ s % 2 ^ w) (little-take bs 9 small)
+    ∙ low_bits (little bs) 72 s w (omega (arith, first, narrow))
 
 -- bits from bit `at` on are those of the bytes from byte at / 8 on
-pub of_rest : (bs : List ℕ) (at w : ℕ) → IsBytes bs → little (drop (at / 8) bs) / 2 ^ (at % 8) % 2 ^ w ≡ little bs / 2 ^ at % 2 ^ w
+pub of_rest : (bs : List ℕ) (at w : ℕ) → IsBytes bs → little (drop (at / 8) bs) / 2 ^ (at % 8) % 2 ^ w
+    ≡ little bs / 2 ^ at % 2 ^ w
 of_rest bs at w small =
     let whole : 8 * (at / 8) + at % 8 ≡ at = omega arith in
-    ap (λ n. n / 2 ^ (at % 8) % 2 ^ w) (little-drop bs (at / 8) small) ∙ ap (λ n. n % 2 ^ w) (shr-shr (little bs) (8 * (at / 8)) (at % 8)) ∙ ap (λ n. little bs / 2 ^ n % 2 ^ w) whole
+    ap (λ n. n / 2 ^ (at % 8) % 2 ^ w) (little-drop bs (at / 8) small)
+    ∙ ap (λ n. n % 2 ^ w) (shr-shr (little bs) (8 * (at / 8)) (at % 8)) ∙ ap (λ n. little bs / 2 ^ n % 2 ^ w) whole

@@ -34,11 +34,11 @@ bits_and_end r = (bits_of r.0, r.1)
 
 -- the same, with the offsets of the bitmap
 abbrev pub bits_view : Bits × ℕ → Sequence Bool
-bits_view r = record { items = bits_of r.0; places = bits_offsets r.0; end = r.1 }
+bits_view r = record { items = bits_of r.0; offsets = bits_offsets r.0; end = r.1 }
 
 -- the offsets of a bitmap of n bits that begins at an offset
-abbrev pub bits_offsets_at : ℕ → ℕ → SequenceOffsets
-bits_offsets_at at n = record { count = at + 1; packed = at + 2 + length (vbyte n); width = 1 }
+abbrev pub expected_bits_offsets : ℕ → ℕ → SequenceOffsets
+expected_bits_offsets at n = record { count = at + 1; packed = at + 2 + length (vbyte n); width = 1 }
 
 -- the checks of a bitmap in turn: the bitmap, or the first error
 unfoldable pub bits_at : List ℕ → ℕ → Result (Sequence Bool) Fault
@@ -49,7 +49,12 @@ bits_at bytes at = do
   start ← crc8_at bytes at count.1
   _ ← demand (nat_lt 0 count.0) kind.1 NoTriples
   packed ← packed_at count.0 bytes start
-  Ok (record { items = bits packed.0 count.0; places = record { count = kind.1; packed = start; width = 1 }; end = packed.1 })
+  Ok (record {
+    items = bits packed.0 count.0;
+    offsets = record { count = kind.1; packed = start; width = 1 };
+    end =
+        packed.1;
+  })
 
 -- ---- writing
 

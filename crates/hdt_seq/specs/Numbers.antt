@@ -36,11 +36,11 @@ numbers_and_end r = (numbers_of r.0, r.1)
 
 -- the same, with the offsets of the sequence
 abbrev pub numbers_view : Numbers × ℕ → Sequence ℕ
-numbers_view r = record { items = numbers_of r.0; places = numbers_offsets r.0; end = r.1 }
+numbers_view r = record { items = numbers_of r.0; offsets = numbers_offsets r.0; end = r.1 }
 
 -- the offsets of a log sequence of n entries that begins at an offset
-abbrev pub numbers_offsets_at : ℕ → ℕ → ℕ → SequenceOffsets
-numbers_offsets_at at width n = record { count = at + 2; packed = at + 3 + length (vbyte n); width = width }
+abbrev pub expected_numbers_offsets : ℕ → ℕ → ℕ → SequenceOffsets
+expected_numbers_offsets at width n = record { count = at + 2; packed = at + 3 + length (vbyte n); width = width }
 
 -- the checks of a log sequence in turn: the sequence, or the first error
 unfoldable pub numbers_at : List ℕ → ℕ → Result (Sequence ℕ) Fault
@@ -52,7 +52,12 @@ numbers_at bytes at = do
   count ← vbyte_at bytes width.1
   start ← crc8_at bytes at count.1
   packed ← packed_at (width.0 * count.0) bytes start
-  Ok (record { items = entries packed.0 width.0 count.0; places = record { count = width.1; packed = start; width = width.0 }; end = packed.1 })
+  Ok (record {
+    items = entries packed.0 width.0 count.0;
+    offsets =
+        record { count = width.1; packed = start; width = width.0 };
+    end = packed.1;
+  })
 
 -- ---- writing
 

@@ -7,5 +7,5 @@ ones_before bits i = count_by (λ b. b) (take i bits)
 
 -- select: bit i is 1, and it is the k-th 1-bit, from 1: before it are k - 1 of them
 pub record IsSelect (bits : List Bool) (k i : ℕ) : Type 0 where
-  pub marked : slice_get bits i ≡ Some true
+  pub is_one : slice_get bits i ≡ Some true
   pub before : ones_before bits i + 1 ≡ k

@@ -20,12 +20,12 @@ pub record SequenceOffsets : Type 0 where
 
 -- the byte offset of entry i: that of the byte with its first bit
 abbrev pub entry_offset : SequenceOffsets → ℕ → ℕ
-entry_offset places i = places.packed + places.width * i / 8
+entry_offset offsets i = offsets.packed + offsets.width * i / 8
 
 -- a sequence: its entries or bits, its offsets, and the byte offset after it
 pub record Sequence (X : Type 0) : Type 0 where
   pub items : List X
-  pub places : SequenceOffsets
+  pub offsets : SequenceOffsets
   pub end : ℕ
 
 -- ---- the checks

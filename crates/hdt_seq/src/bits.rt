@@ -29,7 +29,7 @@ impl<'a> Bits<'a> {
     ghost use Rattle.std.specs.Int.Count.{ones};
     ghost use Rattle.hdt_seq.specs.Sequence.{entry_offset};
     ghost use Rattle.hdt_seq.specs.RankSelect.{ones_before};
-    ghost use Rattle.hdt_seq.specs.Bits.{EncodesBits, bits_of, bits_offsets, bits_offsets_at, bits_and_end, bits_view, bits_at};
+    ghost use Rattle.hdt_seq.specs.Bits.{EncodesBits, bits_of, bits_offsets, expected_bits_offsets, bits_and_end, bits_view, bits_at};
 
     /// Reads a bitmap in the order of the format.
     #[tactic(auto, unfolding(crate::specs::Bits::bits_at, crate::specs::Bits::bits_of, crate::specs::Bits::bits_offsets))]
@@ -62,9 +62,10 @@ impl<'a> Bits<'a> {
         // What is returned is encoded there.
         ensures found { IfOk result (λ r. EncodedAt EncodesBits bytes.now at (bits_of r.0) r.1) }
         // Its offsets are those of the format.
-        ensures places { IfOk result (λ r. bits_offsets r.0 ≡ bits_offsets_at at (length (bits_of r.0))) }
+        ensures places { IfOk result (λ r. bits_offsets r.0 ≡ expected_bits_offsets at (length (bits_of r.0))) }
         // Whatever is encoded there is returned.
-        ensures only { (xs : List Bool) (end : ℕ) → EncodedAt EncodesBits bytes.now at xs end → Reads bits_and_end result (Ok (xs, end)) }
+        ensures only { (xs : List Bool) (end : ℕ) → EncodedAt EncodesBits bytes.now at xs end
+            → Reads bits_and_end result (Ok (xs, end)) }
         // Otherwise the first error is returned.
         ensures exact { Reads bits_view result (bits_at bytes.now at) }
         ensures end { IfOk result (λ r. (at < r.1) × (r.1 ≤ length bytes.now)) }
@@ -72,7 +73,7 @@ impl<'a> Bits<'a> {
         Bits::read_by_checks(bytes, at)
     }
 
-    /// Returns the number of bits: at least 1, below 2^64.
+    /// Returns the number of bits, at least 1.
     #[tactic(auto, using(crate::specs::Laws::Bits::bits_len))]
     pub fn len(&self) -> u64
         ensures { result ≡ length (bits_of self.now) }
@@ -80,7 +81,7 @@ impl<'a> Bits<'a> {
         self.count
     }
 
-    /// Returns whether bit i, from 0, is 1.
+    /// Returns whether bit i, from 0, is 1. `i` must be less than [`len`](Bits::len).
     #[tactic(auto, using(crate::specs::Laws::Bits::bit_within, crate::specs::Laws::Bits::bits_get))]
     pub fn get(&self, i: u64) -> bool
         requires { i < length (bits_of self.now) }
@@ -97,7 +98,7 @@ impl<'a> Bits<'a> {
         self.count_at as u64
     }
 
-    /// Returns the byte offset of the byte with bit i in the input.
+    /// Returns the byte offset of the byte with bit i in the input. `i` must be less than [`len`](Bits::len).
     #[tactic(auto, using(crate::specs::Laws::Bits::bit_within), unfolding(crate::specs::Bits::bits_offsets))]
     pub fn entry_place(&self, i: u64) -> u64
         requires { i < length (bits_of self.now) }
@@ -112,7 +113,8 @@ impl<'a> Bits<'a> {
         requires near { to ≤ from + 64 }
         requires within { to ≤ length (bits_of self.now) }
         // The 1-bits among its lowest k bits are those of the first k positions, and it has no others.
-        ensures lowest { (k : ℕ) → from + k ≤ to → ones_before (bits_of self.now) from + ones (result % 2 ^ k) ≡ ones_before (bits_of self.now) (from + k) }
+        ensures lowest { (k : ℕ) → from + k ≤ to → ones_before (bits_of self.now) from + ones (result % 2 ^ k)
+            ≡ ones_before (bits_of self.now) (from + k) }
         ensures all { ones_before (bits_of self.now) from + ones result ≡ ones_before (bits_of self.now) to }
         ensures cost { steps.new ≡ steps.old + 1 }
     {

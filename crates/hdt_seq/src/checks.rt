@@ -18,7 +18,8 @@ pub fn byte_at(bytes: &[u8], at: usize) -> Result<(u8, usize), Fault>
 }
 
 /// Checks that the byte at `at` is the CRC-8 of the bytes from `start` up to it. Returns the offset after it. Fails at
-/// `at`, with `Truncated` or `Check8`. Linear time in these bytes.
+/// `at`, with `Truncated` or `Check8`. `start` must be at most `at`, and `at` at most the length. Linear time in these
+/// bytes.
 #[tactic(auto, unfolding(crate::specs::Sequence::crc8_at))]
 pub fn crc8_at(bytes: &[u8], start: usize, at: usize) -> Result<usize, Fault>
     requires order { start ≤ at }

@@ -60,7 +60,7 @@ impl Directory {
     }
 
     /// Returns the number of 1-bits before position i, from 0, in at most 8 steps. For the length of the bitmap, that
-    /// is the number of all 1-bits, in one step.
+    /// is the number of all 1-bits, in one step. `i` must be at most `bits.len()`.
     #[tactic(auto, unfolding(crate::specs::Directory::stored_counts), using(crate::specs::Laws::RankSelect::ones_before_le, crate::proofs::GroupCounts::group_end))]
     pub fn rank(&self, bits: &Bits<'_>, i: u64, steps: &mut Steps) -> u64
         requires counted { IsDirectoryOf self.now (bits_of bits.now) }
@@ -87,8 +87,8 @@ impl Directory {
         }
     }
 
-    /// Returns the position, from 0, of the k-th 1-bit, k from 1. Takes at most 8 steps, plus one for each binary digit
-    /// of the number of groups.
+    /// Returns the position, from 0, of the k-th 1-bit, k from 1. `k` must be at most the number of 1-bits. Takes at
+    /// most 8 steps, plus one for each binary digit of the number of groups.
     pub fn select(&self, bits: &Bits<'_>, k: u64, steps: &mut Steps) -> u64
         requires counted { IsDirectoryOf self.now (bits_of bits.now) }
         requires some { 0 < k }
@@ -234,9 +234,11 @@ fn select_in_word(word: u64, width: u64, k: u64) -> u64
 /// Laws of rank and select, which are inverse: the 1-bits of a list are numbered from 1, in order.
 pub fn rank_select_inverse()
     // The number of a 1-bit is one more than the number of 1-bits before it.
-    ensures number { (bits : List Bool) (i : ℕ) → slice_get bits i ≡ Some true → IsSelect bits (ones_before bits i + 1) i }
+    ensures number { (bits : List Bool) (i : ℕ) → slice_get bits i ≡ Some true
+        → IsSelect bits (ones_before bits i + 1) i }
     // Each number from 1 to the number of 1-bits is that of exactly one 1-bit.
-    ensures some { (bits : List Bool) (k : ℕ) → 0 < k → k ≤ ones_before bits (length bits) → SomeIndex bits (IsSelect bits k) }
+    ensures some { (bits : List Bool) (k : ℕ) → 0 < k → k ≤ ones_before bits (length bits)
+        → SomeIndex bits (IsSelect bits k) }
     ensures one { (bits : List Bool) (k i j : ℕ) → IsSelect bits k i → IsSelect bits k j → i ≡ j }
     ensures ascend { (bits : List Bool) (k m i j : ℕ) → IsSelect bits k i → IsSelect bits m j → k < m → i < j }
     ensures through { (bits : List Bool) (k i : ℕ) → IsSelect bits k i → ones_before bits (i + 1) ≡ k }

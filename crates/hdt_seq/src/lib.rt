@@ -17,7 +17,8 @@
 //! ```
 //!
 //! Both sequences borrow the input and are `Copy`. A `Directory` is a rank/select index; it owns only its counts.
-//! Contracts see sequences as lists, by `numbers_of` and `bits_of` of specs/, and their offsets by `numbers_offsets` and
+//! Contracts see sequences as lists, by `numbers_of` and `bits_of` of specs/, and their offsets by `numbers_offsets`
+//! and
 //! `bits_offsets`. `IsDirectoryOf` says that an index is that of a list of bits. Laws on these lists, and on rank and
 //! select, are in specs/Laws: `Numbers`, `Bits`, `RankSelect`.
 #![tactic(auto)]
@@ -37,4 +38,4 @@ pub use directory::{Directory, rank_select_inverse};
 pub use numbers::Numbers;
 pub use packing::width_of;
 pub use steps::Steps;
-pub use writing::{bits_roundtrip, numbers_roundtrip, put_bits, put_numbers};
+pub use writing::{bits_round_trip, numbers_round_trip, put_bits, put_numbers};

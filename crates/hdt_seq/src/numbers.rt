@@ -31,7 +31,7 @@ impl<'a> Numbers<'a> {
     ghost use Rattle.std.specs.Prelude.{List, Ok, IfOk, slice_index};
     ghost use Rattle.hdt_wire.specs.Checks.{Reads, EncodedAt};
     ghost use Rattle.hdt_seq.specs.Sequence.{entry_offset};
-    ghost use Rattle.hdt_seq.specs.Numbers.{EncodesNumbers, numbers_of, numbers_offsets, numbers_offsets_at, numbers_and_end, numbers_view, numbers_at};
+    ghost use Rattle.hdt_seq.specs.Numbers.{EncodesNumbers, numbers_of, numbers_offsets, expected_numbers_offsets, numbers_and_end, numbers_view, numbers_at};
 
     /// Reads a log sequence in the order of the format.
     #[tactic(auto, unfolding(crate::specs::Numbers::numbers_at, crate::specs::Numbers::numbers_of, crate::specs::Numbers::numbers_offsets))]
@@ -67,9 +67,11 @@ impl<'a> Numbers<'a> {
         // What is returned is encoded there.
         ensures found { IfOk result (λ r. EncodedAt EncodesNumbers bytes.now at (numbers_of r.0) r.1) }
         // Its offsets are those of the format.
-        ensures places { IfOk result (λ r. numbers_offsets r.0 ≡ numbers_offsets_at at (slice_index bytes.now (at + 1)) (length (numbers_of r.0))) }
+        ensures places { IfOk result (λ r. numbers_offsets r.0
+            ≡ expected_numbers_offsets at (slice_index bytes.now (at + 1)) (length (numbers_of r.0))) }
         // Whatever is encoded there is returned.
-        ensures only { (xs : List ℕ) (end : ℕ) → EncodedAt EncodesNumbers bytes.now at xs end → Reads numbers_and_end result (Ok (xs, end)) }
+        ensures only { (xs : List ℕ) (end : ℕ) → EncodedAt EncodesNumbers bytes.now at xs end
+            → Reads numbers_and_end result (Ok (xs, end)) }
         // Otherwise the first error is returned.
         ensures exact { Reads numbers_view result (numbers_at bytes.now at) }
         ensures end { IfOk result (λ r. (at < r.1) × (r.1 ≤ length bytes.now)) }
@@ -77,7 +79,7 @@ impl<'a> Numbers<'a> {
         Numbers::read_by_checks(bytes, at)
     }
 
-    /// Returns the number of entries, which is below 2^64.
+    /// Returns the number of entries.
     #[tactic(auto, using(crate::specs::Laws::Numbers::numbers_len))]
     pub fn len(&self) -> u64
         ensures { result ≡ length (numbers_of self.now) }
@@ -85,13 +87,21 @@ impl<'a> Numbers<'a> {
         self.count
     }
 
-    /// Returns entry i, from 0.
+    /// Returns entry i, from 0. `i` must be less than [`len`](Numbers::len).
     #[tactic(auto, using(crate::specs::Laws::Numbers::number_within, crate::specs::Laws::Numbers::numbers_get))]
     pub fn get(&self, i: u64) -> u64
         requires { i < length (numbers_of self.now) }
         ensures { result ≡ slice_index (numbers_of self.now) i }
     {
         read_entry(self.packed, self.width, i)
+    }
+
+    /// Returns the number of bits of an entry, at most 64.
+    #[tactic(auto, unfolding(crate::specs::Numbers::numbers_offsets))]
+    pub fn width(&self) -> u8
+        ensures { result ≡ (numbers_offsets self.now).width }
+    {
+        self.width
     }
 
     /// Returns the byte offset of the number of entries in the input.
@@ -103,7 +113,7 @@ impl<'a> Numbers<'a> {
     }
 
     /// Returns the byte offset of entry i in the input: that of the byte with its first bit. Entries of 0 bits are at
-    /// the offset of the packed bytes.
+    /// the offset of the packed bytes. `i` must be less than [`len`](Numbers::len).
     #[tactic(auto, using(crate::specs::Laws::Numbers::number_within), unfolding(crate::specs::Numbers::numbers_offsets))]
     pub fn entry_place(&self, i: u64) -> u64
         requires { i < length (numbers_of self.now) }

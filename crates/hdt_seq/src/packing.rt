@@ -41,9 +41,12 @@ fn append_entry(
     requires narrow { width ≤ 64 }
     requires filled { rest.old.filled < 64 }
     requires small { rest.old.word < 2 ^ rest.old.filled }
-    ensures word { OnOk result (rest.new.word ≡ (rest.old.word + entry * 2 ^ rest.old.filled) / 2 ^ (8 * (8 * ((rest.old.filled + width) / 64)))) }
+    ensures word { OnOk result (rest.new.word
+        ≡ (rest.old.word + entry * 2 ^ rest.old.filled) / 2 ^ (8 * (8 * ((rest.old.filled + width) / 64)))) }
     ensures rest { OnOk result (rest.new.filled ≡ (rest.old.filled + width) % 64) }
-    ensures ok { OnOk result (out.new.items ≡ out.old.items ++ little_bytes (8 * ((rest.old.filled + width) / 64)) (rest.old.word + entry * 2 ^ rest.old.filled)) }
+    ensures ok { OnOk result (out.new.items
+        ≡ out.old.items ++ little_bytes (8 * ((rest.old.filled + width) / 64))
+        (rest.old.word + entry * 2 ^ rest.old.filled)) }
     ensures err { OnErr result (out.new.items ≡ out.old.items) }
 {
     let word = rest.word + (u128::from(entry) << rest.filled);
@@ -73,9 +76,12 @@ pub(crate) fn append_entries(xs: &[u64], width: u8, out: &mut Vec<u8>) -> Result
 fn append_bit(rest: &mut PendingBits, bit: bool, out: &mut Vec<u8>) -> Result<(), AllocError>
     requires filled { rest.old.filled < 64 }
     requires small { rest.old.word < 2 ^ rest.old.filled }
-    ensures word { OnOk result (rest.new.word ≡ (rest.old.word + bit_number bit * 2 ^ rest.old.filled) / 2 ^ (8 * (8 * ((rest.old.filled + 1) / 64)))) }
+    ensures word { OnOk result (rest.new.word
+        ≡ (rest.old.word + bit_number bit * 2 ^ rest.old.filled) / 2 ^ (8 * (8 * ((rest.old.filled + 1) / 64)))) }
     ensures rest { OnOk result (rest.new.filled ≡ (rest.old.filled + 1) % 64) }
-    ensures ok { OnOk result (out.new.items ≡ out.old.items ++ little_bytes (8 * ((rest.old.filled + 1) / 64)) (rest.old.word + bit_number bit * 2 ^ rest.old.filled)) }
+    ensures ok { OnOk result (out.new.items
+        ≡ out.old.items ++ little_bytes (8 * ((rest.old.filled + 1) / 64))
+        (rest.old.word + bit_number bit * 2 ^ rest.old.filled)) }
     ensures err { OnErr result (out.new.items ≡ out.old.items) }
 {
     if rest.filled == 63 {

@@ -4,8 +4,8 @@ ghost use Rattle.hdt_wire.specs.Checks.{IsBytes};
 ghost use Rattle.hdt_wire.specs.Control.{IsPrefixOf};
 ghost use Rattle.hdt_seq.specs.Width.{width_of};
 ghost use Rattle.hdt_seq.specs.PackedBits.{EachFits};
-ghost use Rattle.hdt_seq.specs.Numbers.{EncodesNumbers, numbers_at, numbers_offsets_at, numbers_encoding};
-ghost use Rattle.hdt_seq.specs.Bits.{EncodesBits, bits_at, bits_offsets_at, bits_encoding};
+ghost use Rattle.hdt_seq.specs.Numbers.{EncodesNumbers, numbers_at, expected_numbers_offsets, numbers_encoding};
+ghost use Rattle.hdt_seq.specs.Bits.{EncodesBits, bits_at, expected_bits_offsets, bits_encoding};
 
 use crate::packing::{append_bits, append_crc8, append_crc32, append_entries, width_of};
 use hdt_wire::{put_vbyte, truncate_on_error};
@@ -40,12 +40,18 @@ pub fn put_numbers(xs: &[u64], out: &mut Vec<u8>) -> Result<(), AllocError>
 
 /// Laws of the encodings of log sequences. What `put_numbers` appends encodes its entries and is read back, whatever
 /// precedes and follows it. An encoding is that of one list only, and no prefix of another encoding.
-pub fn numbers_roundtrip()
+pub fn numbers_round_trip()
     ensures spelled { (xs : List ℕ) → length xs < 2 ^ 64 → EachFits 64 xs → EncodesNumbers (numbers_encoding xs) xs }
     ensures again { (before after xs : List ℕ) → length xs < 2 ^ 64 → EachFits 64 xs
         → numbers_at (before ++ numbers_encoding xs ++ after) (length before)
-        ≡ Ok (record { items = xs; places = numbers_offsets_at (length before) (width_of xs) (length xs); end = length before + length (numbers_encoding xs) }) }
-    ensures begins_no_other { (a b x y xs ys : List ℕ) → IsBytes (a ++ x) → EncodesNumbers a xs → EncodesNumbers b ys → a ++ x ≡ b ++ y → (a ≡ b) × (xs ≡ ys) }
+        ≡ Ok (record {
+          items = xs;
+          offsets = expected_numbers_offsets (length before) (width_of xs) (length xs);
+          end =
+              length before + length (numbers_encoding xs);
+        }) }
+    ensures begins_no_other { (a b x y xs ys : List ℕ) → IsBytes (a ++ x) → EncodesNumbers a xs → EncodesNumbers b ys
+        → a ++ x ≡ b ++ y → (a ≡ b) × (xs ≡ ys) }
 {}
 
 /// Appends a bitmap. An error may leave its first bytes.
@@ -77,10 +83,16 @@ pub fn put_bits(bits: &[bool], out: &mut Vec<u8>) -> Result<(), AllocError>
 
 /// Laws of the encodings of bitmaps. What `put_bits` appends encodes its bits and is read back, whatever precedes and
 /// follows it. An encoding is that of one list only, and no prefix of another encoding.
-pub fn bits_roundtrip()
+pub fn bits_round_trip()
     ensures spelled { (xs : List Bool) → 0 < length xs → length xs < 2 ^ 64 → EncodesBits (bits_encoding xs) xs }
     ensures again { (before after : List ℕ) (xs : List Bool) → 0 < length xs → length xs < 2 ^ 64
         → bits_at (before ++ bits_encoding xs ++ after) (length before)
-        ≡ Ok (record { items = xs; places = bits_offsets_at (length before) (length xs); end = length before + length (bits_encoding xs) }) }
-    ensures begins_no_other { (a b x y : List ℕ) (xs ys : List Bool) → IsBytes (a ++ x) → EncodesBits a xs → EncodesBits b ys → a ++ x ≡ b ++ y → (a ≡ b) × (xs ≡ ys) }
+        ≡ Ok (record {
+          items = xs;
+          offsets = expected_bits_offsets (length before) (length xs);
+          end =
+              length before + length (bits_encoding xs);
+        }) }
+    ensures begins_no_other { (a b x y : List ℕ) (xs ys : List Bool) → IsBytes (a ++ x) → EncodesBits a xs
+        → EncodesBits b ys → a ++ x ≡ b ++ y → (a ≡ b) × (xs ≡ ys) }
 {}

@@ -11,7 +11,7 @@ use Rattle.hdt_terms.specs.declared.escaped_tokens.Token.{Token}
 use Rattle.hdt_terms.specs.declared.escaped_tokens.Token.TheVariants.{Iri, Quoted}
 use Rattle.hdt_terms.specs.Chars.{is_iri_char, is_string_char, is_absolute}
 use Rattle.hdt_terms.specs.Grammar.{Piece, raw, piece_text, piece_value, pieces_text, pieces_value, closing_byte, is_unescaped, is_escapable, IsTokenPiece, EncodesIri}
-use Rattle.hdt_terms.specs.TermParsing.{◌>>=◌, prepend_read, uchar, echar_at, iri_escape, string_escape, iri_item, string_item, item, goes_on, skip_of, token_content, require_absolute, iri_at}
+use Rattle.hdt_terms.specs.TermParsing.{◌>>=◌, prepend_parsed, uchar, echar_at, iri_escape, string_escape, iri_item, string_item, item, goes_on, skip_of, token_content, require_absolute, iri_at}
 use Rattle.hdt_terms.specs.ContentErrors.{EscapeAt, CheckFails, ContentCheckFails}
 use Rattle.std.proofs.lemmas.Bool.{cases_Bool}
 use Rattle.std.proofs.lemmas.Bool.Decides.{eqb_tells}
@@ -32,7 +32,8 @@ abbrev pub ItemSays : Token → ℕ → List ℕ → Result TokenItem FailedChec
 ItemSays token c rest (Ok x) = ItemFits token c rest x
 ItemSays token c rest (Err s) = (s.left ≡ length (c ∷ rest)) × CheckFails token s.reason (c ∷ rest)
 
-iri_escape_says : (o : Option (ℕ × ℕ)) (c : ℕ) (rest : List ℕ) → uchar rest ≡ o → c ≡ 92 → ItemSays Iri c rest (iri_escape o (c ∷ rest))
+iri_escape_says : (o : Option (ℕ × ℕ)) (c : ℕ) (rest : List ℕ) → uchar rest ≡ o → c ≡ 92
+    → ItemSays Iri c rest (iri_escape o (c ∷ rest))
 iri_escape_says None c rest u is = (refl, (is, λ d at. no_escape Iri c rest d u at))
 iri_escape_says (Some p) c rest u is =
     let at : EscapeAt Iri (c ∷ rest) p.0 = escape_at Iri c rest p.0 p.1 is u in
@@ -61,11 +62,16 @@ iri_item_says c rest =
           ]
     ]
 
-string_escape_says : (o : Option (ℕ × ℕ)) (c : ℕ) (rest : List ℕ) → option_or (echar_at rest) (uchar rest) ≡ o → c ≡ 92 → ItemSays Quoted c rest (string_escape o (c ∷ rest))
+string_escape_says : (o : Option (ℕ × ℕ)) (c : ℕ) (rest : List ℕ) → option_or (echar_at rest) (uchar rest) ≡ o → c ≡ 92
+    → ItemSays Quoted c rest (string_escape o (c ∷ rest))
 string_escape_says None c rest u is = (refl, (is, λ d at. no_escape Quoted c rest d u at))
 string_escape_says (Some p) c rest u is =
     elim (eqb_tells p.0 0) [
-      | inl q ↦ rw q.0 (refl, inr (subst (λ (d : ℕ). EscapeAt Quoted (c ∷ rest) d) q.1 (escape_at Quoted c rest p.0 p.1 is u)))
+      | inl q ↦ rw q.0 (
+        refl,
+        inr
+            (subst (λ (d : ℕ). EscapeAt Quoted (c ∷ rest) d) q.1 (escape_at Quoted c rest p.0 p.1 is u)),
+      )
       | inr q ↦ rw q.0 (is, escape_found Quoted rest p.0 p.1 u, ap not q.0)
     ]
 
@@ -107,38 +113,51 @@ abbrev pub ContentSays : Token → List ℕ → Result (List ℕ × List ℕ) Fa
 ContentSays token bytes (Ok x) = Found token bytes x.0 x.1
 ContentSays token bytes (Err s) = ContentCheckFails token bytes s
 
-piece_then : (token : Token) (p : Piece) (bytes bytes' front : List ℕ) (r : Result (List ℕ × List ℕ) FailedCheck) → IsTokenPiece token p → bytes' ≡ piece_text p ++ bytes → front ≡ piece_value p → ContentSays token bytes r → ContentSays token bytes' (prepend_read front r)
+piece_then : (token : Token) (p : Piece) (bytes bytes' front : List ℕ) (r : Result (List ℕ × List ℕ) FailedCheck)
+    → IsTokenPiece token p → bytes' ≡ piece_text p ++ bytes → front ≡ piece_value p → ContentSays token bytes r
+    → ContentSays token bytes' (prepend_parsed front r)
 piece_then token p bytes bytes' front (Ok x) fits e v f = record {
   pieces = p ∷ f.pieces;
   each = (fits, f.each);
-  whole = e ∙ ap (λ (bs : List ℕ). piece_text p ++ bs) f.whole ∙ sym (append_assoc (piece_text p) (pieces_text f.pieces) (closing_byte token ∷ x.1));
+  whole = e ∙ ap (λ (bs : List ℕ). piece_text p ++ bs) f.whole
+      ∙ sym (append_assoc (piece_text p) (pieces_text f.pieces) (closing_byte token ∷ x.1));
   means = ap (λ (bs : List ℕ). bs ++ x.0) v ∙ ap (λ (bs : List ℕ). piece_value p ++ bs) f.means;
 }
 piece_then token p bytes bytes' front (Err s) fits e v f = record {
   pieces = p ∷ f.pieces;
   rest = f.rest;
   each = (fits, f.each);
-  whole = e ∙ ap (λ (bs : List ℕ). piece_text p ++ bs) f.whole ∙ sym (append_assoc (piece_text p) (pieces_text f.pieces) f.rest);
+  whole = e ∙ ap (λ (bs : List ℕ). piece_text p ++ bs) f.whole
+      ∙ sym (append_assoc (piece_text p) (pieces_text f.pieces) f.rest);
   left = f.left;
   row = f.row;
 }
 
-item_then : (token : Token) (c : ℕ) (tail : List ℕ) (r : Result TokenItem FailedCheck) → ItemSays token c tail r → ((k : ℕ) → k ≤ length tail → ContentSays token (drop k tail) (token_content token k tail))
+item_then : (token : Token) (c : ℕ) (tail : List ℕ) (r : Result TokenItem FailedCheck) → ItemSays token c tail r
+    → ((k : ℕ) → k ≤ length tail → ContentSays token (drop k tail) (token_content token k tail))
     → ContentSays token (c ∷ tail) (r >>= λ x. goes_on x tail (token_content token (skip_of x) tail))
-item_then token c tail (Err s) h ih = record { pieces = []; rest = c ∷ tail; each = tt; whole = refl; left = h.0; row = h.1 }
-item_then token c tail (Ok End) h ih = record { pieces = []; each = tt; whole = ap (λ (b : ℕ). b ∷ tail) h; means = refl }
-item_then token c tail (Ok (Byte b)) h ih = piece_then token (raw c) tail (c ∷ tail) (b ∷ []) (token_content token 0 tail) h.1 refl (ap (λ (d : ℕ). d ∷ []) h.0) (ih 0 (omega arith))
+item_then token c tail (Err s) h ih =
+    record { pieces = []; rest = c ∷ tail; each = tt; whole = refl; left = h.0; row = h.1 }
+item_then token c tail (Ok End) h ih =
+    record { pieces = []; each = tt; whole = ap (λ (b : ℕ). b ∷ tail) h; means = refl }
+item_then token c tail (Ok (Byte b)) h ih =
+    piece_then token (raw c) tail (c ∷ tail) (b ∷ []) (token_content token 0 tail) h.1 refl (ap (λ (d : ℕ). d ∷ []) h.0)
+    (ih 0 (omega arith))
 item_then token c tail (Ok (Char d k)) h ih =
     let x = h.1 in
-    let whole : c ∷ tail ≡ piece_text x.piece ++ drop k tail = rw (h.0, ← x.whole) (ap (λ (bs : List ℕ). 92 ∷ bs) (sym (take-append-drop k tail))) in
-    piece_then token x.piece (drop k tail) (c ∷ tail) (encode_utf8 d) (token_content token k tail) (x.fits h.2) whole (sym x.means) (ih k x.len)
+    let whole : c ∷ tail ≡ piece_text x.piece ++ drop k tail =
+    rw (h.0, ← x.whole) (ap (λ (bs : List ℕ). 92 ∷ bs) (sym (take-append-drop k tail))) in
+    piece_then token x.piece (drop k tail) (c ∷ tail) (encode_utf8 d) (token_content token k tail) (x.fits h.2) whole
+    (sym x.means) (ih k x.len)
 
-pub inside_says : (token : Token) (k : ℕ) (bytes : List ℕ) → k ≤ length bytes → ContentSays token (drop k bytes) (token_content token k bytes)
+pub inside_says : (token : Token) (k : ℕ) (bytes : List ℕ) → k ≤ length bytes
+    → ContentSays token (drop k bytes) (token_content token k bytes)
 unfolding token_content
 inside_says token zero [] le = record { pieces = []; rest = []; each = tt; whole = refl; left = refl; row = tt }
 inside_says token (suc k) [] le = absurd (omega arith)
 inside_says token (suc k) (c ∷ tail) le = inside_says token k tail (omega arith)
-inside_says token zero (c ∷ tail) le = item_then token c tail (item token c tail) (item_says token c tail) (λ k short. inside_says token k tail short)
+inside_says token zero (c ∷ tail) le =
+    item_then token c tail (item token c tail) (item_says token c tail) (λ k short. inside_says token k tail short)
 
 -- ---- IRIs
 
@@ -147,17 +166,20 @@ abbrev pub IriSays : List ℕ → Result (List ℕ × List ℕ) FailedCheck → 
 IriSays bytes (Ok x) = (text : List ℕ) × EncodesIri text x.0 × (bytes ≡ text ++ x.1)
 IriSays bytes (Err s) = IriCheckFails bytes s
 
-iri_then : (c : ℕ) (tail : List ℕ) (r : Result (List ℕ × List ℕ) FailedCheck) → c ≡ 60 → ContentSays Iri tail r → IriSays (c ∷ tail) (r >>= require_absolute (c ∷ tail))
+iri_then : (c : ℕ) (tail : List ℕ) (r : Result (List ℕ × List ℕ) FailedCheck) → c ≡ 60 → ContentSays Iri tail r
+    → IriSays (c ∷ tail) (r >>= require_absolute (c ∷ tail))
 iri_then c tail (Err s) is h = in_iri tail (ap (λ (b : ℕ). b ∷ tail) is) h
 iri_then c tail (Ok x) is h =
     let inner = pieces_text h.pieces in
-    let content : EncodesContent Iri inner x.0 = record { pieces = h.pieces; each = h.each; whole = refl; means = h.means } in
-    let whole : c ∷ tail ≡ 60 ∷ (inner ++ 62 ∷ x.1) = ap (λ (b : ℕ). b ∷ tail) is ∙ ap (λ (bs : List ℕ). 60 ∷ bs) h.whole in
+    let content : EncodesContent Iri inner x.0 =
+    record { pieces = h.pieces; each = h.each; whole = refl; means = h.means } in
+    let whole : c ∷ tail ≡ 60 ∷ (inner ++ 62 ∷ x.1) = ap (λ (b : ℕ). b ∷ tail) is
+    ∙ ap (λ (bs : List ℕ). 60 ∷ bs) h.whole in
     elim (cases_Bool (is_absolute x.0)) [
       | inl q ↦
           rw q (
             60 ∷ (inner ++ 62 ∷ []),
-            record { inner = inner; token_content = content; whole = refl; absolute = q },
+            record { inner = inner; content = content; whole = refl; absolute = q },
             whole ∙ ap (λ (bs : List ℕ). 60 ∷ bs) (sym (append_assoc inner (62 ∷ []) x.1)),
           )
       | inr q ↦ rw q (relative inner x.0 x.1 content whole q refl)

@@ -15,11 +15,15 @@ taken end at [] = end
 taken end at (d ∷ ds) = at + length (encode_utf8_all (d ∷ ds))
 
 -- the bytes of the remaining characters
-pub left_more : (cs : List ℕ) (n c : ℕ) → (n < length cs) × (c ≡ get_or cs n c) → length (encode_utf8_all (drop n cs)) ≡ len_utf8 c + length (encode_utf8_all (drop (n + 1) cs))
+pub left_more : (cs : List ℕ) (n c : ℕ) → (n < length cs) × (c ≡ get_or cs n c)
+    → length (encode_utf8_all (drop n cs)) ≡ len_utf8 c + length (encode_utf8_all (drop (n + 1) cs))
 left_more cs n c h =
-    at_drop_more (λ ds. length (encode_utf8_all ds)) cs n c h.0 ∙ rw (← h.1) (length-append (encode_utf8 c) (encode_utf8_all (drop (n + 1) cs)) ∙ ap (λ k. k + length (encode_utf8_all (drop (n + 1) cs))) (length-encode c))
+    at_drop_more (λ ds. length (encode_utf8_all ds)) cs n c h.0
+    ∙ rw (← h.1) (length-append (encode_utf8 c) (encode_utf8_all (drop (n + 1) cs))
+    ∙ ap (λ k. k + length (encode_utf8_all (drop (n + 1) cs))) (length-encode c))
 
-pub label_more : (cs : List ℕ) (n c : ℕ) → (n < length cs) × (c ≡ get_or cs n c) → label_rest (drop n cs) ≡ label_rest (c ∷ drop (n + 1) cs)
+pub label_more : (cs : List ℕ) (n c : ℕ) → (n < length cs) × (c ≡ get_or cs n c)
+    → label_rest (drop n cs) ≡ label_rest (c ∷ drop (n + 1) cs)
 label_more cs n c h = at_drop_more label_rest cs n c h.0 ∙ ap (λ d. label_rest (d ∷ drop (n + 1) cs)) (sym h.1)
 
 taken_after : (end at c : ℕ) (ds : List ℕ) → taken end at (c ∷ ds) ≡ taken (at + len_utf8 c) (at + len_utf8 c) ds
@@ -30,22 +34,27 @@ taken_dot : (end at : ℕ) (ds : List ℕ) → taken end at (dot_if_continued ds
 taken_dot end at [] = refl
 taken_dot end at (d ∷ ds) = omega (arith, length-append (encode_utf8 46) (encode_utf8_all (d ∷ ds)), length-encode 46)
 
-pub at_char : (end at c : ℕ) (cs : List ℕ) → is_pn_chars c ≡ true → taken end at (label_rest (c ∷ cs)) ≡ taken (at + len_utf8 c) (at + len_utf8 c) (label_rest cs)
+pub at_char : (end at c : ℕ) (cs : List ℕ) → is_pn_chars c ≡ true
+    → taken end at (label_rest (c ∷ cs)) ≡ taken (at + len_utf8 c) (at + len_utf8 c) (label_rest cs)
 at_char end at c cs passes = simp passes (taken_after end at c (label_rest cs))
 
-pub at_dot : (end at c : ℕ) (cs : List ℕ) → is_pn_chars c ≡ false → c ≡ 46 → taken end at (label_rest (c ∷ cs)) ≡ taken end (at + 1) (label_rest cs)
+pub at_dot : (end at c : ℕ) (cs : List ℕ) → is_pn_chars c ≡ false → c ≡ 46
+    → taken end at (label_rest (c ∷ cs)) ≡ taken end (at + 1) (label_rest cs)
 at_dot end at c cs fails is = simp (fails, eq-eqb c 46 is) (taken_dot end at (label_rest cs))
 
-pub at_other : (end at c : ℕ) (cs : List ℕ) → is_pn_chars c ≡ false → eqb c 46 ≡ false → taken end at (label_rest (c ∷ cs)) ≡ end
+pub at_other : (end at c : ℕ) (cs : List ℕ) → is_pn_chars c ≡ false → eqb c 46 ≡ false
+    → taken end at (label_rest (c ∷ cs)) ≡ end
 at_other end at c cs fails other = simp (fails, other) refl
 
 pub at_start : (ds : List ℕ) → taken 0 0 ds ≡ length (encode_utf8_all ds)
 at_start [] = refl
 at_start (d ∷ ds) = omega arith
 
-pub label_starts : (bs rest : List ℕ) (first : ℕ) → IsUtf8 bs → bs ≡ encode_utf8 first ++ rest → is_label_start first ≡ true
+pub label_starts : (bs rest : List ℕ) (first : ℕ) → IsUtf8 bs → bs ≡ encode_utf8 first ++ rest
+    → is_label_start first ≡ true
     → label_bytes (chars bs) ≡ Some (len_utf8 first + length (encode_utf8_all (label_rest (chars rest))))
 label_starts bs rest first utf8 whole starts =
     let e : chars bs ≡ first ∷ chars rest = chars_past_char bs rest first utf8 whole in
-    let len : length (encode_utf8 first ++ encode_utf8_all (label_rest (chars rest))) ≡ len_utf8 first + length (encode_utf8_all (label_rest (chars rest))) = simp (length-append, length-encode) in
+    let len : length (encode_utf8 first ++ encode_utf8_all (label_rest (chars rest)))
+    ≡ len_utf8 first + length (encode_utf8_all (label_rest (chars rest))) = simp (length-append, length-encode) in
     rw (e, starts) (ap (λ (n : ℕ). Some n) len)

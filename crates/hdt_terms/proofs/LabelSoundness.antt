@@ -20,7 +20,8 @@ dot_if_continued-front : (c : ℕ) (ds cs : List ℕ) → c ≡ 46 → Extends d
 dot_if_continued-front c [] cs is f = no_front (c ∷ cs)
 dot_if_continued-front c (d ∷ ds) cs is f = rw (← is) (front_cons c (d ∷ ds) cs f)
 
-rest_front : (p q : Bool) (c : ℕ) (cs : List ℕ) → Extends (label_rest cs) cs → is_pn_chars c ≡ p → eqb c 46 ≡ q → Extends (label_rest (c ∷ cs)) (c ∷ cs)
+rest_front : (p q : Bool) (c : ℕ) (cs : List ℕ) → Extends (label_rest cs) cs → is_pn_chars c ≡ p → eqb c 46 ≡ q
+    → Extends (label_rest (c ∷ cs)) (c ∷ cs)
 rest_front true q c cs f h e = simp h (front_cons c (label_rest cs) cs f)
 rest_front false true c cs f h e = simp (h, e) (dot_if_continued-front c (label_rest cs) cs (eqb-true _ _ e) f)
 rest_front false false c cs f h e = simp (h, e) (no_front (c ∷ cs))
@@ -38,7 +39,8 @@ dot_if_continued-is : (ds : List ℕ) → is_label_rest ds ≡ true → is_label
 dot_if_continued-is [] h = refl
 dot_if_continued-is (d ∷ ds) h = h
 
-rest_is : (p q : Bool) (c : ℕ) (cs : List ℕ) → is_label_rest (label_rest cs) ≡ true → is_pn_chars c ≡ p → eqb c 46 ≡ q → is_label_rest (label_rest (c ∷ cs)) ≡ true
+rest_is : (p q : Bool) (c : ℕ) (cs : List ℕ) → is_label_rest (label_rest cs) ≡ true → is_pn_chars c ≡ p → eqb c 46 ≡ q
+    → is_label_rest (label_rest (c ∷ cs)) ≡ true
 rest_is true q c cs ih h e = simp h (before c (label_rest cs) h ih)
 rest_is false true c cs ih h e = simp (h, e) (dot_if_continued-is (label_rest cs) ih)
 rest_is false false c cs ih h e = simp (h, e) refl
@@ -51,7 +53,9 @@ label_rest-is (c ∷ cs) = rest_is (is_pn_chars c) (eqb c 46) c cs (label_rest-i
 
 scalars_front : (xs ys : List ℕ) → scalars (xs ++ ys) ≡ true → scalars xs ≡ true
 scalars_front [] ys h = refl
-scalars_front (x ∷ xs) ys h = and_both (scalar x) (scalars xs) (and_first (scalar x) (scalars (xs ++ ys)) h) (scalars_front xs ys (and_second (scalar x) (scalars (xs ++ ys)) h))
+scalars_front (x ∷ xs) ys h =
+    and_both (scalar x) (scalars xs) (and_first (scalar x) (scalars (xs ++ ys)) h)
+    (scalars_front xs ys (and_second (scalar x) (scalars (xs ++ ys)) h))
 
 -- a text split after its first characters
 pub record Cut (text : List ℕ) (label : List ℕ) : Type 0 where
@@ -61,9 +65,11 @@ pub record Cut (text : List ℕ) (label : List ℕ) : Type 0 where
 
 pub cut_at : (text label : List ℕ) → IsUtf8 text → Extends label (chars text) → Cut text label
 cut_at text label utf8 f =
-    let split : text ≡ encode_utf8_all label ++ encode_utf8_all f.more = sym (encodes-chars text utf8) ∙ ap encode_utf8_all f.whole ∙ encodes-append label f.more in
+    let split : text ≡ encode_utf8_all label ++ encode_utf8_all f.more = sym (encodes-chars text utf8)
+    ∙ ap encode_utf8_all f.whole ∙ encodes-append label f.more in
     let n = length (encode_utf8_all label) in
-    let back : drop n text ≡ encode_utf8_all f.more = ap (drop n) split ∙ drop_at (encode_utf8_all label) (encode_utf8_all f.more) n refl in
+    let back : drop n text ≡ encode_utf8_all f.more = ap (drop n) split
+    ∙ drop_at (encode_utf8_all label) (encode_utf8_all f.more) n refl in
     record {
       front = ap (take n) split ∙ take_at (encode_utf8_all label) (encode_utf8_all f.more) n refl;
       whole = split ∙ ap (λ (bs : List ℕ). encode_utf8_all label ++ bs) (sym back);
@@ -76,12 +82,19 @@ LabelSays text (Some n) = IsLabel (take n text)
 LabelSays text None = (c : ℕ) (more : List ℕ) → is_label_start c ≡ true → text ≡ encode_utf8 c ++ more → ⊥
 
 chars_says : (cs text : List ℕ) → IsUtf8 text → chars text ≡ cs → LabelSays text (label_bytes cs)
-chars_says [] text utf8 is = λ c more starts whole. let none : c ∷ chars more ≡ [] = sym (chars_past_char text more c utf8 whole) ∙ is in cc
+chars_says [] text utf8 is = λ c more starts whole. let none : c ∷ chars more ≡ [] =
+    sym (chars_past_char text more c utf8 whole) ∙ is in cc
 chars_says (c ∷ cs) text utf8 is = elim (cases_Bool (is_label_start c)) [
   | inl p ↦
       let ds : List ℕ = c ∷ label_rest cs in
-      let cut = cut_at text ds utf8 (subst (λ xs. Extends ds xs) (sym is) (front_cons c (label_rest cs) cs (label_rest-front cs))) in
-      rw p (subst IsLabel (sym cut.front) (record { utf8 = (ds, (cut.scalar, refl)); form = ap is_label (chars-encodes ds cut.scalar) ∙ and_both _ _ p (label_rest-is cs) }))
+      let cut = cut_at text ds utf8
+      (subst (λ xs. Extends ds xs) (sym is) (front_cons c (label_rest cs) cs (label_rest-front cs))) in
+      rw p (subst IsLabel (sym cut.front)
+      (record {
+        utf8 = (ds, (cut.scalar, refl));
+        form = ap is_label (chars-encodes ds cut.scalar)
+            ∙ and_both _ _ p (label_rest-is cs);
+      }))
   | inr p ↦
       rw p (λ d more starts whole.
       let same : d ∷ chars more ≡ c ∷ cs = sym (chars_past_char text more d utf8 whole) ∙ is in
@@ -95,13 +108,15 @@ label_says text utf8 = chars_says (chars text) text utf8 refl
 -- ---- a label is parsed in full
 
 -- a dot is kept if more of the label follows
-dot_again : (p : Bool) (c d : ℕ) (ds : List ℕ) → is_pn_chars c ≡ p → (is_pn_chars c || eqb c 46) ≡ true → cond (is_pn_chars c) (c ∷ d ∷ ds) (cond (eqb c 46) (dot_if_continued (d ∷ ds)) []) ≡ c ∷ d ∷ ds
+dot_again : (p : Bool) (c d : ℕ) (ds : List ℕ) → is_pn_chars c ≡ p → (is_pn_chars c || eqb c 46) ≡ true
+    → cond (is_pn_chars c) (c ∷ d ∷ ds) (cond (eqb c 46) (dot_if_continued (d ∷ ds)) []) ≡ c ∷ d ∷ ds
 dot_again true c d ds h either = simp h refl
 dot_again false c d ds h either =
     let dot : eqb c 46 ≡ true = subst (λ (b : Bool). (b || eqb c 46) ≡ true) h either in
     simp (h, dot) (ap (λ (b : ℕ). b ∷ d ∷ ds) (sym (eqb-true c 46 dot)))
 
-pub label_rest-again : (ds more : List ℕ) → is_label_rest ds ≡ true → label_rest more ≡ [] → label_rest (ds ++ more) ≡ ds
+pub label_rest-again : (ds more : List ℕ) → is_label_rest ds ≡ true → label_rest more ≡ []
+    → label_rest (ds ++ more) ≡ ds
 label_rest-again [] more h ends = ends
 label_rest-again (c ∷ []) more h ends = simp (h, ends) refl
 label_rest-again (c ∷ d ∷ ds) more h ends =
@@ -109,18 +124,28 @@ label_rest-again (c ∷ d ∷ ds) more h ends =
     ap (λ (xs : List ℕ). cond (is_pn_chars c) (c ∷ xs) (cond (eqb c 46) (dot_if_continued xs) [])) ih
     ∙ dot_again (is_pn_chars c) c d ds refl (and_first _ _ h)
 
-label_prefix-again : (ds more : List ℕ) → is_label ds ≡ true → label_rest more ≡ [] → label_prefix (ds ++ more) ≡ Some ds
+label_prefix-again : (ds more : List ℕ) → is_label ds ≡ true → label_rest more ≡ []
+    → label_prefix (ds ++ more) ≡ Some ds
 label_prefix-again [] more h ends = absurd cc
 label_prefix-again (c ∷ ds) more h ends =
-    simp (and_first (is_label_start c) (is_label_rest ds) h) (ap (λ (xs : List ℕ). Some (c ∷ xs)) (label_rest-again ds more (and_second (is_label_start c) (is_label_rest ds) h) ends))
+    simp (and_first (is_label_start c) (is_label_rest ds) h)
+    (ap (λ (xs : List ℕ). Some (c ∷ xs))
+    (label_rest-again ds more (and_second (is_label_start c) (is_label_rest ds) h) ends))
 
-pub label_bytes-again : (label more : List ℕ) → IsLabel label → label_rest (chars more) ≡ [] → label_bytes (chars (label ++ more)) ≡ Some (length label)
+pub label_bytes-again : (label more : List ℕ) → IsLabel label → label_rest (chars more) ≡ []
+    → label_bytes (chars (label ++ more)) ≡ Some (length label)
 label_bytes-again label more h ends =
     ap label_bytes (chars-append label more h.utf8)
-    ∙ ap (option_map (λ (xs : List ℕ). length (encode_utf8_all xs))) (label_prefix-again (chars label) (chars more) h.form ends)
+    ∙ ap (option_map (λ (xs : List ℕ). length (encode_utf8_all xs)))
+    (label_prefix-again (chars label) (chars more) h.form ends)
     ∙ ap (λ (xs : List ℕ). Some (length xs)) (encodes-chars label h.utf8)
 
-pub blank_again : (label more : List ℕ) → IsLabel label → label_rest (chars more) ≡ [] → blank_at (95 ∷ 58 ∷ (label ++ more)) ≡ Ok (label, more)
+pub blank_again : (label more : List ℕ) → IsLabel label → label_rest (chars more) ≡ []
+    → blank_at (95 ∷ 58 ∷ (label ++ more)) ≡ Ok (label, more)
 unfolding blank_at
 blank_again label more h ends =
-    rw (label_bytes-again label more h ends, take_at label more (length label) refl, drop_at label more (length label) refl) refl
+    rw (
+      label_bytes-again label more h ends,
+      take_at label more (length label) refl,
+      drop_at label more (length label) refl,
+    ) refl

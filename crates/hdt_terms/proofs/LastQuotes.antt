@@ -23,23 +23,31 @@ is_other b c = not (eqb c b)
 
 -- ---- bytes of a class that excludes the byte
 
-pub class_other : (class : ℕ → Bool) (b : ℕ) (cs : List ℕ) → class b ≡ false → list_all class cs ≡ true → list_all (is_other b) cs ≡ true
+pub class_other : (class : ℕ → Bool) (b : ℕ) (cs : List ℕ) → class b ≡ false → list_all class cs ≡ true
+    → list_all (is_other b) cs ≡ true
 class_other class b [] fails h = refl
 class_other class b (c ∷ cs) fails h =
-    and_both _ _ (ap not (apart class c b (and_first (class c) (list_all class cs) h) fails)) (class_other class b cs fails (and_second (class c) (list_all class cs) h))
+    and_both _ _ (ap not (apart class c b (and_first (class c) (list_all class cs) h) fails))
+    (class_other class b cs fails (and_second (class c) (list_all class cs) h))
 
-pub append_other : (b : ℕ) (xs ys : List ℕ) → list_all (is_other b) xs ≡ true → list_all (is_other b) ys ≡ true → list_all (is_other b) (xs ++ ys) ≡ true
+pub append_other : (b : ℕ) (xs ys : List ℕ) → list_all (is_other b) xs ≡ true → list_all (is_other b) ys ≡ true
+    → list_all (is_other b) (xs ++ ys) ≡ true
 append_other b xs ys hx hy = list_all-append (is_other b) xs ys ∙ and_both _ _ hx hy
 
-parts_other : (b : ℕ) (parts : List (List ℕ)) → eqb 45 b ≡ false → is_ascii_alphanumeric b ≡ false → AllByRecursion IsSubtag parts → list_all (is_other b) (flat_map dashed parts) ≡ true
+parts_other : (b : ℕ) (parts : List (List ℕ)) → eqb 45 b ≡ false → is_ascii_alphanumeric b ≡ false
+    → AllByRecursion IsSubtag parts → list_all (is_other b) (flat_map dashed parts) ≡ true
 parts_other b [] dash fails each = refl
 parts_other b (part ∷ parts) dash fails each =
-    append_other b (45 ∷ part) (flat_map dashed parts) (and_both _ _ (ap not dash) (class_other is_ascii_alphanumeric b part fails each.0.each)) (parts_other b parts dash fails each.1)
+    append_other b (45 ∷ part) (flat_map dashed parts)
+    (and_both _ _ (ap not dash) (class_other is_ascii_alphanumeric b part fails each.0.each))
+    (parts_other b parts dash fails each.1)
 
-pub tag_other : (b : ℕ) (tag : List ℕ) → eqb 45 b ≡ false → is_ascii_alphabetic b ≡ false → is_ascii_alphanumeric b ≡ false → IsTag tag → list_all (is_other b) tag ≡ true
+pub tag_other : (b : ℕ) (tag : List ℕ) → eqb 45 b ≡ false → is_ascii_alphabetic b ≡ false
+    → is_ascii_alphanumeric b ≡ false → IsTag tag → list_all (is_other b) tag ≡ true
 tag_other b tag dash letter fails h =
     ap (list_all (is_other b)) h.whole
-    ∙ append_other b h.head (flat_map dashed h.parts) (class_other is_ascii_alphabetic b h.head letter h.letters) (parts_other b h.parts dash fails h.each)
+    ∙ append_other b h.head (flat_map dashed h.parts) (class_other is_ascii_alphabetic b h.head letter h.letters)
+    (parts_other b h.parts dash fails h.each)
 
 pub suffix_no_quote : (suffix : Suffix) → IsLiteralSuffix suffix → list_all (is_other 34) (suffix_string suffix) ≡ true
 suffix_no_quote Plain h = refl
@@ -69,29 +77,34 @@ no_cut (c ∷ cs) h = ap (cut_more c cs) (no_cut cs (and_second _ _ h)) ∙ othe
     other true e = absurd cc
     other false e = refl
 
-cut_again : (text behind : List ℕ) → list_all (is_other 34) behind ≡ true → cut_last (text ++ 34 ∷ behind) ≡ Some (text, behind)
+cut_again : (text behind : List ℕ) → list_all (is_other 34) behind ≡ true
+    → cut_last (text ++ 34 ∷ behind) ≡ Some (text, behind)
 unfolding cut_last
 cut_again [] behind h = ap (cut_more 34 behind) (no_cut behind h)
 cut_again (c ∷ text) behind h = ap (cut_more c (text ++ 34 ∷ behind)) (cut_again text behind h)
 
 -- a text has at most one last quote
-pub one_cut : (text behind text' behind' : List ℕ) → list_all (is_other 34) behind ≡ true → list_all (is_other 34) behind' ≡ true
+pub one_cut : (text behind text' behind' : List ℕ) → list_all (is_other 34) behind ≡ true
+    → list_all (is_other 34) behind' ≡ true
     → text ++ 34 ∷ behind ≡ text' ++ 34 ∷ behind' → (text ≡ text') × (behind ≡ behind')
 one_cut text behind text' behind' h h' e =
-    let both : (text, behind) ≡ (text', behind') = same_Some _ _ (sym (cut_again text behind h) ∙ ap cut_last e ∙ cut_again text' behind' h') in
+    let both : (text, behind) ≡ (text', behind') =
+    same_Some _ _ (sym (cut_again text behind h) ∙ ap cut_last e ∙ cut_again text' behind' h') in
     (ap (λ (p : List ℕ × List ℕ). p.0) both, ap (λ (p : List ℕ × List ℕ). p.1) both)
 
 -- ---- searching for a byte
 
 -- the byte does not occur
 pub none_there : (b : ℕ) (cs : List ℕ) → Nowhere (Passes (is_byte b) cs) 0 (length cs) → list_all (is_other b) cs ≡ true
-none_there b cs h = list_all-from_AllPass (is_other b) cs (All-from_get_or (λ c. is_other b c ≡ true) cs 0 (λ i lt. ap not (false_from_ne_true _ (h i (omega arith) lt))))
+none_there b cs h = list_all-from_AllPass (is_other b) cs
+    (All-from_get_or (λ c. is_other b c ≡ true) cs 0 (λ i lt. ap not (false_from_ne_true _ (h i (omega arith) lt))))
 
 pub record LastQuote (bytes : List ℕ) (k : ℕ) : Type 0 where
   pub whole : bytes ≡ take k bytes ++ 34 ∷ drop (suc k) bytes
   pub behind : list_all (is_other 34) (drop (suc k) bytes) ≡ true
 
-cut_there : (bytes : List ℕ) (k : ℕ) → k < length bytes → get_or bytes k 0 ≡ 34 → bytes ≡ take k bytes ++ 34 ∷ drop (suc k) bytes
+cut_there : (bytes : List ℕ) (k : ℕ) → k < length bytes → get_or bytes k 0 ≡ 34
+    → bytes ≡ take k bytes ++ 34 ∷ drop (suc k) bytes
 cut_there [] k lt h = absurd (omega arith)
 cut_there (c ∷ bytes) zero lt h = ap (λ (b : ℕ). b ∷ bytes) h
 cut_there (c ∷ bytes) (suc k) lt h = ap (λ (bs : List ℕ). c ∷ bs) (cut_there bytes k (omega arith) h)
@@ -103,5 +116,7 @@ last_quote bytes k h =
     let at : (i : ℕ) → get_or bytes (suc k + i) 0 ≡ get_or rest i 0 = λ i. sym (get_or-drop (suc k) bytes i 0) in
     record {
       whole = whole;
-      behind = none_there 34 rest (λ i low lt q. h.0.after (suc k + i) (omega arith) (omega (arith, length-drop (suc k) bytes)) (ap (λ (b : ℕ). eqb b 34) (at i) ∙ q));
+      behind = none_there 34 rest
+          (λ i low lt q. h.0.after (suc k + i) (omega arith) (omega (arith, length-drop (suc k) bytes))
+          (ap (λ (b : ℕ). eqb b 34) (at i) ∙ q));
     }

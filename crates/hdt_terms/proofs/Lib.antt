@@ -3,7 +3,7 @@ pub mod Cases
 pub mod Bools
 pub mod Fronts
 pub mod Ranges
-pub mod Utf8
+pub mod AsciiBorders
 pub mod ContentSoundness
 pub mod ContentCompleteness
 pub mod LabelScan

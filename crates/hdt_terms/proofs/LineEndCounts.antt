@@ -29,20 +29,25 @@ head_no_lf b bs p = or_left _ _ (All-head (λ x. is_line_end x ≡ false) b bs p
 
 pub count_line_ends-no_end : (cr : Bool) (text : List ℕ) → HasNoLineEnd text → count_line_ends cr text ≡ 0
 count_line_ends-no_end cr [] p = refl
-count_line_ends-no_end cr (b ∷ bs) p = rw (head_no_cr b bs p, head_no_lf b bs p) (zero-add (count_line_ends false bs) ∙ count_line_ends-no_end false bs (All-tail (λ x. is_line_end x ≡ false) b bs p))
+count_line_ends-no_end cr (b ∷ bs) p =
+    rw (head_no_cr b bs p, head_no_lf b bs p) (zero-add (count_line_ends false bs)
+    ∙ count_line_ends-no_end false bs (All-tail (λ x. is_line_end x ≡ false) b bs p))
 
 pub ends_in_cr-no_end : (cr : Bool) (text : List ℕ) → HasNoLineEnd text → 0 < length text → ends_in_cr cr text ≡ false
 ends_in_cr-no_end cr [] p h = absurd (omega (arith, h))
 ends_in_cr-no_end cr (b ∷ []) p h = head_no_cr b [] p
-ends_in_cr-no_end cr (b ∷ c ∷ bs) p h = ends_in_cr-no_end (eqb b 13) (c ∷ bs) (All-tail (λ x. is_line_end x ≡ false) b (c ∷ bs) p) (omega arith)
+ends_in_cr-no_end cr (b ∷ c ∷ bs) p h =
+    ends_in_cr-no_end (eqb b 13) (c ∷ bs) (All-tail (λ x. is_line_end x ≡ false) b (c ∷ bs) p) (omega arith)
 
 pub cr_of_no_end : (cr : Bool) (text : List ℕ) → HasNoLineEnd text → ends_in_cr cr text ≡ (cr && eqb (length text) 0)
 cr_of_no_end cr [] p = sym (and-true cr)
-cr_of_no_end cr (b ∷ bs) p = ends_in_cr-no_end cr (b ∷ bs) p (omega arith) ∙ sym (ap (λ p. cr && p) (ne_eqb (suc (length bs)) 0 (λ z. absurd (omega (arith, z)))) ∙ and-false cr)
+cr_of_no_end cr (b ∷ bs) p = ends_in_cr-no_end cr (b ∷ bs) p (omega arith)
+    ∙ sym (ap (λ p. cr && p) (ne_eqb (suc (length bs)) 0 (λ z. absurd (omega (arith, z)))) ∙ and-false cr)
 
 -- a text and its line end
 
-one_end : (p q cr : Bool) → p || q ≡ true → (p ≡ true → q ≡ false) → cond {A = ℕ} (q || (p && not cr)) 1 0 + 0 ≡ cond {A = ℕ} ((cr && true) && p) 0 1
+one_end : (p q cr : Bool) → p || q ≡ true → (p ≡ true → q ≡ false)
+    → cond {A = ℕ} (q || (p && not cr)) 1 0 + 0 ≡ cond {A = ℕ} ((cr && true) && p) 0 1
 one_end true true cr h e = absurd (cc (e refl))
 one_end true false true h e = refl
 one_end true false false h e = refl
@@ -58,12 +63,15 @@ none_after true true q e = absurd (cc e)
 none_after true false q e = refl
 none_after false p q e = refl
 
-pub count_line_ends-ended : (cr : Bool) (text : List ℕ) (e : ℕ) → HasNoLineEnd text → is_line_end e ≡ true → count_line_ends cr (text ++ e ∷ []) ≡ cond {A = ℕ} ((cr && eqb (length text) 0) && eqb e 10) 0 1
+pub count_line_ends-ended : (cr : Bool) (text : List ℕ) (e : ℕ) → HasNoLineEnd text → is_line_end e ≡ true
+    → count_line_ends cr (text ++ e ∷ []) ≡ cond {A = ℕ} ((cr && eqb (length text) 0) && eqb e 10) 0 1
 count_line_ends-ended cr [] e p h = one_end (eqb e 10) (eqb e 13) cr h (not_both e)
 count_line_ends-ended cr (b ∷ bs) e p h =
     rw (head_no_cr b bs p, head_no_lf b bs p)
-    (zero-add (count_line_ends false (bs ++ e ∷ [])) ∙ count_line_ends-ended false bs e (All-tail (λ x. is_line_end x ≡ false) b bs p) h
-    ∙ sym (none_after cr (eqb (suc (length bs)) 0) (eqb e 10) (ne_eqb (suc (length bs)) 0 (λ z. absurd (omega (arith, z))))))
+    (zero-add (count_line_ends false (bs ++ e ∷ []))
+    ∙ count_line_ends-ended false bs e (All-tail (λ x. is_line_end x ≡ false) b bs p) h
+    ∙ sym (none_after cr (eqb (suc (length bs)) 0) (eqb e 10)
+    (ne_eqb (suc (length bs)) 0 (λ z. absurd (omega (arith, z))))))
 
 pub ends_in_cr-ended : (cr : Bool) (text : List ℕ) (e : ℕ) → ends_in_cr cr (text ++ e ∷ []) ≡ eqb e 13
 ends_in_cr-ended cr [] e = refl
@@ -75,15 +83,18 @@ pub ends_in_cr-append : (cr : Bool) (xs ys : List ℕ) → ends_in_cr cr (xs ++ 
 ends_in_cr-append cr [] ys = refl
 ends_in_cr-append cr (x ∷ xs) ys = ends_in_cr-append (eqb x 13) xs ys
 
-pub count_line_ends-append : (cr : Bool) (xs ys : List ℕ) → count_line_ends cr (xs ++ ys) ≡ count_line_ends cr xs + count_line_ends (ends_in_cr cr xs) ys
+pub count_line_ends-append : (cr : Bool) (xs ys : List ℕ)
+    → count_line_ends cr (xs ++ ys) ≡ count_line_ends cr xs + count_line_ends (ends_in_cr cr xs) ys
 count_line_ends-append cr [] ys = sym (zero-add (count_line_ends cr ys))
 count_line_ends-append cr (x ∷ xs) ys = rw (count_line_ends-append (eqb x 13) xs ys) (sym (add_assoc _ _ _))
 
-pub Takes-trans : (a b c : LinesState) (x y z : Option (List ℕ)) (bs cs : List ℕ) → Takes a b x y bs → Takes b c y z cs → Takes a c x z (bs ++ cs)
+pub Takes-trans : (a b c : LinesState) (x y z : Option (List ℕ)) (bs cs : List ℕ) → Takes a b x y bs → Takes b c y z cs
+    → Takes a c x z (bs ++ cs)
 Takes-trans a b c x y z bs cs p q = record {
   consumed = Consumes-trans x y z bs cs p.consumed q.consumed;
   taken = omega (arith, length-append bs cs, p.taken, q.taken);
-  ends = q.ends ∙ rw (p.ends, p.after_cr) (add_assoc _ _ _ ∙ ap (λ n. a.ends + n) (sym (count_line_ends-append a.after_cr bs cs)));
+  ends = q.ends ∙ rw (p.ends, p.after_cr) (add_assoc _ _ _
+      ∙ ap (λ n. a.ends + n) (sym (count_line_ends-append a.after_cr bs cs)));
   after_cr = q.after_cr ∙ rw p.after_cr (sym (ends_in_cr-append a.after_cr bs cs));
   within = q.within;
   limit = q.limit ∙ p.limit;
@@ -92,11 +103,22 @@ Takes-trans a b c x y z bs cs p q = record {
 
 -- consecutive lines
 
-pub TerminatedLines-append : (xs ys : List (Option Triple)) (bs cs : List ℕ) → TerminatedLines xs bs → TerminatedLines ys cs → TerminatedLines (xs ++ ys) (bs ++ cs)
+pub TerminatedLines-append : (xs ys : List (Option Triple)) (bs cs : List ℕ) → TerminatedLines xs bs
+    → TerminatedLines ys cs → TerminatedLines (xs ++ ys) (bs ++ cs)
 TerminatedLines-append [] ys bs cs p q = rw p q
-TerminatedLines-append (x ∷ xs) ys bs cs p q = (p.0, p.1, p.2 ++ cs, ap (λ l. l ++ cs) p.3 ∙ append_assoc p.0 (p.1 ∷ p.2) cs, p.4, p.5, p.6, TerminatedLines-append xs ys p.2 cs p.7 q)
+TerminatedLines-append (x ∷ xs) ys bs cs p q = (
+  p.0,
+  p.1,
+  p.2 ++ cs,
+  ap (λ l. l ++ cs) p.3 ∙ append_assoc p.0 (p.1 ∷ p.2) cs,
+  p.4,
+  p.5,
+  p.6,
+  TerminatedLines-append xs ys p.2 cs p.7 q,
+)
 
-pub LinesWithoutTriples-append : (bs cs : List ℕ) → LinesWithoutTriples bs → LinesWithoutTriples cs → LinesWithoutTriples (bs ++ cs)
+pub LinesWithoutTriples-append : (bs cs : List ℕ) → LinesWithoutTriples bs → LinesWithoutTriples cs
+    → LinesWithoutTriples (bs ++ cs)
 LinesWithoutTriples-append bs cs p q = record {
   lines = p.lines ++ q.lines;
   ended = TerminatedLines-append p.lines q.lines bs cs p.ended q.ended;
@@ -109,23 +131,33 @@ pub one_unless : (b : Bool) → from_bool (not b) ≡ cond {A = ℕ} b 0 1
 one_unless true = refl
 one_unless false = refl
 
-pub take_ended_is : (s : LinesState) (n more : ℕ) (cr : Bool) (buffered : List ℕ) → n < length s.buffered → HasNoLineEnd (take n s.buffered) → is_line_end (get_or s.buffered n 0) ≡ true
-    → buffered ≡ drop (n + 1) s.buffered → more ≡ cond {A = ℕ} ((s.after_cr && eqb n 0) && eqb (get_or s.buffered n 0) 10) 0 1 → cr ≡ eqb (get_or s.buffered n 0) 13
-    → record s { buffered = buffered; taken = s.taken + (n + 1); ends = s.ends + more; after_cr = cr } ≡ take_bytes s (n + 1)
+pub take_ended_is : (s : LinesState) (n more : ℕ) (cr : Bool) (buffered : List ℕ) → n < length s.buffered
+    → HasNoLineEnd (take n s.buffered) → is_line_end (get_or s.buffered n 0) ≡ true
+    → buffered ≡ drop (n + 1) s.buffered
+    → more ≡ cond {A = ℕ} ((s.after_cr && eqb n 0) && eqb (get_or s.buffered n 0) 10) 0 1
+    → cr ≡ eqb (get_or s.buffered n 0) 13
+    → record s { buffered = buffered; taken = s.taken + (n + 1); ends = s.ends + more; after_cr = cr }
+    ≡ take_bytes s (n + 1)
 take_ended_is s n more cr buffered lt p h held_is more_is cr_is =
     let e : ℕ = get_or s.buffered n 0 in
     let cut : take (n + 1) s.buffered ≡ take n s.buffered ++ e ∷ [] = take_more s.buffered n 0 lt in
     let len : length (take n s.buffered) ≡ n = length-take-le n s.buffered (omega arith) in
     let ends : count_line_ends s.after_cr (take (n + 1) s.buffered) ≡ more =
-    ap (count_line_ends s.after_cr) cut ∙ count_line_ends-ended s.after_cr (take n s.buffered) e p h ∙ rw len (sym more_is) in
-    let after : ends_in_cr s.after_cr (take (n + 1) s.buffered) ≡ cr = ap (ends_in_cr s.after_cr) cut ∙ ends_in_cr-ended s.after_cr (take n s.buffered) e ∙ sym cr_is in
+    ap (count_line_ends s.after_cr) cut ∙ count_line_ends-ended s.after_cr (take n s.buffered) e p h
+    ∙ rw len (sym more_is) in
+    let after : ends_in_cr s.after_cr (take (n + 1) s.buffered) ≡ cr = ap (ends_in_cr s.after_cr) cut
+    ∙ ends_in_cr-ended s.after_cr (take n s.buffered) e ∙ sym cr_is in
     cc
 
-pub take_held_is : (s : LinesState) (cr : Bool) (buffered : List ℕ) → HasNoLineEnd s.buffered → buffered ≡ drop (length s.buffered) s.buffered → cr ≡ (s.after_cr && eqb (length s.buffered) 0)
-    → record s { buffered = buffered; taken = s.taken + length s.buffered; after_cr = cr } ≡ take_bytes s (length s.buffered)
+pub take_held_is : (s : LinesState) (cr : Bool) (buffered : List ℕ) → HasNoLineEnd s.buffered
+    → buffered ≡ drop (length s.buffered) s.buffered → cr ≡ (s.after_cr && eqb (length s.buffered) 0)
+    → record s { buffered = buffered; taken = s.taken + length s.buffered; after_cr = cr }
+    ≡ take_bytes s (length s.buffered)
 take_held_is s cr buffered p held_is cr_is =
-    let cut : take (length s.buffered) s.buffered ≡ s.buffered = take_all (length s.buffered) s.buffered (omega arith) in
+    let cut : take (length s.buffered) s.buffered ≡ s.buffered =
+    take_all (length s.buffered) s.buffered (omega arith) in
     let ends : s.ends + count_line_ends s.after_cr (take (length s.buffered) s.buffered) ≡ s.ends =
     rw (cut, count_line_ends-no_end s.after_cr s.buffered p) (add-zero s.ends) in
-    let after : ends_in_cr s.after_cr (take (length s.buffered) s.buffered) ≡ cr = ap (ends_in_cr s.after_cr) cut ∙ cr_of_no_end s.after_cr s.buffered p ∙ sym cr_is in
+    let after : ends_in_cr s.after_cr (take (length s.buffered) s.buffered) ≡ cr = ap (ends_in_cr s.after_cr) cut
+    ∙ cr_of_no_end s.after_cr s.buffered p ∙ sym cr_is in
     cc

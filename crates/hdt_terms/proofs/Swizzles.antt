@@ -15,13 +15,15 @@ down a b = a / 2 ^ b
 pub high_ok : (v : List ℕ) → IsBlock v → SwzOk w8 16 16 0 (zip2 down v (replicate 16 4))
 high_ok v fits =
     let small = Each1-weaker (λ a. a < 256) (λ a. a / 16 < 16) (λ a h. omega arith) v (below_from_Fits w8 v fits.1) in
-    SwzOk-from_below w8 16 1 16 0 (zip2 down v (replicate 16 4)) refl (omega (arith, length-zip2 down v (replicate 16 4) fits.0))
+    SwzOk-from_below w8 16 1 16 0 (zip2 down v (replicate 16 4)) refl
+    (omega (arith, length-zip2 down v (replicate 16 4) fits.0))
     (Each1-zip2 down (λ j. j < 16) v (replicate 16 4) (Each2-splat (λ a b. down a b < 16) v 16 4 small))
 
 pub low_ok : (v : List ℕ) → IsBlock v → SwzOk w8 16 16 0 (zip2 bit_and v (replicate 16 15))
 low_ok v fits =
     let small = Each1-all (λ a. bit_and a 15 < 16) (λ a. omega (arith, and_le_r a 15)) v in
-    SwzOk-from_below w8 16 1 16 0 (zip2 bit_and v (replicate 16 15)) refl (omega (arith, length-zip2 bit_and v (replicate 16 15) fits.0))
+    SwzOk-from_below w8 16 1 16 0 (zip2 bit_and v (replicate 16 15)) refl
+    (omega (arith, length-zip2 bit_and v (replicate 16 15) fits.0))
     (Each1-zip2 bit_and (λ j. j < 16) v (replicate 16 15) (Each2-splat (λ a b. bit_and a b < 16) v 16 15 small))
 
 lane_fits : (v : List ℕ) (i : ℕ) → Each1 (Fits w8) v → get_or v i 0 < 256
@@ -30,10 +32,12 @@ lane_fits (x ∷ xs) zero h = h.0.fits
 lane_fits (x ∷ xs) (suc i) h = lane_fits xs i h.1
 
 -- lookups at indices below 16
-pub looked_up : (table : List ℕ) (g : ℕ → ℕ) (v js : List ℕ) → IsBlock v → js ≡ map g v → ((x : ℕ) → x < 256 → g x < 16) → swz_l w8 16 table 0 js ≡ map (λ x. get_or table (g x) 0) v
+pub looked_up : (table : List ℕ) (g : ℕ → ℕ) (v js : List ℕ) → IsBlock v → js ≡ map g v → ((x : ℕ) → x < 256 → g x < 16)
+    → swz_l w8 16 table 0 js ≡ map (λ x. get_or table (g x) 0) v
 looked_up table g v js fits e small =
     let long : length js ≡ 16 = ap length e ∙ length-map v g ∙ fits.0 in
-    ext_get_or 0 _ _ (length-swz_l w8 16 table 0 js ∙ long ∙ sym (length-map v (λ x. get_or table (g x) 0) ∙ fits.0)) (λ i h.
+    ext_get_or 0 _ _ (length-swz_l w8 16 table 0 js ∙ long ∙ sym (length-map v (λ x. get_or table (g x) 0) ∙ fits.0))
+    (λ i h.
     let lt : i < 16 = omega (arith, length-swz_l w8 16 table 0 js) in
     let within : i < length v = omega (arith, fits.0) in
     let is : get_or js i 0 ≡ g (get_or v i 0) = ap (λ l. get_or l i 0) e ∙ get_or-map g v i 0 0 within in

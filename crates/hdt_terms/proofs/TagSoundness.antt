@@ -56,19 +56,24 @@ dash_run class c (d ∷ run) is h = record {
   whole = rw (is, h.1.whole) refl;
 }
 
-letters_run : (a d : Bool) (c : ℕ) (cs : List ℕ) → Run is_ascii_alphabetic (tag_rest Letters cs) → BehindDash (tag_rest Dash cs)
+letters_run : (a d : Bool) (c : ℕ) (cs : List ℕ) → Run is_ascii_alphabetic (tag_rest Letters cs)
+    → BehindDash (tag_rest Dash cs)
     → is_ascii_alphabetic c ≡ a → eqb c 45 ≡ d → Run is_ascii_alphabetic (tag_rest Letters (c ∷ cs))
 letters_run true d c cs run dash h e = rw h (more_run is_ascii_alphabetic c (tag_rest Letters cs) h run)
-letters_run false true c cs run dash h e = rw (h, e) (dash_run is_ascii_alphabetic c (tag_rest Dash cs) (eqb-true _ _ e) dash)
+letters_run false true c cs run dash h e =
+    rw (h, e) (dash_run is_ascii_alphabetic c (tag_rest Dash cs) (eqb-true _ _ e) dash)
 letters_run false false c cs run dash h e = rw (h, e) (no_run is_ascii_alphabetic)
 
-part_run : (a d : Bool) (c : ℕ) (cs : List ℕ) → Run is_ascii_alphanumeric (tag_rest Part cs) → BehindDash (tag_rest Dash cs)
+part_run : (a d : Bool) (c : ℕ) (cs : List ℕ) → Run is_ascii_alphanumeric (tag_rest Part cs)
+    → BehindDash (tag_rest Dash cs)
     → is_ascii_alphanumeric c ≡ a → eqb c 45 ≡ d → Run is_ascii_alphanumeric (tag_rest Part (c ∷ cs))
 part_run true d c cs run dash h e = rw h (more_run is_ascii_alphanumeric c (tag_rest Part cs) h run)
-part_run false true c cs run dash h e = rw (h, e) (dash_run is_ascii_alphanumeric c (tag_rest Dash cs) (eqb-true _ _ e) dash)
+part_run false true c cs run dash h e =
+    rw (h, e) (dash_run is_ascii_alphanumeric c (tag_rest Dash cs) (eqb-true _ _ e) dash)
 part_run false false c cs run dash h e = rw (h, e) (no_run is_ascii_alphanumeric)
 
-behind_dash : (a : Bool) (c : ℕ) (cs : List ℕ) → Run is_ascii_alphanumeric (tag_rest Part cs) → is_ascii_alphanumeric c ≡ a → BehindDash (tag_rest Dash (c ∷ cs))
+behind_dash : (a : Bool) (c : ℕ) (cs : List ℕ) → Run is_ascii_alphanumeric (tag_rest Part cs)
+    → is_ascii_alphanumeric c ≡ a → BehindDash (tag_rest Dash (c ∷ cs))
 behind_dash true c cs run h = rw h (h, run)
 behind_dash false c cs run h = rw h tt
 
@@ -82,17 +87,22 @@ pub tag_rest-Taken : (place : TagState) (cs : List ℕ) → Taken place (tag_res
 tag_rest-Taken Letters [] = no_run is_ascii_alphabetic
 tag_rest-Taken Dash [] = tt
 tag_rest-Taken Part [] = no_run is_ascii_alphanumeric
-tag_rest-Taken Letters (c ∷ cs) = letters_run (is_ascii_alphabetic c) (eqb c 45) c cs (tag_rest-Taken Letters cs) (tag_rest-Taken Dash cs) refl refl
+tag_rest-Taken Letters (c ∷ cs) =
+    letters_run (is_ascii_alphabetic c) (eqb c 45) c cs (tag_rest-Taken Letters cs) (tag_rest-Taken Dash cs) refl refl
 tag_rest-Taken Dash (c ∷ cs) = behind_dash (is_ascii_alphanumeric c) c cs (tag_rest-Taken Part cs) refl
-tag_rest-Taken Part (c ∷ cs) = part_run (is_ascii_alphanumeric c) (eqb c 45) c cs (tag_rest-Taken Part cs) (tag_rest-Taken Dash cs) refl refl
+tag_rest-Taken Part (c ∷ cs) =
+    part_run (is_ascii_alphanumeric c) (eqb c 45) c cs (tag_rest-Taken Part cs) (tag_rest-Taken Dash cs) refl refl
 
-unless_last_dash-front : (next : TagState) (c : ℕ) (ds cs : List ℕ) → Extends ds cs → Extends (unless_last_dash next c ds) (c ∷ cs)
+unless_last_dash-front : (next : TagState) (c : ℕ) (ds cs : List ℕ) → Extends ds cs
+    → Extends (unless_last_dash next c ds) (c ∷ cs)
 unless_last_dash-front Letters c ds cs f = front_cons c ds cs f
 unless_last_dash-front Part c ds cs f = front_cons c ds cs f
 unless_last_dash-front Dash c [] cs f = no_front (c ∷ cs)
 unless_last_dash-front Dash c (d ∷ ds) cs f = front_cons c (d ∷ ds) cs f
 
-next_prefix : (next : Option TagState) (place : TagState) (c : ℕ) (cs : List ℕ) → ((q : TagState) → Extends (tag_rest q cs) cs) → next_tag_state place c ≡ next → Extends (tag_rest place (c ∷ cs)) (c ∷ cs)
+next_prefix : (next : Option TagState) (place : TagState) (c : ℕ) (cs : List ℕ)
+    → ((q : TagState) → Extends (tag_rest q cs) cs) → next_tag_state place c ≡ next
+    → Extends (tag_rest place (c ∷ cs)) (c ∷ cs)
 next_prefix None place c cs ih h = rw h (no_front (c ∷ cs))
 next_prefix (Some q) place c cs ih h = rw h (unless_last_dash-front q c (tag_rest q cs) cs (ih q))
 
@@ -121,7 +131,8 @@ tag_says (c ∷ cs) = elim (cases_Bool (is_ascii_alphabetic c)) [
   | inl p ↦
       let f = tag_rest-front Letters cs in
       let run = c ∷ tag_rest Letters cs in
-      let front : take (length run) (c ∷ cs) ≡ run = ap (λ (bs : List ℕ). take (length run) (c ∷ bs)) f.whole ∙ take_at run f.more (length run) refl in
+      let front : take (length run) (c ∷ cs) ≡ run = ap (λ (bs : List ℕ). take (length run) (c ∷ bs)) f.whole
+      ∙ take_at run f.more (length run) refl in
       rw p (subst IsTag (sym front) (letter_then c (tag_rest Letters cs) p (tag_rest-Taken Letters cs)))
   | inr p ↦ rw p p
 ]
@@ -133,20 +144,29 @@ pub record Ends (more : List ℕ) : Type 0 where
   pub letters : tag_rest Letters more ≡ []
   pub part : tag_rest Part more ≡ []
 
-letters_again : (head more : List ℕ) → list_all is_ascii_alphabetic head ≡ true → tag_rest Letters (head ++ more) ≡ head ++ tag_rest Letters more
+letters_again : (head more : List ℕ) → list_all is_ascii_alphabetic head ≡ true
+    → tag_rest Letters (head ++ more) ≡ head ++ tag_rest Letters more
 letters_again [] more h = refl
-letters_again (c ∷ head) more h = rw (and_first (is_ascii_alphabetic c) (list_all is_ascii_alphabetic head) h) (ap (λ (bs : List ℕ). c ∷ bs) (letters_again head more (and_second _ _ h)))
+letters_again (c ∷ head) more h =
+    rw (and_first (is_ascii_alphabetic c) (list_all is_ascii_alphabetic head) h)
+    (ap (λ (bs : List ℕ). c ∷ bs) (letters_again head more (and_second _ _ h)))
 
-part_again : (part more : List ℕ) → list_all is_ascii_alphanumeric part ≡ true → tag_rest Part (part ++ more) ≡ part ++ tag_rest Part more
+part_again : (part more : List ℕ) → list_all is_ascii_alphanumeric part ≡ true
+    → tag_rest Part (part ++ more) ≡ part ++ tag_rest Part more
 part_again [] more h = refl
-part_again (c ∷ part) more h = rw (and_first (is_ascii_alphanumeric c) (list_all is_ascii_alphanumeric part) h) (ap (λ (bs : List ℕ). c ∷ bs) (part_again part more (and_second _ _ h)))
+part_again (c ∷ part) more h =
+    rw (and_first (is_ascii_alphanumeric c) (list_all is_ascii_alphanumeric part) h)
+    (ap (λ (bs : List ℕ). c ∷ bs) (part_again part more (and_second _ _ h)))
 
-dash_again : (part more : List ℕ) → IsSubtag part → unless_last_dash Dash 45 (tag_rest Dash (part ++ more)) ≡ 45 ∷ (part ++ tag_rest Part more)
+dash_again : (part more : List ℕ) → IsSubtag part → unless_last_dash Dash 45 (tag_rest Dash (part ++ more))
+    ≡ 45 ∷ (part ++ tag_rest Part more)
 dash_again [] more h = absurd (h.some refl)
 dash_again (c ∷ part) more h =
-    rw (and_first (is_ascii_alphanumeric c) (list_all is_ascii_alphanumeric part) h.each) (ap (λ (bs : List ℕ). 45 ∷ c ∷ bs) (part_again part more (and_second _ _ h.each)))
+    rw (and_first (is_ascii_alphanumeric c) (list_all is_ascii_alphanumeric part) h.each)
+    (ap (λ (bs : List ℕ). 45 ∷ c ∷ bs) (part_again part more (and_second _ _ h.each)))
 
-parts_more : (parts : List (List ℕ)) (more : List ℕ) → AllByRecursion IsSubtag parts → tag_rest Part (flat_map dashed parts ++ more) ≡ flat_map dashed parts ++ tag_rest Part more
+parts_more : (parts : List (List ℕ)) (more : List ℕ) → AllByRecursion IsSubtag parts
+    → tag_rest Part (flat_map dashed parts ++ more) ≡ flat_map dashed parts ++ tag_rest Part more
 parts_more [] more each = refl
 parts_more (part ∷ parts) more each =
     ap (tag_rest Part) (append_assoc (45 ∷ part) (flat_map dashed parts) more)
@@ -159,7 +179,8 @@ abbrev pub behind_parts : List (List ℕ) → List ℕ → List ℕ
 behind_parts [] more = tag_rest Letters more
 behind_parts (part ∷ parts) more = tag_rest Part more
 
-tail_more : (parts : List (List ℕ)) (more : List ℕ) → AllByRecursion IsSubtag parts → tag_rest Letters (flat_map dashed parts ++ more) ≡ flat_map dashed parts ++ behind_parts parts more
+tail_more : (parts : List (List ℕ)) (more : List ℕ) → AllByRecursion IsSubtag parts
+    → tag_rest Letters (flat_map dashed parts ++ more) ≡ flat_map dashed parts ++ behind_parts parts more
 tail_more [] more each = refl
 tail_more (part ∷ parts) more each =
     ap (tag_rest Letters) (append_assoc (45 ∷ part) (flat_map dashed parts) more)
@@ -167,17 +188,21 @@ tail_more (part ∷ parts) more each =
     ∙ ap (λ (bs : List ℕ). 45 ∷ (part ++ bs)) (parts_more parts more each.1)
     ∙ sym (append_assoc (45 ∷ part) (flat_map dashed parts) (tag_rest Part more))
 
-head_more : (head : List ℕ) (parts : List (List ℕ)) (more : List ℕ) → head ≢ [] → list_all is_ascii_alphabetic head ≡ true → AllByRecursion IsSubtag parts
-    → tag_len ((head ++ flat_map dashed parts) ++ more) ≡ Some (length ((head ++ flat_map dashed parts) ++ behind_parts parts more))
+head_more : (head : List ℕ) (parts : List (List ℕ)) (more : List ℕ) → head ≢ []
+    → list_all is_ascii_alphabetic head ≡ true → AllByRecursion IsSubtag parts
+    → tag_len ((head ++ flat_map dashed parts) ++ more)
+    ≡ Some (length ((head ++ flat_map dashed parts) ++ behind_parts parts more))
 head_more [] parts more some letters each = absurd (some refl)
 head_more (c ∷ head) parts more some letters each =
-    rw (and_first (is_ascii_alphabetic c) (list_all is_ascii_alphabetic head) letters) (ap (λ (bs : List ℕ). Some (suc (length bs)))
+    rw (and_first (is_ascii_alphabetic c) (list_all is_ascii_alphabetic head) letters)
+    (ap (λ (bs : List ℕ). Some (suc (length bs)))
     (ap (tag_rest Letters) (append_assoc head (flat_map dashed parts) more)
     ∙ letters_again head (flat_map dashed parts ++ more) (and_second _ _ letters)
     ∙ ap (λ (bs : List ℕ). head ++ bs) (tail_more parts more each)
     ∙ sym (append_assoc head (flat_map dashed parts) (behind_parts parts more))))
 
-pub tag_len-more : (tag more : List ℕ) (h : IsTag tag) → tag_len (tag ++ more) ≡ Some (length (tag ++ behind_parts h.parts more))
+pub tag_len-more : (tag more : List ℕ) (h : IsTag tag)
+    → tag_len (tag ++ more) ≡ Some (length (tag ++ behind_parts h.parts more))
 tag_len-more tag more h = rw h.whole (head_more h.head h.parts more h.some h.letters h.each)
 
 nothing_behind : (parts : List (List ℕ)) (more : List ℕ) → Ends more → behind_parts parts more ≡ []
@@ -185,8 +210,11 @@ nothing_behind [] more ends = ends.letters
 nothing_behind (part ∷ parts) more ends = ends.part
 
 pub tag_len-again : (tag more : List ℕ) → IsTag tag → Ends more → tag_len (tag ++ more) ≡ Some (length tag)
-tag_len-again tag more h ends = tag_len-more tag more h ∙ ap (λ (bs : List ℕ). Some (length (tag ++ bs))) (nothing_behind h.parts more ends) ∙ ap (λ (bs : List ℕ). Some (length bs)) (append-nil tag)
+tag_len-again tag more h ends = tag_len-more tag more h
+    ∙ ap (λ (bs : List ℕ). Some (length (tag ++ bs))) (nothing_behind h.parts more ends)
+    ∙ ap (λ (bs : List ℕ). Some (length bs)) (append-nil tag)
 
 pub tag_again : (tag more : List ℕ) → IsTag tag → Ends more → tag_at (64 ∷ (tag ++ more)) ≡ Ok (Tag tag, more)
 unfolding tag_at
-tag_again tag more h ends = rw (tag_len-again tag more h ends, take_at tag more (length tag) refl, drop_at tag more (length tag) refl) refl
+tag_again tag more h ends =
+    rw (tag_len-again tag more h ends, take_at tag more (length tag) refl, drop_at tag more (length tag) refl) refl

@@ -56,7 +56,8 @@ table_reason bytes s (blank rest whole none is) = of_text Syntax s tt (stop_reas
 table_reason bytes s (string rest whole h) = inside_reason Quoted rest s h
 table_reason bytes s (suffix inner value behind i whole h) = suffix_reason behind s h
 
-pub of_triple : (text : List ℕ) (column : ℕ) (reason : LineReason) → OfText reason → line_triple text ≡ Err (record { column = column; reason = reason }) → IsTripleLineError reason column text
+pub of_triple : (text : List ℕ) (column : ℕ) (reason : LineReason) → OfText reason
+    → line_triple text ≡ Err (record { column = column; reason = reason }) → IsTripleLineError reason column text
 of_triple text column Syntax h e = e
 of_triple text column NotUtf8 h e = e
 of_triple text column BadEscape h e = e

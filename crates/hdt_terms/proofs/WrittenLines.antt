@@ -37,10 +37,12 @@ WithoutEnds text = list_all no_end text ≡ true
 class_byte : (class : ℕ → Bool) → class 10 ≡ false → class 13 ≡ false → (c : ℕ) → class c ≡ true → no_end c ≡ true
 class_byte class feed return c h = rw (apart class c 10 h feed, apart class c 13 h return) refl
 
-class_bytes : (class : ℕ → Bool) → class 10 ≡ false → class 13 ≡ false → (cs : List ℕ) → list_all class cs ≡ true → WithoutEnds cs
+class_bytes : (class : ℕ → Bool) → class 10 ≡ false → class 13 ≡ false → (cs : List ℕ) → list_all class cs ≡ true
+    → WithoutEnds cs
 class_bytes class feed return [] h = refl
 class_bytes class feed return (c ∷ cs) h =
-    and_both (no_end c) _ (class_byte class feed return c (and_first (class c) _ h)) (class_bytes class feed return cs (and_second (class c) _ h))
+    and_both (no_end c) _ (class_byte class feed return c (and_first (class c) _ h))
+    (class_bytes class feed return cs (and_second (class c) _ h))
 
 beyond : (least c : ℕ) → 14 ≤ least → least ≤ c → no_end c ≡ true
 beyond least c h more = grind (arith, nat_tests)
@@ -57,12 +59,14 @@ hex_by d false = omega arith
 hex_byte : (d : ℕ) → no_end (hex_digit d) ≡ true
 hex_byte d = beyond 14 (hex_digit d) (omega arith) (hex_by d (nat_lt d 10))
 
-iri_by : (c : ℕ) (b : Bool) → is_iri_char c ≡ b → WithoutEnds (cond b (c ∷ []) (92 ∷ 117 ∷ 48 ∷ 48 ∷ hex_digit (c / 16) ∷ hex_digit (c % 16) ∷ []))
+iri_by : (c : ℕ) (b : Bool) → is_iri_char c ≡ b
+    → WithoutEnds (cond b (c ∷ []) (92 ∷ 117 ∷ 48 ∷ 48 ∷ hex_digit (c / 16) ∷ hex_digit (c % 16) ∷ []))
 iri_by c true e = class_bytes is_iri_char refl refl (c ∷ []) (rw e refl)
 iri_by c false e = rw (hex_byte (c / 16), hex_byte (c % 16)) refl
 
 string_by : (c : ℕ) (p q r s : Bool) → eqb c 10 ≡ r → eqb c 13 ≡ s
-    → WithoutEnds (cond p (92 ∷ 92 ∷ []) (cond q (92 ∷ 34 ∷ []) (cond r (92 ∷ 110 ∷ []) (cond s (92 ∷ 114 ∷ []) (c ∷ [])))))
+    → WithoutEnds (cond p (92 ∷ 92
+    ∷ []) (cond q (92 ∷ 34 ∷ []) (cond r (92 ∷ 110 ∷ []) (cond s (92 ∷ 114 ∷ []) (c ∷ [])))))
 string_by c true q r s e f = refl
 string_by c false true r s e f = refl
 string_by c false false true s e f = refl
@@ -75,22 +79,29 @@ byte_written tokens.Quoted c = string_by c (eqb c 92) (eqb c 34) (eqb c 10) (eqb
 
 bytes_written : (token : Token) (text : List ℕ) → WithoutEnds (flat_map (written_byte token) text)
 bytes_written token [] = refl
-bytes_written token (c ∷ text) = appended (written_byte token c) (flat_map (written_byte token) text) (byte_written token c) (bytes_written token text)
+bytes_written token (c ∷ text) =
+    appended (written_byte token c) (flat_map (written_byte token) text) (byte_written token c)
+    (bytes_written token text)
 
 token_written : (token : Token) (text : List ℕ) → WithoutEnds (written_token token text)
-token_written tokens.Iri text = appended (flat_map (written_byte tokens.Iri) text) (62 ∷ []) (bytes_written tokens.Iri text) refl
-token_written tokens.Quoted text = appended (flat_map (written_byte tokens.Quoted) text) (34 ∷ []) (bytes_written tokens.Quoted text) refl
+token_written tokens.Iri text =
+    appended (flat_map (written_byte tokens.Iri) text) (62 ∷ []) (bytes_written tokens.Iri text) refl
+token_written tokens.Quoted text =
+    appended (flat_map (written_byte tokens.Quoted) text) (34 ∷ []) (bytes_written tokens.Quoted text) refl
 
 -- ---- tags
 
-parts_written : (parts : List (List ℕ)) → AllByRecursion IsSubtag parts → WithoutEnds (flat_map (λ (part : List ℕ). 45 ∷ part) parts)
+parts_written : (parts : List (List ℕ)) → AllByRecursion IsSubtag parts
+    → WithoutEnds (flat_map (λ (part : List ℕ). 45 ∷ part) parts)
 parts_written [] each = refl
 parts_written (part ∷ parts) each =
-    appended (45 ∷ part) (flat_map (λ (part : List ℕ). 45 ∷ part) parts) (class_bytes is_ascii_alphanumeric refl refl part each.0.each) (parts_written parts each.1)
+    appended (45 ∷ part) (flat_map (λ (part : List ℕ). 45 ∷ part) parts)
+    (class_bytes is_ascii_alphanumeric refl refl part each.0.each) (parts_written parts each.1)
 
 tag_written : (tag : List ℕ) → IsTag tag → WithoutEnds tag
 tag_written tag h =
-    subst WithoutEnds (sym h.whole) (appended h.head _ (class_bytes is_ascii_alphabetic refl refl h.head h.letters) (parts_written h.parts h.each))
+    subst WithoutEnds (sym h.whole)
+    (appended h.head _ (class_bytes is_ascii_alphabetic refl refl h.head h.letters) (parts_written h.parts h.each))
 
 suffix_written : (suffix : Suffix) → IsLiteralSuffix suffix → WithoutEnds (written_suffix suffix)
 suffix_written Plain h = refl
@@ -99,20 +110,25 @@ suffix_written (Datatype iri) h = token_written tokens.Iri iri
 
 -- ---- labels
 
-character : (class : ℕ → Bool) → class 10 ≡ false → class 13 ≡ false → (c : ℕ) → class c ≡ true → WithoutEnds (encode_utf8 c)
-character class feed return c h = encode_passes no_end c (λ b. beyond 128 b (omega arith)) (class_byte class feed return c h)
+character : (class : ℕ → Bool) → class 10 ≡ false → class 13 ≡ false → (c : ℕ) → class c ≡ true
+    → WithoutEnds (encode_utf8 c)
+character class feed return c h =
+    encode_passes no_end c (λ b. beyond 128 b (omega arith)) (class_byte class feed return c h)
 
 rest_written : (cs : List ℕ) → is_label_rest cs ≡ true → WithoutEnds (encode_utf8_all cs)
 rest_written [] h = refl
 rest_written (c ∷ []) h = appended (encode_utf8 c) [] (character is_pn_chars refl refl c h) refl
 rest_written (c ∷ d ∷ cs) h =
     appended (encode_utf8 c) (encode_utf8_all (d ∷ cs))
-    (character (λ b. is_pn_chars b || eqb b 46) refl refl c (and_first (is_pn_chars c || eqb c 46) _ h)) (rest_written (d ∷ cs) (and_second (is_pn_chars c || eqb c 46) _ h))
+    (character (λ b. is_pn_chars b || eqb b 46) refl refl c (and_first (is_pn_chars c || eqb c 46) _ h))
+    (rest_written (d ∷ cs) (and_second (is_pn_chars c || eqb c 46) _ h))
 
 characters : (cs : List ℕ) → is_label cs ≡ true → WithoutEnds (encode_utf8_all cs)
 characters [] h = refl
 characters (c ∷ cs) h =
-    appended (encode_utf8 c) (encode_utf8_all cs) (character is_label_start refl refl c (and_first (is_label_start c) _ h)) (rest_written cs (and_second (is_label_start c) _ h))
+    appended (encode_utf8 c) (encode_utf8_all cs)
+    (character is_label_start refl refl c (and_first (is_label_start c) _ h))
+    (rest_written cs (and_second (is_label_start c) _ h))
 
 label_written : (label : List ℕ) → IsLabel label → WithoutEnds label
 label_written label h = subst WithoutEnds (encodes-chars label h.utf8) (characters (chars label) h.form)
@@ -123,7 +139,11 @@ term_written : (term : Term) → IsGrammarTerm term → WithoutEnds (written ter
 unfolding written
 term_written (Iri iri) h = token_written tokens.Iri iri
 term_written (Blank label) h = label_written label h
-term_written (Literal text suffix) h = appended (written_token tokens.Quoted text) (written_suffix suffix) (token_written tokens.Quoted text) (suffix_written suffix h.1)
+term_written (Literal text suffix) h =
+    appended (written_token tokens.Quoted text) (written_suffix suffix) (token_written tokens.Quoted text)
+    (suffix_written suffix h.1)
 
 pub written-HasNoLineEnd : (term : Term) → IsGrammarTerm term → HasNoLineEnd (written term)
-written-HasNoLineEnd term h = All-weaker (λ c. no_end c ≡ true) (λ c. is_line_end c ≡ false) (λ c. not-true (is_line_end c)) (written term) (AllPass-from_list_all no_end (written term) (term_written term h))
+written-HasNoLineEnd term h =
+    All-weaker (λ c. no_end c ≡ true) (λ c. is_line_end c ≡ false) (λ c. not-true (is_line_end c)) (written term)
+    (AllPass-from_list_all no_end (written term) (term_written term h))

@@ -34,7 +34,7 @@ abbrev pub Excludes : Token → ℕ → Type 0
 Excludes Iri c = is_iri_char c ≡ false
 Excludes Quoted c = is_string_char c ≡ false
 
--- In a token, the check with this reason fails at the front of these bytes.
+-- In a token, the check with this reason fails at the start of these bytes.
 abbrev pub CheckFails : Token → LineReason → List ℕ → Type 0
 CheckFails token Syntax [] = Unit {0}
 CheckFails token Syntax (c ∷ rest) = (c ≢ closing_byte token) × (c ≢ 92) × Excludes token c

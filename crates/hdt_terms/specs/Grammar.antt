@@ -79,7 +79,7 @@ pub record EncodesContent (token : Token) (text value : List ℕ) : Type 0 where
 -- text encodes the absolute IRI.
 pub record EncodesIri (text iri : List ℕ) : Type 0 where
   pub inner : List ℕ
-  pub token_content : EncodesContent Iri inner iri
+  pub content : EncodesContent Iri inner iri
   pub whole : text ≡ 60 ∷ (inner ++ 62 ∷ [])
   pub absolute : is_absolute iri ≡ true
 
@@ -95,7 +95,7 @@ IsWhitespace text = list_all is_whitespace text ≡ true
 -- @ and the tag, with optional whitespace before the @.
 pub record EncodesTag (text tag : List ℕ) : Type 0 where
   pub before : List ℕ
-  pub blanks : IsWhitespace before
+  pub whitespace : IsWhitespace before
   pub whole : text ≡ before ++ 64 ∷ tag
   pub form : IsTag tag
 
@@ -103,7 +103,7 @@ pub record EncodesTag (text tag : List ℕ) : Type 0 where
 pub record EncodesDatatype (text iri : List ℕ) : Type 0 where
   pub before : List ℕ
   pub behind : List ℕ
-  pub blanks : IsWhitespace before × IsWhitespace behind
+  pub whitespace : IsWhitespace before × IsWhitespace behind
   pub spelled : List ℕ
   pub whole : text ≡ before ++ 94 ∷ 94 ∷ (behind ++ spelled)
   pub datatype : EncodesIri spelled iri
@@ -118,7 +118,7 @@ EncodesSuffix text (Datatype iri) = EncodesDatatype text iri × (iri ≢ xsd_str
 pub record EncodesLiteral (text value : List ℕ) (suffix : Suffix) : Type 0 where
   pub inner : List ℕ
   pub tail : List ℕ
-  pub token_content : EncodesContent Quoted inner value
+  pub content : EncodesContent Quoted inner value
   pub whole : text ≡ 34 ∷ (inner ++ 34 ∷ tail)
   pub behind : EncodesSuffix tail suffix
 

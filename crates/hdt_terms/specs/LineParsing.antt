@@ -2,7 +2,7 @@
 use Rattle.std.specs.Prelude.{◌≡◌, ℕ, Bool, true, false, ◌||◌, ◌⊎◌, List, [], ◌∷◌, length, Option, None, Some, Result, Ok, Err, ◌==◌, if◌then◌else◌}
 use Rattle.hdt_terms.specs.declared.fault.LineReason.TheVariants.{Syntax}
 use Rattle.hdt_terms.specs.declared.fault.FailedCheck.{FailedCheck}
-use Rattle.hdt_terms.specs.declared.fault.ReadError.{ReadError}
+use Rattle.hdt_terms.specs.declared.fault.ParseError.{ParseError}
 use Rattle.hdt_terms.specs.declared.fault.TermFault.{TermFault}
 use Rattle.hdt_wire.specs.declared.role.Role.{Role}
 use Rattle.hdt_wire.specs.declared.role.Role.TheVariants.{Subject, Predicate, Object}
@@ -45,7 +45,7 @@ abbrev pub full_stop_at : List ℕ → Result (Unit {0}) FailedCheck
 full_stop_at [] = stops Syntax []
 full_stop_at (c ∷ rest) = if c == 46 then comment_or_end_at (skip_whitespace rest) else stops Syntax (c ∷ rest)
 
--- The same after whitespace.
+-- The full stop after whitespace.
 unfoldable pub full_stop_after_whitespace : List ℕ → Result (Unit {0}) FailedCheck
 full_stop_after_whitespace bytes = full_stop_at (skip_whitespace bytes)
 
@@ -72,7 +72,8 @@ as_line (Err fault) = Err fault
 
 -- None for a line of whitespace and an optional comment; else what parsing gives, or the first error.
 unfoldable pub unless_blank : {A : Type 0} → List ℕ → Result A FailedCheck → Result (Option A) TermFault
-unless_blank text read = unless_not_utf8 text (if is_blank_or_comment text then Ok None else as_line (with_column text read))
+unless_blank text read = unless_not_utf8 text
+    (if is_blank_or_comment text then Ok None else as_line (with_column text read))
 
 -- The triple of the line, if it has one, or its first error.
 abbrev pub line_in : List ℕ → Result (Option Triple) TermFault
@@ -91,17 +92,21 @@ pub record AreTripleStrings (triple : Triple) (s p o : List ℕ) : Type 0 where
   pub o_is : o ≡ dictionary_string triple.o
 
 -- The buffers have the strings of the parsed triple, unless memory ran out.
-abbrev pub PutsTripleStrings : {X : Type 0} → List ℕ → List ℕ → List ℕ → Result X ReadError → Result Triple FailedCheck → Type 0
+abbrev pub PutsTripleStrings : {X : Type 0} → List ℕ → List ℕ → List ℕ → Result X ParseError → Result Triple FailedCheck
+    → Type 0
 PutsTripleStrings s p o (Ok x) read = (triple : Triple) × (read ≡ Ok triple) × AreTripleStrings triple s p o
 PutsTripleStrings s p o (Err e) read = Fails e read
 
--- The same with the error of the line.
-abbrev pub ReturnsTripleStrings : {X : Type 0} → List ℕ → List ℕ → List ℕ → Result X TermFault → Result Triple TermFault → Type 0
+-- The buffers have the strings of the parsed triple, or this is the error of the line, unless memory ran out.
+abbrev pub ReturnsTripleStrings : {X : Type 0} → List ℕ → List ℕ → List ℕ → Result X TermFault → Result Triple TermFault
+    → Type 0
 ReturnsTripleStrings s p o (Ok x) read = (triple : Triple) × (read ≡ Ok triple) × AreTripleStrings triple s p o
 ReturnsTripleStrings s p o (Err fault) read = (fault ≡ out_of_memory) ⊎ (read ≡ Err fault)
 
--- The same for a line that may have no triple.
-abbrev pub ReturnsLineStrings : List ℕ → List ℕ → List ℕ → Result Bool TermFault → Result (Option Triple) TermFault → Type 0
+-- Parsing a line that may have no triple: the buffers have the strings of its triple, it has none, or this is its
+-- error, unless memory ran out.
+abbrev pub ReturnsLineStrings : List ℕ → List ℕ → List ℕ → Result Bool TermFault → Result (Option Triple) TermFault
+    → Type 0
 ReturnsLineStrings s p o (Ok true) read = (triple : Triple) × (read ≡ Ok (Some triple)) × AreTripleStrings triple s p o
 ReturnsLineStrings s p o (Ok false) read = read ≡ Ok None
 ReturnsLineStrings s p o (Err fault) read = (fault ≡ out_of_memory) ⊎ (read ≡ Err fault)

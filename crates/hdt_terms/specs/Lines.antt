@@ -20,8 +20,8 @@ IsCommentOrEnd (c ∷ rest) = c ≡ 35
 pub record IsBlankOrComment (text : List ℕ) : Type 0 where
   pub before : List ℕ
   pub comment : List ℕ
-  pub blanks : IsWhitespace before
-  pub is_comment_or_end : IsCommentOrEnd comment
+  pub whitespace : IsWhitespace before
+  pub comment_is : IsCommentOrEnd comment
   pub whole : text ≡ before ++ comment
 
 -- A subject is an IRI or a blank node.
@@ -42,7 +42,7 @@ pub record EncodesTriple (text : List ℕ) (triple : Triple) : Type 0 where
   pub before_p : List ℕ
   pub before_o : List ℕ
   pub before_stop : List ℕ
-  pub blanks : IsWhitespace before_s × IsWhitespace before_p × IsWhitespace before_o × IsWhitespace before_stop
+  pub whitespace : IsWhitespace before_s × IsWhitespace before_p × IsWhitespace before_o × IsWhitespace before_stop
   pub s : List ℕ
   pub p : List ℕ
   pub o : List ℕ
@@ -50,7 +50,7 @@ pub record EncodesTriple (text : List ℕ) (triple : Triple) : Type 0 where
   pub subject : Encodes s triple.s × IsSubject triple.s
   pub predicate : Encodes p triple.p × IsPredicate triple.p
   pub object : Encodes o triple.o
-  pub bare : IsBlankOrComment behind
+  pub trailing : IsBlankOrComment behind
   pub whole : text ≡ before_s ++ (s ++ (before_p ++ (p ++ (before_o ++ (o ++ (before_stop ++ 46 ∷ behind))))))
 
 -- The text is a line, without its end, with this triple or none.
@@ -61,7 +61,8 @@ Line text (Some triple) = IsUtf8 text × EncodesTriple text triple
 -- The bytes are lines with these triples or none, each with its end.
 abbrev pub TerminatedLines : List (Option Triple) → List ℕ → Type 0
 TerminatedLines [] bytes = bytes ≡ []
-TerminatedLines (x ∷ xs) bytes = (text : List ℕ) × (e : ℕ) × (rest : List ℕ) × (bytes ≡ text ++ e ∷ rest) × (is_line_end e ≡ true) × HasNoLineEnd text × Line text x × TerminatedLines xs rest
+TerminatedLines (x ∷ xs) bytes = (text : List ℕ) × (e : ℕ) × (rest : List ℕ) × (bytes ≡ text ++ e ∷ rest)
+    × (is_line_end e ≡ true) × HasNoLineEnd text × Line text x × TerminatedLines xs rest
 
 -- The triples of the lines that have one.
 abbrev pub triples_of_lines : List (Option Triple) → List Triple

@@ -1,32 +1,26 @@
 -- The texts of lines, valid or not, that a reader of lines consumes of its remaining input.
-use Rattle.std.specs.Prelude.{◌≡◌, ℕ, ◌+◌, ◌≤◌, Bool, true, false, List, [], ◌∷◌, ◌++◌, length, take, Option, Result, Ok, Err, ◌⊎◌}
-use Rattle.std.specs.Io.KnownBytes.{IsAtEnd}
+use Rattle.std.specs.Prelude.{◌≡◌, ℕ, ◌+◌, ◌≤◌, Bool, true, false, List, [], length, take, Option, Result, Ok, Err}
 use Rattle.hdt_terms.specs.declared.fault.LineFault.{LineFault}
 use Rattle.hdt_terms.specs.declared.fault.LineReason.{LineReason}
 use Rattle.hdt_terms.specs.declared.fault.LineReason.TheVariants.{Read, OutOfMemory, TooLong}
-use Rattle.hdt_terms.specs.Chars.{is_line_end}
-use Rattle.hdt_terms.specs.Lines.{HasNoLineEnd}
-use Rattle.hdt_terms.specs.LinesReader.{LinesState, Takes, IsLineError}
-
--- The bytes are a line of this text: the text and its end, or the text at the end of the input, if nothing is left.
-abbrev pub IsTakenLineText : List ℕ → List ℕ → LinesState → Option (List ℕ) → Type 0
-IsTakenLineText text bytes new after = HasNoLineEnd text
-    × (((e : ℕ) × (is_line_end e ≡ true) × (bytes ≡ text ++ e ∷ []) × (new.ended ≡ false))
-    ⊎ ((bytes ≡ text) × (new.ended ≡ true) × (new.buffered ≡ []) × IsAtEnd after))
+use Rattle.hdt_terms.specs.LinesReader.{LinesState, Takes, IsTakenLineText, IsLineError}
 
 -- One line of this text was consumed.
 abbrev pub TakesText : LinesState → LinesState → Option (List ℕ) → Option (List ℕ) → List ℕ → Type 0
-TakesText old new before after text = (bytes : List ℕ) × Takes old new before after bytes × IsTakenLineText text bytes new after
+TakesText old new before after text = (bytes : List ℕ) × Takes old new before after bytes
+    × IsTakenLineText text bytes new after
 
 -- One line was consumed: these bytes, of which the first n are its text.
-pub record TakesWholeLine (n : ℕ) (old new : LinesState) (before after : Option (List ℕ)) (bytes : List ℕ) : Type 0 where
+pub record TakesWholeLine (n : ℕ) (old new : LinesState) (before after : Option (List ℕ))
+    (bytes : List ℕ) : Type 0 where
   pub takes : Takes old new before after bytes
   pub is : IsTakenLineText (take n bytes) bytes new after
   pub within : n ≤ length bytes
 
--- One line was consumed, and front are the first most bytes of its text.
+-- One line was consumed, and front has the first most bytes of its text.
 abbrev pub TakesLinePrefix : ℕ → LinesState → LinesState → Option (List ℕ) → Option (List ℕ) → List ℕ → Type 0
-TakesLinePrefix most old new before after front = (text : List ℕ) × TakesText old new before after text × (front ≡ take most text)
+TakesLinePrefix most old new before after front = (text : List ℕ) × TakesText old new before after text
+    × (front ≡ take most text)
 
 -- The text of the line that starts after taken bytes is unavailable: reading failed, it is too long, or memory ran out.
 abbrev pub IsUnreadLineError : LineReason → ℕ → ℕ → Option (List ℕ) → Option (List ℕ) → Type 0
@@ -41,8 +35,10 @@ pub record IsNextLineError (fault : LineFault) (old : LinesState) (before given 
   pub column : fault.column ≡ 0
   pub fault_is : IsUnreadLineError fault.reason old.taken old.limit before given
 
--- The same of at most so many bytes of the front of its text.
-abbrev pub ReturnsNextPrefix : Result Bool LineFault → ℕ → List ℕ → LinesState → LinesState → Option (List ℕ) → Option (List ℕ) → Option (List ℕ) → Type 0
+-- The first most bytes of the next line's text, or the error of that line; never the end, as the last line is returned
+-- too.
+abbrev pub ReturnsNextPrefix : Result Bool LineFault → ℕ → List ℕ → LinesState → LinesState → Option (List ℕ)
+    → Option (List ℕ) → Option (List ℕ) → Type 0
 ReturnsNextPrefix (Ok true) most front old new before after given = TakesLinePrefix most old new before after front
 ReturnsNextPrefix (Ok false) most front old new before after given = ⊥
 ReturnsNextPrefix (Err fault) most front old new before after given = IsNextLineError fault old before given

@@ -1,52 +1,16 @@
 -- Checking every line of a document: the reports of the faulty lines, and the bytes of the others.
-use Rattle.std.specs.Prelude.{◌≡◌, ℕ, ◌+◌, ◌-◌, ◌^◌, ◌==◌, ◌⊎◌, if◌then◌else◌, Bool, true, false, List, [], ◌∷◌, ◌++◌, length, take, drop, Option, None, Some, Result, Ok, Err, ⊤, codes, option_map}
+use Rattle.std.specs.Prelude.{◌≡◌, ℕ, ◌==◌, ◌⊎◌, if◌then◌else◌, Bool, true, false, List, [], ◌∷◌, ◌++◌, length, take, drop, Option, None, Some, Result, Ok, Err, codes, option_map}
 use Rattle.std.specs.Fmt.{decimal}
-use Rattle.std.specs.Io.KnownBytes.{Appends, Consumes}
+use Rattle.std.specs.Io.KnownBytes.{Appends}
 use Rattle.std.specs.List.{filter_map, flat_map}
 use Rattle.hdt_terms.specs.declared.fault.LineFault.{LineFault}
 use Rattle.hdt_terms.specs.declared.fault.TermFault.{TermFault}
 use Rattle.hdt_terms.specs.declared.lint.LintFault.{LintFault}
-use Rattle.hdt_terms.specs.declared.lint.LintFault.TheVariants as stops
+use Rattle.hdt_terms.specs.declared.lint.LintFault.TheVariants as faults
 use Rattle.hdt_terms.specs.declared.fault.LineReason.TheVariants.{Read}
-use Rattle.hdt_terms.specs.Chars.{is_line_end}
+use Rattle.hdt_terms.specs.Documents.{AreDocumentLines, BeginsWithLines, DocumentLine, FaultAfterDocumentLines}
 use Rattle.hdt_terms.specs.LineParsing.{line_in}
-use Rattle.hdt_terms.specs.Lines.{count_line_ends, ends_in_cr}
-use Rattle.hdt_terms.specs.LinesTexts.{IsUnreadLineError}
 use Rattle.hdt_terms.specs.Reasons.{line_reason_number, line_reason_name}
-
--- ---- lines with their ends
-
--- A line of a document: its number from 1, its text, and its end: U+000A or U+000D, or nothing for the last line.
-pub record DocumentLine : Type 0 where
-  pub number : ℕ
-  pub text : List ℕ
-  pub end : List ℕ
-
--- Adds a byte at the front of the first text.
-abbrev pub prepend_to_first_text : ℕ → List DocumentLine → List DocumentLine
-prepend_to_first_text b [] = []
-prepend_to_first_text b (line ∷ lines) = record line { text = b ∷ line.text } ∷ lines
-
--- The lines of the bytes. ends is the number of line ends before the bytes; cr says whether the byte before them is
--- U+000D. Between U+000D and U+000A is an empty text with the number of the line before.
-abbrev pub document_lines : Bool → ℕ → List ℕ → List DocumentLine
-document_lines cr ends [] = record { number = ends + 1; text = []; end = [] } ∷ []
-document_lines cr ends (b ∷ bs) = if is_line_end b then record { number = ends + count_line_ends cr (b ∷ []); text = []; end = b ∷ [] } ∷ document_lines (b == 13) (ends + count_line_ends cr (b ∷ [])) bs
-    else prepend_to_first_text b (document_lines false ends bs)
-
--- These are the lines of the input. Nothing is claimed for a reader of unknown bytes.
-abbrev pub AreDocumentLines : Option (List ℕ) → List DocumentLine → Type 0
-AreDocumentLines None lines = ⊤
-AreDocumentLines (Some bytes) lines = document_lines false 0 bytes ≡ lines
-
--- The lines of the input begin with these.
-abbrev pub BeginsWithLines : Option (List ℕ) → List DocumentLine → Type 0
-BeginsWithLines None lines = ⊤
-BeginsWithLines (Some bytes) lines = (more : List DocumentLine) × (document_lines false 0 bytes ≡ lines ++ more)
-
--- The bytes are these lines, each with its end, whatever follows.
-abbrev pub AreEndedLines : List ℕ → List DocumentLine → Type 0
-AreEndedLines front lines = (rest : List ℕ) → document_lines false 0 (front ++ rest) ≡ lines ++ document_lines (ends_in_cr false front) (count_line_ends false front) rest
 
 -- ---- the errors of lines
 
@@ -98,7 +62,7 @@ last_faulty_of before (line ∷ lines) = last_faulty_of (last_faulty before (fau
 abbrev pub kept_line : ℕ → DocumentLine → List ℕ
 kept_line faulty line = if faulty == line.number then [] else line.text ++ line.end
 
--- The same if lines are kept at all.
+-- The line if it is kept; nothing if no lines are.
 abbrev pub kept_if : Bool → ℕ → DocumentLine → List ℕ
 kept_if false faulty line = []
 kept_if true faulty line = kept_line faulty line
@@ -111,7 +75,8 @@ numbered number n bytes = record { number = number; text = take n bytes; end = d
 abbrev pub lines_without_faults : ℕ → List DocumentLine → List ℕ
 lines_without_faults before [] = []
 lines_without_faults before (line ∷ lines) =
-    kept_line (last_faulty before (fault_of_line line)) line ++ lines_without_faults (last_faulty before (fault_of_line line)) lines
+    kept_line (last_faulty before (fault_of_line line)) line
+    ++ lines_without_faults (last_faulty before (fault_of_line line)) lines
 
 -- With `keep`, the lines without an error, byte for byte; else nothing.
 abbrev pub kept_lines : Bool → List DocumentLine → List ℕ
@@ -132,37 +97,29 @@ GainsPrefix before after text = (more : List ℕ) × GainsAllBut before after te
 
 -- All lines of the input, or its first lines up to the last of `most` faulty ones, were checked: n are faulty, and the
 -- two writers have gained the kept lines and the reports.
-pub record LintsInput (keep : Bool) (most : ℕ) (input kept_before kept_after reported_before reported_after : Option (List ℕ)) (n : ℕ) : Type 0 where
+pub record LintsInput (keep : Bool) (most : ℕ)
+    (input kept_before kept_after reported_before reported_after : Option (List ℕ)) (n : ℕ) : Type 0 where
   pub lines : List DocumentLine
   pub are : AreDocumentLines input lines ⊎ ((n ≡ most) × BeginsWithLines input lines)
   pub count : n ≡ length (faulty_lines lines)
   pub kept : Appends kept_before kept_after (kept_lines keep lines)
   pub reported : Appends reported_before reported_after (fault_reports lines)
 
--- The fault is the error of the line after these, which are all lines with an end before it. given is the input that
--- the reader has left after the error.
-pub record FaultAfterDocumentLines (fault : LineFault) (input given : Option (List ℕ)) (lines : List DocumentLine) : Type 0 where
-  pub front : List ℕ
-  pub left : Option (List ℕ)
-  pub consumed : Consumes input left front
-  pub lines_are : AreEndedLines front lines
-  pub line : fault.line ≡ count_line_ends false front + 1
-  pub column : fault.column ≡ 0
-  pub fault_is : IsUnreadLineError fault.reason (length front) (2 ^ 63 - 1) left given
-
 -- The reader failed.
 abbrev pub IsReadFault : LintFault → Type 0
-IsReadFault (stops.Line fault) = fault.reason ≡ Read
+IsReadFault (faults.Line fault) = fault.reason ≡ Read
 IsReadFault fault = ⊥
 
 -- If a line could not be read, these are the lines before it.
 abbrev pub FollowsDocumentLines : LintFault → Option (List ℕ) → Option (List ℕ) → List DocumentLine → Type 0
-FollowsDocumentLines (stops.Line fault) input given lines = FaultAfterDocumentLines fault input given lines
+FollowsDocumentLines (faults.Line fault) input given lines = FaultAfterDocumentLines fault input given lines
 FollowsDocumentLines fault input given lines = Unit {0}
 
--- An error ended the run after some lines: the two writers have gained a prefix of the kept lines and of the reports. If a
--- line could not be read, these are all lines before it; `given` is what the reader still yields after it.
-pub record LintsUntilFault (keep : Bool) (input given kept_before kept_after reported_before reported_after : Option (List ℕ)) (fault : LintFault) : Type 0 where
+-- An error ended the run after some lines: the two writers have gained a prefix of the kept lines and of the reports.
+-- If a line could not be read, these are all lines before it; `given` is what the reader still yields after it.
+pub record LintsUntilFault (keep : Bool)
+    (input given kept_before kept_after reported_before reported_after : Option (List ℕ))
+    (fault : LintFault) : Type 0 where
   pub lines : List DocumentLine
   pub are : BeginsWithLines input lines
   pub behind : FollowsDocumentLines fault input given lines

@@ -3,16 +3,17 @@
 use Rattle.std.specs.Prelude.{◌≡◌, ℕ, zero, suc, Bool, not, ◌⊎◌, List, [], ◌∷◌, Option, None, Some, Result, Ok, Err, ◌==◌, if◌then◌else◌}
 use Rattle.std.specs.Str.{bytes_eq}
 use Rattle.hdt_terms.specs.declared.fault.LineReason.TheVariants.{Syntax, BadEscape}
-use Rattle.hdt_terms.specs.declared.fault.ReadError.{ReadError}
+use Rattle.hdt_terms.specs.declared.fault.ParseError.{ParseError}
 use Rattle.hdt_terms.specs.declared.fault.FailedCheck.{FailedCheck}
 use Rattle.hdt_terms.specs.declared.fault.TermFault.{TermFault}
 use Rattle.hdt_terms.specs.Faults.{out_of_memory}
 use Rattle.hdt_terms.specs.LineParsing.{unless_blank}
-use Rattle.hdt_terms.specs.TermParsing.{◌>>=◌, Fails, stops, prepend_read}
+use Rattle.hdt_terms.specs.TermParsing.{◌>>=◌, Fails, stops, prepend_parsed}
 
 -- The byte that a backslash and this letter encode.
 abbrev pub raw_escape_byte : ℕ → Option ℕ
-raw_escape_byte e = if e == 92 then Some 92 else (if e == 110 then Some 10 else (if e == 114 then Some 13 else (if e == 116 then Some 9 else None)))
+raw_escape_byte e = if e == 92 then Some 92 else
+    (if e == 110 then Some 10 else (if e == 114 then Some 13 else (if e == 116 then Some 9 else None)))
 
 -- The next item: an unescaped byte, the byte of an escape, or the tab after the string.
 pub data RawItem : Type 0 where
@@ -42,15 +43,17 @@ raw_skip tab = 0
 raw_skip (byte c) = 0
 raw_skip (escape c) = 1
 
-abbrev pub continue_raw_string : RawItem → List ℕ → Result (List ℕ × List ℕ) FailedCheck → Result (List ℕ × List ℕ) FailedCheck
+abbrev pub continue_raw_string : RawItem → List ℕ → Result (List ℕ × List ℕ) FailedCheck
+    → Result (List ℕ × List ℕ) FailedCheck
 continue_raw_string tab here more = Ok ([], here)
-continue_raw_string (byte c) here more = prepend_read (c ∷ []) more
-continue_raw_string (escape c) here more = prepend_read (c ∷ []) more
+continue_raw_string (byte c) here more = prepend_parsed (c ∷ []) more
+continue_raw_string (escape c) here more = prepend_parsed (c ∷ []) more
 
 -- The string up to a tab or the end. The first skip bytes belong to the item before.
 unfoldable pub raw_string_from : ℕ → List ℕ → Result (List ℕ × List ℕ) FailedCheck
 raw_string_from skip [] = Ok ([], [])
-raw_string_from zero (c ∷ rest) = raw_item c rest >>= λ x. continue_raw_string x (c ∷ rest) (raw_string_from (raw_skip x) rest)
+raw_string_from zero (c ∷ rest) =
+    raw_item c rest >>= λ x. continue_raw_string x (c ∷ rest) (raw_string_from (raw_skip x) rest)
 raw_string_from (suc n) (c ∷ rest) = raw_string_from n rest
 
 abbrev pub raw_string_at : List ℕ → Result (List ℕ × List ℕ) FailedCheck
@@ -97,13 +100,16 @@ pub record AreRawStrings (asked : StringPattern) (given : List Bool) (s p o : Li
   pub o_is : o ≡ asked.o
 
 -- The buffers have the parsed strings, unless memory ran out.
-abbrev pub PutsRawStrings : {X : Type 0} → List ℕ → List ℕ → List ℕ → Result X ReadError → Result StringPattern FailedCheck → Type 0
+abbrev pub PutsRawStrings : {X : Type 0} → List ℕ → List ℕ → List ℕ → Result X ParseError
+    → Result StringPattern FailedCheck → Type 0
 PutsRawStrings s p o (Ok done) read = read ≡ Ok (record { s = s; p = p; o = o })
 PutsRawStrings s p o (Err e) read = Fails e read
 
 -- The result of parsing a line: its request, with the strings in the buffers; or None; or its error, unless memory ran
 -- out.
-abbrev pub ReturnsRawRequest : List ℕ → List ℕ → List ℕ → Result (Option (List Bool)) TermFault → Result (Option StringPattern) TermFault → Type 0
+abbrev pub ReturnsRawRequest : List ℕ → List ℕ → List ℕ → Result (Option (List Bool)) TermFault
+    → Result (Option StringPattern) TermFault → Type 0
 ReturnsRawRequest s p o (Ok None) read = read ≡ Ok None
-ReturnsRawRequest s p o (Ok (Some given)) read = (asked : StringPattern) × (read ≡ Ok (Some asked)) × AreRawStrings asked given s p o
+ReturnsRawRequest s p o (Ok (Some given)) read = (asked : StringPattern) × (read ≡ Ok (Some asked))
+    × AreRawStrings asked given s p o
 ReturnsRawRequest s p o (Err fault) read = (fault ≡ out_of_memory) ⊎ (read ≡ Err fault)

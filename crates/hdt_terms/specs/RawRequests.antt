@@ -6,12 +6,14 @@ use Rattle.hdt_terms.specs.RawRequestParsing.{StringPattern, raw_escape_byte}
 
 -- A byte is encoded unescaped, unless it is a tab or a backslash, or as a backslash and its letter.
 abbrev pub EncodesByte : List ℕ → ℕ → Type 0
-EncodesByte text b = ((text ≡ b ∷ []) × (b ≢ 9) × (b ≢ 92)) ⊎ ((e : ℕ) × (text ≡ 92 ∷ e ∷ []) × (raw_escape_byte e ≡ Some b))
+EncodesByte text b = ((text ≡ b ∷ []) × (b ≢ 9) × (b ≢ 92))
+    ⊎ ((e : ℕ) × (text ≡ 92 ∷ e ∷ []) × (raw_escape_byte e ≡ Some b))
 
 -- The text encodes the string, byte by byte.
 abbrev pub EncodesRawString : List ℕ → List ℕ → Type 0
 EncodesRawString text [] = text ≡ []
-EncodesRawString text (b ∷ bs) = (first : List ℕ) × (rest : List ℕ) × (text ≡ first ++ rest) × EncodesByte first b × EncodesRawString rest bs
+EncodesRawString text (b ∷ bs) = (first : List ℕ) × (rest : List ℕ) × (text ≡ first ++ rest) × EncodesByte first b
+    × EncodesRawString rest bs
 
 -- The encodings of three strings, separated by one tab each.
 pub record EncodesRawRequest (text : List ℕ) (asked : StringPattern) : Type 0 where

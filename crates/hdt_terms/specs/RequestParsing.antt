@@ -3,7 +3,7 @@
 use Rattle.std.specs.Prelude.{◌≡◌, ℕ, Bool, true, false, ◌⊎◌, List, [], ◌∷◌, Option, None, Some, Result, Ok, Err, ◌==◌, if◌then◌else◌}
 use Rattle.hdt_terms.specs.declared.fault.LineReason.TheVariants.{Syntax}
 use Rattle.hdt_terms.specs.declared.fault.FailedCheck.{FailedCheck}
-use Rattle.hdt_terms.specs.declared.fault.ReadError.{ReadError}
+use Rattle.hdt_terms.specs.declared.fault.ParseError.{ParseError}
 use Rattle.hdt_terms.specs.declared.fault.TermFault.{TermFault}
 use Rattle.hdt_wire.specs.declared.role.Role.{Role}
 use Rattle.hdt_wire.specs.declared.role.Role.TheVariants.{Subject, Predicate, Object}
@@ -22,7 +22,7 @@ unfoldable pub pattern_term_at : Role → List ℕ → Result (Option Term × Li
 pattern_term_at role [] = stops Syntax []
 pattern_term_at role (c ∷ rest) = if c == 63 then Ok (None, rest) else role_term_at role (c ∷ rest) >>= as_pattern_term
 
--- The same after whitespace.
+-- ?, or the term of the role, after whitespace.
 unfoldable pub pattern_term_after_whitespace : Role → List ℕ → Result (Option Term × List ℕ) FailedCheck
 pattern_term_after_whitespace role bytes = pattern_term_at role (skip_whitespace bytes)
 
@@ -31,7 +31,7 @@ abbrev pub optional_stop_at : List ℕ → Result (Unit {0}) FailedCheck
 optional_stop_at [] = Ok tt
 optional_stop_at (c ∷ rest) = if c == 46 then comment_or_end_at (skip_whitespace rest) else comment_or_end_at (c ∷ rest)
 
--- The same after whitespace.
+-- The optional full stop after whitespace.
 unfoldable pub optional_stop_after_whitespace : List ℕ → Result (Unit {0}) FailedCheck
 optional_stop_after_whitespace bytes = optional_stop_at (skip_whitespace bytes)
 
@@ -64,8 +64,10 @@ pattern_term_string None = []
 pattern_term_string (Some term) = dictionary_string term
 
 -- The buffer has the string of the parsed term or ?, unless memory ran out.
-abbrev pub PutsPatternTerm : {X : Type 0} → (X → Bool) → (X → List ℕ) → List ℕ → Result X ReadError → Result (Option Term × List ℕ) FailedCheck → Type 0
-PutsPatternTerm given left out (Ok x) read = (part : Option Term) × (read ≡ Ok (part, left x)) × (given x ≡ is_given part) × (out ≡ pattern_term_string part)
+abbrev pub PutsPatternTerm : {X : Type 0} → (X → Bool) → (X → List ℕ) → List ℕ → Result X ParseError
+    → Result (Option Term × List ℕ) FailedCheck → Type 0
+PutsPatternTerm given left out (Ok x) read = (part : Option Term) × (read ≡ Ok (part, left x))
+    × (given x ≡ is_given part) × (out ≡ pattern_term_string part)
 PutsPatternTerm given left out (Err e) read = Fails e read
 
 -- given says which terms are given, and s, p, o are their strings.
@@ -76,13 +78,16 @@ pub record ArePatternStrings (asked : TermPattern) (given : List Bool) (s p o : 
   pub o_is : o ≡ pattern_term_string asked.o
 
 -- The buffers have the strings of the parsed request, unless memory ran out.
-abbrev pub PutsPattern : List ℕ → List ℕ → List ℕ → Result (List Bool) ReadError → Result TermPattern FailedCheck → Type 0
+abbrev pub PutsPattern : List ℕ → List ℕ → List ℕ → Result (List Bool) ParseError → Result TermPattern FailedCheck
+    → Type 0
 PutsPattern s p o (Ok given) read = (asked : TermPattern) × (read ≡ Ok asked) × ArePatternStrings asked given s p o
 PutsPattern s p o (Err e) read = Fails e read
 
 -- The result of parsing a line: its request, with the strings in the buffers; or None; or its error, unless memory ran
 -- out.
-abbrev pub ReturnsRequest : List ℕ → List ℕ → List ℕ → Result (Option (List Bool)) TermFault → Result (Option TermPattern) TermFault → Type 0
+abbrev pub ReturnsRequest : List ℕ → List ℕ → List ℕ → Result (Option (List Bool)) TermFault
+    → Result (Option TermPattern) TermFault → Type 0
 ReturnsRequest s p o (Ok None) read = read ≡ Ok None
-ReturnsRequest s p o (Ok (Some given)) read = (asked : TermPattern) × (read ≡ Ok (Some asked)) × ArePatternStrings asked given s p o
+ReturnsRequest s p o (Ok (Some given)) read = (asked : TermPattern) × (read ≡ Ok (Some asked))
+    × ArePatternStrings asked given s p o
 ReturnsRequest s p o (Err fault) read = (fault ≡ out_of_memory) ⊎ (read ≡ Err fault)

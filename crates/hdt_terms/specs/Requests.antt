@@ -35,7 +35,7 @@ pub record EncodesRequest (text : List ℕ) (asked : TermPattern) : Type 0 where
   pub before_p : List ℕ
   pub before_o : List ℕ
   pub before_stop : List ℕ
-  pub blanks : IsWhitespace before_s × IsWhitespace before_p × IsWhitespace before_o × IsWhitespace before_stop
+  pub whitespace : IsWhitespace before_s × IsWhitespace before_p × IsWhitespace before_o × IsWhitespace before_stop
   pub s : List ℕ
   pub p : List ℕ
   pub o : List ℕ
@@ -45,7 +45,7 @@ pub record EncodesRequest (text : List ℕ) (asked : TermPattern) : Type 0 where
   pub predicate : EncodesPatternTerm IsPredicate p asked.p
   pub object : EncodesPatternTerm IsObject o asked.o
   pub is_stop : IsOptionalStop stop
-  pub bare : IsBlankOrComment behind
+  pub trailing : IsBlankOrComment behind
   pub whole : text ≡ before_s ++ (s ++ (before_p ++ (p ++ (before_o ++ (o ++ (before_stop ++ (stop ++ behind)))))))
 
 -- The text is a line, without its end, that requests this pattern or nothing.

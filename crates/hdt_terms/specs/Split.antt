@@ -5,14 +5,15 @@ use Rattle.std.specs.List.{filter_map}
 use Rattle.hdt_terms.specs.declared.fault.LineFault.{LineFault}
 use Rattle.hdt_terms.specs.declared.fault.LineReason.TheVariants.{Read}
 use Rattle.hdt_terms.specs.declared.split.SplitFault.{SplitFault}
-use Rattle.hdt_terms.specs.declared.split.SplitFault.TheVariants as stops
+use Rattle.hdt_terms.specs.declared.split.SplitFault.TheVariants as faults
 use Rattle.hdt_terms.specs.declared.split.SplitReport.{SplitReport}
 use Rattle.hdt_terms.specs.declared.triple.Triple.{Triple}
 use Rattle.hdt_wire.specs.declared.role.Role.TheVariants.{Subject, Predicate}
 use Rattle.hdt_terms.specs.declared.fault.FailedCheck.{FailedCheck}
 use Rattle.hdt_terms.specs.LineParsing.{line_in, role_term_after_whitespace}
 use Rattle.hdt_terms.specs.TermParsing.{◌>>=◌, skip_whitespace}
-use Rattle.hdt_terms.specs.Lint.{AreDocumentLines, BeginsWithLines, DocumentLine, FaultAfterDocumentLines, GainsAllBut, GainsPrefix, fault_of_line, faulty_lines}
+use Rattle.hdt_terms.specs.Documents.{AreDocumentLines, BeginsWithLines, DocumentLine, FaultAfterDocumentLines}
+use Rattle.hdt_terms.specs.Lint.{GainsAllBut, GainsPrefix, fault_of_line, faulty_lines}
 use Rattle.hdt_terms.specs.Parts.{part_of_string}
 use Rattle.hdt_terms.specs.Terms.{dictionary_string}
 
@@ -37,21 +38,22 @@ is_blank_string (c ∷ rest) = c == 95
 
 abbrev pub has_blank_node : Option Triple → Bool
 has_blank_node None = false
-has_blank_node (Some triple) = is_blank_string (dictionary_string triple.s) || is_blank_string (dictionary_string triple.o)
+has_blank_node (Some triple) =
+    is_blank_string (dictionary_string triple.s) || is_blank_string (dictionary_string triple.o)
 
 -- Whether a line has a blank node.
 abbrev pub have_blank_nodes : List DocumentLine → Bool
 have_blank_nodes [] = false
 have_blank_nodes (line ∷ lines) = has_blank_node (triple_of_line line) || have_blank_nodes lines
 
--- The number of the last line that is not empty: what follows the last line end counts only if there is something.
-abbrev pub number_if_some : ℕ → ℕ → List ℕ → ℕ
-number_if_some before number [] = before
-number_if_some before number (b ∷ bytes) = number
+-- The number of a line unless it is empty: what follows the last line end counts only if there is something.
+abbrev pub number_if_nonempty : ℕ → ℕ → List ℕ → ℕ
+number_if_nonempty before number [] = before
+number_if_nonempty before number (b ∷ bytes) = number
 
 abbrev pub last_number : ℕ → List DocumentLine → ℕ
 last_number before [] = before
-last_number before (line ∷ lines) = last_number (number_if_some before line.number (line.text ++ line.end)) lines
+last_number before (line ∷ lines) = last_number (number_if_nonempty before line.number (line.text ++ line.end)) lines
 
 -- What a split reports of lines.
 pub record IsReportOf (lines : List DocumentLine) (report : SplitReport) : Type 0 where
@@ -67,31 +69,37 @@ prefix_label prefix [] = []
 prefix_label prefix (a ∷ []) = a ∷ []
 prefix_label prefix (a ∷ b ∷ label) = if a == 95 then a ∷ b ∷ (prefix ++ label) else a ∷ b ∷ label
 
--- The number and the part of a line with a triple: that of its subject's string, with the prefix. Lines are numbered from 1, so 0 is none.
-pub record Place : Type 0 where
+-- The number of a line with a triple, and the part of its subject's string, with the prefix. Lines are numbered from 1,
+-- so the number 0 means that there is none.
+pub record TripleLine : Type 0 where
   pub number : ℕ
   pub part : ℕ
 
-abbrev pub place_of : List ℕ → ℕ → Place → ℕ → Option Triple → Place
-place_of prefix parts before number None = before
-place_of prefix parts before number (Some triple) = record { number = number; part = part_of_string parts (prefix_label prefix (dictionary_string triple.s)) }
+-- The line of this number and triple, or `before` if it has none.
+abbrev pub triple_line_or_before : List ℕ → ℕ → TripleLine → ℕ → Option Triple → TripleLine
+triple_line_or_before prefix parts before number None = before
+triple_line_or_before prefix parts before number (Some triple) =
+    record { number = number; part = part_of_string parts (prefix_label prefix (dictionary_string triple.s)) }
 
--- The place of the last line with a triple: this line, or the one before.
-abbrev pub last_place : List ℕ → ℕ → Place → DocumentLine → Place
-last_place prefix parts before line = place_of prefix parts before line.number (triple_of_line line)
+-- The last line with a triple: this line, or the one before.
+abbrev pub triple_line_after : List ℕ → ℕ → TripleLine → DocumentLine → TripleLine
+triple_line_after prefix parts before line = triple_line_or_before prefix parts before line.number (triple_of_line line)
 
-abbrev pub last_place_of : List ℕ → ℕ → Place → List DocumentLine → Place
-last_place_of prefix parts before [] = before
-last_place_of prefix parts before (line ∷ lines) = last_place_of prefix parts (last_place prefix parts before line) lines
+-- The last line with a triple up to these lines; `before` is the last one before them.
+abbrev pub last_triple_line : List ℕ → ℕ → TripleLine → List DocumentLine → TripleLine
+last_triple_line prefix parts before [] = before
+last_triple_line prefix parts before (line ∷ lines) =
+    last_triple_line prefix parts (triple_line_after prefix parts before line) lines
 
 -- The end of a line, or U+000A for the last line, which has none.
 abbrev pub end_or_feed : List ℕ → List ℕ
 end_or_feed [] = 10 ∷ []
 end_or_feed (e ∷ more) = e ∷ more
 
--- The same after whitespace.
+-- `prefix_label` after leading whitespace.
 abbrev pub prefix_first_label : List ℕ → List ℕ → List ℕ
-prefix_first_label prefix bytes = take (length bytes - length (skip_whitespace bytes)) bytes ++ prefix_label prefix (skip_whitespace bytes)
+prefix_first_label prefix bytes = take (length bytes - length (skip_whitespace bytes)) bytes
+    ++ prefix_label prefix (skip_whitespace bytes)
 
 -- What follows the subject and the predicate of a line.
 unfoldable pub object_at : List ℕ → Result (List ℕ) FailedCheck
@@ -100,7 +108,8 @@ object_at text =
     role_term_after_whitespace Predicate s.1 >>= λ p. Ok p.1
 
 abbrev pub prefix_labels_at : List ℕ → List ℕ → Result (List ℕ) FailedCheck → List ℕ
-prefix_labels_at prefix text (Ok rest) = prefix_first_label prefix (take (length text - length rest) text) ++ prefix_first_label prefix rest
+prefix_labels_at prefix text (Ok rest) = prefix_first_label prefix (take (length text - length rest) text)
+    ++ prefix_first_label prefix rest
 prefix_labels_at prefix text (Err stop) = text
 
 -- The text of a line with the prefix, unless it is empty, before the labels of the subject and the object.
@@ -109,45 +118,52 @@ prefix_labels [] text = text
 prefix_labels (c ∷ prefix) text = prefix_labels_at (c ∷ prefix) text (object_at text)
 
 -- The line with its end, and the prefix before its labels.
-abbrev pub whole_line : List ℕ → DocumentLine → List ℕ
-whole_line prefix line = prefix_labels prefix line.text ++ end_or_feed line.end
+abbrev pub prefixed_line : List ℕ → DocumentLine → List ℕ
+prefixed_line prefix line = prefix_labels prefix line.text ++ end_or_feed line.end
 
--- The line with its end, if it has this place.
-abbrev pub line_of_part : List ℕ → ℕ → Place → DocumentLine → List ℕ
-line_of_part prefix part place line = if place.part == part && place.number == line.number then whole_line prefix line else []
+-- The line with its end, if it is the last line with a triple and that has this part.
+abbrev pub line_if_in_part : List ℕ → ℕ → TripleLine → DocumentLine → List ℕ
+line_if_in_part prefix part last line =
+    if last.part == part && last.number == line.number then prefixed_line prefix line else []
 
--- The same for lines; before is the place of the last line with a triple before them.
-abbrev pub part_lines_from : List ℕ → ℕ → Place → ℕ → List DocumentLine → List ℕ
-part_lines_from prefix parts before part [] = []
-part_lines_from prefix parts before part (line ∷ lines) = line_of_part prefix part (last_place prefix parts before line) line ++ part_lines_from prefix parts (last_place prefix parts before line) part lines
+-- The lines of the part among these; `before` is the last line with a triple before them.
+abbrev pub further_part_lines : List ℕ → ℕ → TripleLine → ℕ → List DocumentLine → List ℕ
+further_part_lines prefix parts before part [] = []
+further_part_lines prefix parts before part (line ∷ lines) =
+    line_if_in_part prefix part (triple_line_after prefix parts before line) line
+    ++ further_part_lines prefix parts (triple_line_after prefix parts before line) part lines
 
-abbrev pub no_place : Place
-no_place = record { number = 0; part = 0 }
+abbrev pub no_triple_line : TripleLine
+no_triple_line = record { number = 0; part = 0 }
 
--- The lines with a triple whose subject, with the prefix, has this part, each with its end and the prefix before its labels, in order. U+000A after U+000D has the number of
--- its line, so it goes with it.
+-- The lines with a triple whose subject, with the prefix, has this part, each with its end and the prefix before its
+-- labels, in order. U+000A after U+000D has the number of its line, so it goes with it.
 abbrev pub part_lines : List ℕ → ℕ → List DocumentLine → ℕ → List ℕ
-part_lines prefix parts lines part = part_lines_from prefix parts no_place part lines
+part_lines prefix parts lines part = further_part_lines prefix parts no_triple_line part lines
 
 -- ---- what the writers have gained
 
 -- Each writer has gained the text of its part.
 abbrev pub EachGains : List (Option (List ℕ)) → List (Option (List ℕ)) → (ℕ → List ℕ) → Type 0
-EachGains before after text = (length after ≡ length before) × ((part : ℕ) → part < length before → Appends (get_or before part None) (get_or after part None) (text part))
+EachGains before after text = (length after ≡ length before)
+    × ((part : ℕ) → part < length before → Appends (get_or before part None) (get_or after part None) (text part))
 
 -- Each writer has gained a prefix of the text of its part.
 abbrev pub EachGainsPrefix : List (Option (List ℕ)) → List (Option (List ℕ)) → (ℕ → List ℕ) → Type 0
-EachGainsPrefix before after text = (length after ≡ length before) × ((part : ℕ) → part < length before → GainsPrefix (get_or before part None) (get_or after part None) (text part))
+EachGainsPrefix before after text = (length after ≡ length before)
+    × ((part : ℕ) → part < length before → GainsPrefix (get_or before part None) (get_or after part None) (text part))
 
--- The same, and the rest of each text is pending.
+-- Each writer has gained the text of its part but for its last bytes, which are pending.
 abbrev pub EachGainsAllBut : List (Option (List ℕ)) → List (Option (List ℕ)) → (ℕ → List ℕ) → List (List ℕ) → Type 0
 EachGainsAllBut before after text pending = (length after ≡ length before) × (length pending ≡ length before)
-    × ((part : ℕ) → part < length before → GainsAllBut (get_or before part None) (get_or after part None) (text part) (get_or pending part []))
+    × ((part : ℕ) → part < length before
+    → GainsAllBut (get_or before part None) (get_or after part None) (text part) (get_or pending part []))
 
 -- ---- complete and interrupted runs
 
 -- No line of the input is faulty, and each writer has gained the lines of its part.
-pub record SplitsInput (prefix : List ℕ) (input : Option (List ℕ)) (before after : List (Option (List ℕ))) (report : SplitReport) : Type 0 where
+pub record SplitsInput (prefix : List ℕ) (input : Option (List ℕ)) (before after : List (Option (List ℕ)))
+    (report : SplitReport) : Type 0 where
   pub lines : List DocumentLine
   pub are : AreDocumentLines input lines
   pub right : faulty_lines lines ≡ []
@@ -158,16 +174,19 @@ pub record SplitsInput (prefix : List ℕ) (input : Option (List ℕ)) (before a
 -- reader has left after the error.
 abbrev pub IsFaultAfter : LineFault → Option (List ℕ) → Option (List ℕ) → List DocumentLine → Type 0
 IsFaultAfter fault input given lines =
-    ((line : DocumentLine) × BeginsWithLines input (lines ++ line ∷ []) × (fault_of_line line ≡ Some fault)) ⊎ FaultAfterDocumentLines fault input given lines
+    ((line : DocumentLine) × BeginsWithLines input (lines ++ line ∷ []) × (fault_of_line line ≡ Some fault))
+    ⊎ FaultAfterDocumentLines fault input given lines
 
 -- A line is the cause, or a writer that there is.
 abbrev pub IsSplitFaultAfter : ℕ → SplitFault → Option (List ℕ) → Option (List ℕ) → List DocumentLine → Type 0
-IsSplitFaultAfter parts (stops.Line fault) input given lines = IsFaultAfter fault input given lines
-IsSplitFaultAfter parts (stops.Write part) input given lines = part < parts
-IsSplitFaultAfter parts stops.OutOfMemory input given lines = Unit {0}
+IsSplitFaultAfter parts (faults.Line fault) input given lines = IsFaultAfter fault input given lines
+IsSplitFaultAfter parts (faults.Write part) input given lines = part < parts
+IsSplitFaultAfter parts faults.OutOfMemory input given lines = Unit {0}
 
--- An error ended the run after some lines, none of them faulty: each writer has gained a prefix of the lines of its part.
-pub record SplitsUntilFault (prefix : List ℕ) (input given : Option (List ℕ)) (before after : List (Option (List ℕ))) (fault : SplitFault) : Type 0 where
+-- An error ended the run after some lines, none of them faulty: each writer has gained a prefix of the lines of its
+-- part.
+pub record SplitsUntilFault (prefix : List ℕ) (input given : Option (List ℕ)) (before after : List (Option (List ℕ)))
+    (fault : SplitFault) : Type 0 where
   pub lines : List DocumentLine
   pub are : BeginsWithLines input lines
   pub right : faulty_lines lines ≡ []
@@ -176,5 +195,5 @@ pub record SplitsUntilFault (prefix : List ℕ) (input given : Option (List ℕ)
 
 -- The reader failed.
 abbrev pub IsSplitReadFault : SplitFault → Type 0
-IsSplitReadFault (stops.Line fault) = fault.reason ≡ Read
+IsSplitReadFault (faults.Line fault) = fault.reason ≡ Read
 IsSplitReadFault fault = ⊥

@@ -3,8 +3,8 @@ use Rattle.std.specs.Prelude.{◌≡◌, ℕ, zero, suc, ◌&&◌, List, [], ◌
 use Rattle.hdt_terms.specs.declared.fault.LineReason.{LineReason}
 use Rattle.hdt_terms.specs.declared.fault.LineReason.TheVariants.{Syntax, BadEscape, RelativeIri, IriCharacter, ZeroCharacter}
 use Rattle.hdt_terms.specs.declared.fault.FailedCheck.{FailedCheck}
-use Rattle.hdt_terms.specs.declared.fault.ReadError.{ReadError}
-use Rattle.hdt_terms.specs.declared.fault.ReadError.TheVariants as errors
+use Rattle.hdt_terms.specs.declared.fault.ParseError.{ParseError}
+use Rattle.hdt_terms.specs.declared.fault.ParseError.TheVariants as errors
 use Rattle.hdt_terms.specs.declared.escaped_tokens.TokenItem.{TokenItem}
 use Rattle.hdt_terms.specs.declared.escaped_tokens.TokenItem.TheVariants.{End, Byte, Char}
 use Rattle.hdt_terms.specs.declared.escaped_tokens.Token.{Token}
@@ -28,16 +28,16 @@ abbrev pub ◌>>=◌ : {A B : Type 0} → Result A FailedCheck → (A → Result
 (Err e) >>= f = Err e
 
 -- Parsing fails at the check of the error. Nothing is claimed if memory ran out.
-abbrev pub Fails : {Y : Type 0} → ReadError → Result Y FailedCheck → Type 0
-Fails errors.Memory read = Unit {0}
-Fails (errors.Fault f) read = read ≡ Err f
+abbrev pub Fails : {Y : Type 0} → ParseError → Result Y FailedCheck → Type 0
+Fails errors.OutOfMemory read = Unit {0}
+Fails (errors.Check f) read = read ≡ Err f
 
 -- A function returned what parsing gives, compared by view, unless memory ran out.
-abbrev pub ReturnsUnlessOom : {X Y : Type 0} → (X → Y) → Result X ReadError → Result Y FailedCheck → Type 0
+abbrev pub ReturnsUnlessOom : {X Y : Type 0} → (X → Y) → Result X ParseError → Result Y FailedCheck → Type 0
 ReturnsUnlessOom view (Ok x) read = read ≡ Ok (view x)
 ReturnsUnlessOom view (Err e) read = Fails e read
 
--- A check with this reason fails at the front of rest.
+-- A check with this reason fails at the start of rest.
 abbrev pub stops : {A : Type 0} → LineReason → List ℕ → Result A FailedCheck
 stops reason rest = Err (record { left = length rest; reason = reason })
 
@@ -53,10 +53,10 @@ uchar [] = None
 uchar (k ∷ ds) = if k == 117 then hex_escape 4 ds else if k == 85 then hex_escape 8 ds else None
 
 -- Parsing gives front and then what read gives.
-abbrev pub prepend_read : List ℕ → Result (List ℕ × List ℕ) FailedCheck → Result (List ℕ × List ℕ) FailedCheck
-prepend_read front read = read >>= λ x. Ok (front ++ x.0, x.1)
+abbrev pub prepend_parsed : List ℕ → Result (List ℕ × List ℕ) FailedCheck → Result (List ℕ × List ℕ) FailedCheck
+prepend_parsed front read = read >>= λ x. Ok (front ++ x.0, x.1)
 
--- The item of an escape in an IRI, which starts at the front of left.
+-- The item of an escape in an IRI, which starts at the start of left.
 abbrev pub iri_escape : Option (ℕ × ℕ) → List ℕ → Result TokenItem FailedCheck
 iri_escape None left = stops BadEscape left
 iri_escape (Some e) left =
@@ -100,8 +100,8 @@ skip_of _ = 0
 
 abbrev pub goes_on : TokenItem → List ℕ → Result (List ℕ × List ℕ) FailedCheck → Result (List ℕ × List ℕ) FailedCheck
 goes_on End rest more = Ok ([], rest)
-goes_on (Byte c) rest more = prepend_read (c ∷ []) more
-goes_on (Char c n) rest more = prepend_read (encode_utf8 c) more
+goes_on (Byte c) rest more = prepend_parsed (c ∷ []) more
+goes_on (Char c n) rest more = prepend_parsed (encode_utf8 c) more
 
 -- The content of an IRI or a string, and the bytes after its end. The first skip bytes belong to the item before.
 unfoldable pub token_content : Token → ℕ → List ℕ → Result (List ℕ × List ℕ) FailedCheck
@@ -126,7 +126,8 @@ cut_label (Some n) left rest = Ok (take n rest, drop n rest)
 
 -- The label of the blank node that starts here, and the bytes after it.
 unfoldable pub blank_at : List ℕ → Result (List ℕ × List ℕ) FailedCheck
-blank_at (u ∷ v ∷ rest) = if u == 95 && v == 58 then cut_label (label_bytes (chars rest)) (u ∷ v ∷ rest) rest else stops Syntax (u ∷ v ∷ rest)
+blank_at (u ∷ v ∷ rest) =
+    if u == 95 && v == 58 then cut_label (label_bytes (chars rest)) (u ∷ v ∷ rest) rest else stops Syntax (u ∷ v ∷ rest)
 blank_at left = stops Syntax left
 
 -- The bytes after leading tabs and spaces.
@@ -153,13 +154,15 @@ as_datatype x = Ok (datatype_of x.0, x.1)
 
 -- The datatype that starts here with ^^, and the bytes after it.
 unfoldable pub datatype_at : List ℕ → Result (Suffix × List ℕ) FailedCheck
-datatype_at (c ∷ d ∷ rest) = if c == 94 && d == 94 then iri_at (skip_whitespace rest) >>= as_datatype else stops Syntax (c ∷ d ∷ rest)
+datatype_at (c ∷ d ∷ rest) =
+    if c == 94 && d == 94 then iri_at (skip_whitespace rest) >>= as_datatype else stops Syntax (c ∷ d ∷ rest)
 datatype_at left = stops Syntax left
 
 -- Whitespace belongs to the literal only if @ or ^ follows.
 abbrev pub suffix_after : List ℕ → List ℕ → Result (Suffix × List ℕ) FailedCheck
 suffix_after bytes [] = Ok (Plain, bytes)
-suffix_after bytes (c ∷ rest) = if c == 64 then tag_at (c ∷ rest) else if c == 94 then datatype_at (c ∷ rest) else Ok (Plain, bytes)
+suffix_after bytes (c ∷ rest) =
+    if c == 64 then tag_at (c ∷ rest) else if c == 94 then datatype_at (c ∷ rest) else Ok (Plain, bytes)
 
 -- The suffix after the closing quote, and the bytes after it.
 unfoldable pub suffix_at : List ℕ → Result (Suffix × List ℕ) FailedCheck

@@ -12,7 +12,7 @@ use std::io::Read;
 use std::marker::Model;
 
 /// The initial capacity in bytes.
-const PIECE: usize = 65536;
+const BUFFER_CAPACITY: usize = 65536;
 
 /// A buffer: the bytes of a vector from `start` to `end`. Contracts see only these bytes.
 #[derive(Drop)]
@@ -61,7 +61,8 @@ fn read_at<R: Read>(
     ensures len { vec_len bytes.new ≡ vec_len bytes.old }
     ensures front { take at bytes.new.items ≡ take at bytes.old.items }
     ensures bound { IfOk result (λ n. (at + n ≤ vec_len bytes.new) × (n ≤ most)) }
-    ensures ok { IfOk result (λ n. Consumes (R.remaining (inner input.old)) (R.remaining (inner input.new)) (take n (drop at bytes.new.items))
+    ensures ok { IfOk result (λ n. Consumes (R.remaining (inner input.old)) (R.remaining (inner input.new))
+        (take n (drop at bytes.new.items))
         × (n ≡ 0 → at < vec_len bytes.new → 0 < most → IsAtEnd (R.remaining (inner input.new)))) }
     ensures err { OnErr result (Keeps (R.remaining (inner input.old)) (R.remaining (inner input.new))) }
     ensures count { OnOk result (failures input.new ≡ failures input.old) }
@@ -77,7 +78,7 @@ impl Buffer {
         ensures { IfOk result (λ b. b ≡ []) }
     {
         Ok(Buffer {
-            bytes: vec![in alloc; 0u8; PIECE]?,
+            bytes: vec![in alloc; 0u8; BUFFER_CAPACITY]?,
             start: 0,
             end: 0,
         })
@@ -112,7 +113,8 @@ impl Buffer {
         input: &mut Counted<R>,
     ) -> Result<usize, LineReason>
         requires { 0 < most }
-        ensures does { ReadOnce result self.old self.new (R.remaining (inner input.old)) (R.remaining (inner input.new)) }
+        ensures does { ReadOnce result self.old self.new (R.remaining (inner input.old))
+            (R.remaining (inner input.new)) }
         ensures most { IfOk result (λ n. n ≤ most) }
         ensures count { OnOk result (failures input.new ≡ failures input.old) }
         ensures failed { IsErrOf result Read → failures input.new ≡ failures input.old + 1 }

@@ -1,7 +1,7 @@
 //! The length of a run of bytes of one class, 16 at a time.
 ghost use Rattle.std.specs.Prelude.{◌≡◌, ◌+◌, ◌<◌, ◌≤◌, false, length, map, slice_index};
 ghost use Rattle.hdt_terms.specs.declared.escaped_tokens.Token.TheVariants.{Iri, Quoted};
-ghost use Rattle.hdt_terms.specs.declared.byte_runs.ByteClass.TheVariants.{Inside, AsciiText, Text, AsciiLine};
+ghost use Rattle.hdt_terms.specs.declared.byte_runs.ByteClass.TheVariants.{Unescaped, NonzeroAscii, NotLineEnd, AsciiNotLineEnd};
 ghost use Rattle.hdt_terms.specs.Chars.{is_line_end};
 ghost use Rattle.hdt_wire.specs.Masks.{first_set};
 ghost use Rattle.hdt_terms.specs.Inside.ByteRuns.{IsRunOfBytes, PassBetween, bit_by_high, excluded_by_low, passes};
@@ -14,13 +14,13 @@ use std::simd::prelude::*;
 #[derive(Clone, Copy)]
 pub(crate) enum ByteClass {
     /// Those that may occur unescaped in the token.
-    Inside(Token),
+    Unescaped(Token),
     /// Those from 1 to 127.
-    AsciiText,
+    NonzeroAscii,
     /// Those that are no line end.
-    Text,
+    NotLineEnd,
     /// Those below 128 that are no line end.
-    AsciiLine,
+    AsciiNotLineEnd,
 }
 
 /// The number of bytes of one load.
@@ -66,7 +66,7 @@ fn bit_by_high(v: u8x16) -> u8x16
 #[inline(always)]
 fn iri_run(bytes: &[u8], at: usize) -> usize
     requires { at + LANES ≤ length bytes.now }
-    ensures { IsRunOfBytes (passes (Inside Iri)) bytes.now at LANES result }
+    ensures { IsRunOfBytes (passes (Unescaped Iri)) bytes.now at LANES result }
 {
     let v = u8x16::from_slice(&bytes[at..]);
     let excluded = excluded_by_low(v) & bit_by_high(v);
@@ -77,7 +77,7 @@ fn iri_run(bytes: &[u8], at: usize) -> usize
 #[inline(always)]
 fn string_run(bytes: &[u8], at: usize) -> usize
     requires { at + LANES ≤ length bytes.now }
-    ensures { IsRunOfBytes (passes (Inside Quoted)) bytes.now at LANES result }
+    ensures { IsRunOfBytes (passes (Unescaped Quoted)) bytes.now at LANES result }
 {
     let v = u8x16::from_slice(&bytes[at..]);
     let stops = v.simd_eq(u8x16::splat(b'"'))
@@ -90,9 +90,9 @@ fn string_run(bytes: &[u8], at: usize) -> usize
 
 /// The number of leading bytes that are ASCII but not U+0000.
 #[inline(always)]
-fn ascii_text_run(bytes: &[u8], at: usize) -> usize
+fn nonzero_ascii_run(bytes: &[u8], at: usize) -> usize
     requires { at + LANES ≤ length bytes.now }
-    ensures { IsRunOfBytes (passes AsciiText) bytes.now at LANES result }
+    ensures { IsRunOfBytes (passes NonzeroAscii) bytes.now at LANES result }
 {
     let v = u8x16::from_slice(&bytes[at..]);
     let stops = v.simd_eq(u8x16::splat(0)) | v.simd_ge(u8x16::splat(0x80));
@@ -101,9 +101,9 @@ fn ascii_text_run(bytes: &[u8], at: usize) -> usize
 
 /// The number of leading bytes that are no line end.
 #[inline(always)]
-fn text_run(bytes: &[u8], at: usize) -> usize
+fn not_line_end_run(bytes: &[u8], at: usize) -> usize
     requires { at + LANES ≤ length bytes.now }
-    ensures { IsRunOfBytes (passes Text) bytes.now at LANES result }
+    ensures { IsRunOfBytes (passes NotLineEnd) bytes.now at LANES result }
 {
     let v = u8x16::from_slice(&bytes[at..]);
     let stops = v.simd_eq(u8x16::splat(b'\n')) | v.simd_eq(u8x16::splat(b'\r'));
@@ -112,9 +112,9 @@ fn text_run(bytes: &[u8], at: usize) -> usize
 
 /// The number of leading bytes that are ASCII but no line end.
 #[inline(always)]
-fn ascii_line_run(bytes: &[u8], at: usize) -> usize
+fn ascii_not_line_end_run(bytes: &[u8], at: usize) -> usize
     requires { at + LANES ≤ length bytes.now }
-    ensures { IsRunOfBytes (passes AsciiLine) bytes.now at LANES result }
+    ensures { IsRunOfBytes (passes AsciiNotLineEnd) bytes.now at LANES result }
 {
     let v = u8x16::from_slice(&bytes[at..]);
     let stops = v.simd_eq(u8x16::splat(b'\n'))
@@ -130,11 +130,11 @@ fn load_run(class: ByteClass, bytes: &[u8], at: usize) -> usize
     ensures { IsRunOfBytes (passes class) bytes.now at LANES result }
 {
     match class {
-        ByteClass::Inside(Token::Iri) => iri_run(bytes, at),
-        ByteClass::Inside(Token::Quoted) => string_run(bytes, at),
-        ByteClass::AsciiText => ascii_text_run(bytes, at),
-        ByteClass::Text => text_run(bytes, at),
-        ByteClass::AsciiLine => ascii_line_run(bytes, at),
+        ByteClass::Unescaped(Token::Iri) => iri_run(bytes, at),
+        ByteClass::Unescaped(Token::Quoted) => string_run(bytes, at),
+        ByteClass::NonzeroAscii => nonzero_ascii_run(bytes, at),
+        ByteClass::NotLineEnd => not_line_end_run(bytes, at),
+        ByteClass::AsciiNotLineEnd => ascii_not_line_end_run(bytes, at),
     }
 }
 
@@ -143,10 +143,10 @@ fn passes(class: ByteClass, byte: u8) -> bool
     ensures { result ≡ passes class byte }
 {
     match class {
-        ByteClass::Inside(token) => is_unescaped(token, byte),
-        ByteClass::AsciiText => byte != 0 && byte.is_ascii(),
-        ByteClass::Text => !is_line_end(byte),
-        ByteClass::AsciiLine => !is_line_end(byte) && byte.is_ascii(),
+        ByteClass::Unescaped(token) => is_unescaped(token, byte),
+        ByteClass::NonzeroAscii => byte != 0 && byte.is_ascii(),
+        ByteClass::NotLineEnd => !is_line_end(byte),
+        ByteClass::AsciiNotLineEnd => !is_line_end(byte) && byte.is_ascii(),
     }
 }
 

@@ -3,14 +3,14 @@ ghost use Rattle.std.specs.Prelude.{◌≡◌, ◌≤◌, ◌+◌, ◌^◌, ◌<
 ghost use Rattle.std.specs.Prelude.{ℕ, true, slice_index};
 ghost use Rattle.hdt_terms.specs.Chars.{echar};
 ghost use Rattle.hdt_terms.specs.Grammar.{closing_byte, is_unescaped};
-ghost use Rattle.hdt_terms.specs.TermParsing.{ReturnsUnlessOom, hex_escape, uchar, echar_at, iri_item, string_item, item, skip_of, token_content, prepend_read};
-ghost use Rattle.hdt_terms.specs.Appending.{AppendsRead, identity_bytes};
+ghost use Rattle.hdt_terms.specs.TermParsing.{ReturnsUnlessOom, hex_escape, uchar, echar_at, iri_item, string_item, item, skip_of, token_content, prepend_parsed};
+ghost use Rattle.hdt_terms.specs.Appending.{AppendsParsed, identity_bytes};
 ghost use Rattle.hdt_terms.specs.Writing.{Extends};
-ghost use Rattle.hdt_terms.specs.declared.fault.ReadError.TheVariants.{Memory};
+ghost use Rattle.hdt_terms.specs.declared.fault.ParseError.TheVariants.{OutOfMemory};
 
 use crate::byte_runs::{ByteClass, run_len};
 use crate::chars::{hex_value, is_iri_char, is_string_char};
-use crate::fault::{LineReason, ReadError, refuse};
+use crate::fault::{LineReason, ParseError, fail_at};
 use std::alloc::AllocError;
 
 /// A token with escapes: production IRIREF or STRING_LITERAL_QUOTE.
@@ -72,7 +72,7 @@ fn echar(letter: u8) -> Option<char>
     }
 }
 
-/// The character of such an escape, and the number of its bytes after the backslash, which is 1.
+/// The character of an escape of one letter, and the number of its bytes after the backslash, which is 1.
 fn echar_at(rest: &[u8]) -> Option<(char, usize)>
     ensures value { result ≡ echar_at rest.now }
     ensures within { IfSome result (λ x. x.1 ≤ length rest.now) }
@@ -83,7 +83,7 @@ fn echar_at(rest: &[u8]) -> Option<(char, usize)>
 
 /// The item of an IRI that starts with this byte.
 #[tactic(auto, unfolding(crate::specs::TermParsing::iri_item))]
-fn iri_item(first: u8, rest: &[u8]) -> Result<TokenItem, ReadError>
+fn iri_item(first: u8, rest: &[u8]) -> Result<TokenItem, ParseError>
     requires { length rest.now < 2 ^ 63 }
     ensures value { ReturnsUnlessOom (λ x. x) result (iri_item first rest.now) }
     ensures within { IfOk result (λ x. skip_of x ≤ length rest.now) }
@@ -92,19 +92,19 @@ fn iri_item(first: u8, rest: &[u8]) -> Result<TokenItem, ReadError>
     match first {
         b'>' => Ok(TokenItem::End),
         b'\\' => match uchar(rest) {
-            None => refuse(LineReason::BadEscape, left),
-            Some(('\0', _)) => refuse(LineReason::ZeroCharacter, left),
+            None => fail_at(LineReason::BadEscape, left),
+            Some(('\0', _)) => fail_at(LineReason::ZeroCharacter, left),
             Some((c, len)) if is_iri_char(c) => Ok(TokenItem::Char(c, len)),
-            Some(_) => refuse(LineReason::IriCharacter, left),
+            Some(_) => fail_at(LineReason::IriCharacter, left),
         },
         c if is_iri_char(char::from(c)) => Ok(TokenItem::Byte(c)),
-        _ => refuse(LineReason::Syntax, left),
+        _ => fail_at(LineReason::Syntax, left),
     }
 }
 
 /// The item of a string that starts with this byte.
 #[tactic(auto, unfolding(crate::specs::TermParsing::string_item))]
-fn string_item(first: u8, rest: &[u8]) -> Result<TokenItem, ReadError>
+fn string_item(first: u8, rest: &[u8]) -> Result<TokenItem, ParseError>
     requires { length rest.now < 2 ^ 63 }
     ensures value { ReturnsUnlessOom (λ x. x) result (string_item first rest.now) }
     ensures within { IfOk result (λ x. skip_of x ≤ length rest.now) }
@@ -113,18 +113,18 @@ fn string_item(first: u8, rest: &[u8]) -> Result<TokenItem, ReadError>
     match first {
         b'"' => Ok(TokenItem::End),
         b'\\' => match echar_at(rest).or(uchar(rest)) {
-            None => refuse(LineReason::BadEscape, left),
-            Some(('\0', _)) => refuse(LineReason::ZeroCharacter, left),
+            None => fail_at(LineReason::BadEscape, left),
+            Some(('\0', _)) => fail_at(LineReason::ZeroCharacter, left),
             Some((c, len)) => Ok(TokenItem::Char(c, len)),
         },
-        0 => refuse(LineReason::ZeroCharacter, left),
+        0 => fail_at(LineReason::ZeroCharacter, left),
         c if is_string_char(char::from(c)) => Ok(TokenItem::Byte(c)),
-        _ => refuse(LineReason::Syntax, left),
+        _ => fail_at(LineReason::Syntax, left),
     }
 }
 
 /// The item of the token that starts with this byte.
-fn next_item(token: Token, first: u8, rest: &[u8]) -> Result<TokenItem, ReadError>
+fn next_item(token: Token, first: u8, rest: &[u8]) -> Result<TokenItem, ParseError>
     requires { length rest.now < 2 ^ 63 }
     ensures value { ReturnsUnlessOom (λ x. x) result (item token first rest.now) }
     ensures within { IfOk result (λ x. skip_of x ≤ length rest.now) }
@@ -163,16 +163,21 @@ pub(crate) fn plain_len(token: Token, bytes: &[u8]) -> usize
     // The next byte may not.
     ensures longest { result < length bytes.now → is_unescaped token (slice_index bytes.now result) ≡ false }
 {
-    run_len(ByteClass::Inside(token), bytes)
+    run_len(ByteClass::Unescaped(token), bytes)
 }
 
 /// Appends the leading unescaped bytes, and returns what follows them.
 #[inline(always)]
-fn append_plain<'a>(token: Token, bytes: &'a [u8], out: &mut Vec<u8>) -> Result<&'a [u8], ReadError>
-    ensures goes_on { IfOk result (λ rest. prepend_read out.new.items (token_content token 0 rest.now) ≡ prepend_read out.old.items (token_content token 0 bytes.now)) }
+fn append_plain<'a>(
+    token: Token,
+    bytes: &'a [u8],
+    out: &mut Vec<u8>,
+) -> Result<&'a [u8], ParseError>
+    ensures goes_on { IfOk result (λ rest. prepend_parsed out.new.items (token_content token 0 rest.now)
+        ≡ prepend_parsed out.old.items (token_content token 0 bytes.now)) }
     ensures within { IfOk result (λ rest. length rest.now ≤ length bytes.now) }
     ensures kept { Extends out.old.items out.new.items }
-    ensures memory { IfErr result (λ e. e ≡ Memory) }
+    ensures memory { IfErr result (λ e. e ≡ OutOfMemory) }
 {
     let (plain, rest) = bytes.split_at(plain_len(token, bytes));
     out.extend_from_slice(plain)?;
@@ -195,8 +200,9 @@ fn content_by_items<'a>(
     token: Token,
     bytes: &'a [u8],
     out: &mut Vec<u8>,
-) -> Result<&'a [u8], ReadError>
-    ensures reads { AppendsRead identity_bytes out.old.items out.new.items (λ rest. rest.now) result (token_content token 0 bytes.now) }
+) -> Result<&'a [u8], ParseError>
+    ensures reads { AppendsParsed identity_bytes out.old.items out.new.items (λ rest. rest.now) result
+        (token_content token 0 bytes.now) }
     ensures kept { Extends out.old.items out.new.items }
 {
     let mut rest = bytes;
@@ -213,17 +219,18 @@ fn content_by_items<'a>(
             }
         }
     }
-    refuse(LineReason::Syntax, 0)
+    fail_at(LineReason::Syntax, 0)
 }
 
-/// The same, with a fast path if the token ends here.
+/// [`content_by_items`], with a fast path if the token ends here.
 #[inline(always)]
 fn content_at_end<'a>(
     token: Token,
     bytes: &'a [u8],
     out: &mut Vec<u8>,
-) -> Result<&'a [u8], ReadError>
-    ensures reads { AppendsRead identity_bytes out.old.items out.new.items (λ rest. rest.now) result (token_content token 0 bytes.now) }
+) -> Result<&'a [u8], ParseError>
+    ensures reads { AppendsParsed identity_bytes out.old.items out.new.items (λ rest. rest.now) result
+        (token_content token 0 bytes.now) }
     ensures kept { Extends out.old.items out.new.items }
 {
     match bytes.split_first() {
@@ -238,8 +245,9 @@ pub(crate) fn token_content<'a>(
     token: Token,
     bytes: &'a [u8],
     out: &mut Vec<u8>,
-) -> Result<&'a [u8], ReadError>
-    ensures reads { AppendsRead identity_bytes out.old.items out.new.items (λ rest. rest.now) result (token_content token 0 bytes.now) }
+) -> Result<&'a [u8], ParseError>
+    ensures reads { AppendsParsed identity_bytes out.old.items out.new.items (λ rest. rest.now) result
+        (token_content token 0 bytes.now) }
     ensures kept { Extends out.old.items out.new.items }
 {
     let rest = append_plain(token, bytes, out)?;

@@ -4,8 +4,8 @@ ghost use Rattle.hdt_terms.specs.Split.{object_at, prefix_first_label, prefix_la
 ghost use Rattle.hdt_terms.specs.TermParsing.{ReturnsUnlessOom};
 
 use crate::chars::skip_whitespace;
-use crate::fault::ReadError;
-use crate::line::put_role_term;
+use crate::fault::ParseError;
+use crate::line::parse_role_term;
 use hdt_wire::Role;
 use std::alloc::{AllocError, Global};
 
@@ -28,25 +28,25 @@ pub(crate) fn append_prefixed(
     }
 }
 
-/// The same after whitespace.
+/// [`append_prefixed`] after leading whitespace.
 fn append_first_prefixed(prefix: &[u8], bytes: &[u8], out: &mut Vec<u8>) -> Result<(), AllocError>
     ensures { OnOk result (out.new.items ≡ out.old.items ++ prefix_first_label prefix.now bytes.now) }
 {
     let token = skip_whitespace(bytes);
-    let blanks = bytes.len().saturating_sub(token.len());
-    out.extend_from_slice(&bytes[..blanks])?;
+    let whitespace = bytes.len().saturating_sub(token.len());
+    out.extend_from_slice(&bytes[..whitespace])?;
     append_prefixed(prefix, token, out)
 }
 
 /// What follows the subject and the predicate of a line.
 #[tactic(auto, unfolding(crate::specs::Split::object_at))]
-fn find_object(alloc: Global, text: &[u8]) -> Result<&[u8], ReadError>
+fn find_object(alloc: Global, text: &[u8]) -> Result<&[u8], ParseError>
     requires { IsUtf8 text.now }
     ensures { ReturnsUnlessOom (λ rest. rest.now) result (object_at text.now) }
 {
     let mut string = Vec::new(alloc);
-    let rest = put_role_term(Role::Subject, text, &mut string)?;
-    put_role_term(Role::Predicate, rest, &mut string)
+    let rest = parse_role_term(Role::Subject, text, &mut string)?;
+    parse_role_term(Role::Predicate, rest, &mut string)
 }
 
 /// Appends the text of a line, with the prefix, unless it is empty, before the labels of the subject and the object.
@@ -69,7 +69,7 @@ pub(crate) fn append_with_prefix(
             append_first_prefixed(prefix, &text[..before], out)?;
             append_first_prefixed(prefix, rest, out)
         }
-        Err(ReadError::Memory) => Err(AllocError),
-        Err(ReadError::Fault(_)) => out.extend_from_slice(text),
+        Err(ParseError::OutOfMemory) => Err(AllocError),
+        Err(ParseError::Check(_)) => out.extend_from_slice(text),
     }
 }

@@ -18,21 +18,20 @@
 //!
 //! [`Lines`] returns the triples of a document line by line: [`Lines::next_triple`] as terms, which is simple, and
 //! [`Lines::next_strings`] as dictionary strings in the caller's buffers, which is fast. [`Lines::next_prefix`] returns
-//! the text of each line, valid or not; [`read_request`] parses a line as a triple pattern; [`lint_document`] reports
+//! the text of each line, valid or not; [`parse_request`] parses a line as a triple pattern; [`lint_document`] reports
 //! every faulty line. How the reader cuts the input into pieces makes no difference to any of them.
 //!
 //! In reading order: `text` and `triple`, the types; `fault`, the errors; `chars`, character classes; `byte_runs`, runs
-//! of bytes, 16 at a time; `encoding`, UTF-8; the tokens, `escaped_tokens` (the content of IRIs and strings), `iri`,
+//! of bytes, 16 at a time; `utf8`, UTF-8; the tokens, `escaped_tokens` (the content of IRIs and strings), `iri`,
 //! `label` and `tag`; `transcode`, tokens to dictionary strings; `term_refs`, terms that borrow their texts; `strings`,
 //! dictionary strings to terms and back; `parse`, one term; `line`, one line; `request` and `raw_request`, a line that
-//! requests triples; `buffer`, `line_buffer`, `lines`, `line_prefix` and `whole_line`, the lines of a reader; `lint`,
+//! requests triples; `buffer`, `line_buffer`, `lines` and `line_texts`, the lines of a reader; `lint`,
 //! its faulty lines; `split`, its parts; `put`, writing; `laws`, properties of all terms and lines.
 #![tactic(auto)]
 
 mod buffer;
 mod byte_runs;
 mod chars;
-mod encoding;
 mod escaped_tokens;
 mod fault;
 mod iri;
@@ -41,7 +40,7 @@ mod label_prefix;
 mod laws;
 mod line;
 mod line_buffer;
-mod line_prefix;
+mod line_texts;
 mod lines;
 mod lint;
 mod parse;
@@ -56,7 +55,7 @@ mod term_refs;
 mod text;
 mod transcode;
 mod triple;
-mod whole_line;
+mod utf8;
 
 pub use fault::{LineFault, LineReason, StringFault, TermFault};
 pub use iri::is_iri;
@@ -65,13 +64,13 @@ pub use laws::{
     strings_are_texts, term_error_table, term_or_fault, term_string_is_injective,
     text_encodes_one_term, triples_so_far, written_text_encodes_term,
 };
-pub use lines::Lines;
+pub use lines::{Lines, MAX_INPUT_LEN};
 pub use lint::{LintFault, lint_document};
 pub use parse::{parse_string, parse_term};
-pub use parts::part_of;
+pub use parts::MAX_PARTS;
 pub use put::{put_string, put_term};
-pub use raw_request::read_raw_request;
-pub use request::read_request;
+pub use raw_request::parse_raw_request;
+pub use request::parse_request;
 pub use split::{SplitFault, SplitReport, split_document};
 pub use strings::{string_term, term_string};
 pub use text::Text;

@@ -18,9 +18,9 @@ pub(crate) fn find_line_end(bytes: &[u8], from: usize) -> Option<usize>
     requires none { HasNoLineEnd (take from bytes.now) }
     ensures { IsFirstLineEnd bytes.now result }
 {
-    let place = from + run_len(ByteClass::Text, &bytes[from..]);
-    if place < bytes.len() {
-        Some(place)
+    let end_at = from + run_len(ByteClass::NotLineEnd, &bytes[from..]);
+    if end_at < bytes.len() {
+        Some(end_at)
     } else {
         None
     }
@@ -34,7 +34,8 @@ pub(crate) fn read_more<R: Read>(
     input: &mut Counted<R>,
 ) -> Result<bool, LineReason>
     requires { length buffered.old ≤ most }
-    ensures does { ReadMore result buffered.old buffered.new (R.remaining (inner input.old)) (R.remaining (inner input.new)) most }
+    ensures does { ReadMore result buffered.old buffered.new (R.remaining (inner input.old))
+        (R.remaining (inner input.new)) most }
     ensures count { OnOk result (failures input.new ≡ failures input.old) }
     ensures failed { IsErrOf result Read → failures input.new ≡ failures input.old + 1 }
     ensures still { IfErr result (λ reason. reason ≢ Read → failures input.new ≡ failures input.old) }
@@ -47,10 +48,8 @@ pub(crate) fn read_more<R: Read>(
             Err(Failed) => Err(LineReason::Read),
         };
     }
-    match buffered.read(most - buffered.len(), input) {
-        Ok(n) => Ok(n > 0),
-        Err(reason) => Err(reason),
-    }
+    let n = buffered.read(most - buffered.len(), input)?;
+    Ok(n > 0)
 }
 
 /// Reads until a line end is buffered or the input ends. Returns the length of the first line without its end.
@@ -60,8 +59,9 @@ fn fill<R: Read>(
     input: &mut Counted<R>,
 ) -> Result<usize, LineReason>
     requires no_end { HasNoLineEnd buffered.old }
-    requires room { length buffered.old ≤ most }
-    ensures does { BuffersLine result buffered.old buffered.new (R.remaining (inner input.old)) (R.remaining (inner input.new)) most }
+    requires below_limit { length buffered.old ≤ most }
+    ensures does { BuffersLine result buffered.old buffered.new (R.remaining (inner input.old))
+        (R.remaining (inner input.new)) most }
     ensures count { OnOk result (failures input.new ≡ failures input.old) }
     ensures failed { IsErrOf result Read → failures input.new ≡ failures input.old + 1 }
     ensures still { IfErr result (λ reason. reason ≢ Read → failures input.new ≡ failures input.old) }
@@ -73,8 +73,8 @@ fn fill<R: Read>(
             Ok(false) => return Ok(searched),
             Err(reason) => return Err(reason),
         }
-        if let Some(place) = find_line_end(buffered.as_slice(), searched) {
-            return Ok(place);
+        if let Some(end_at) = find_line_end(buffered.as_slice(), searched) {
+            return Ok(end_at);
         }
     }
 }
@@ -87,7 +87,7 @@ fn scan_ascii_line(bytes: &[u8]) -> (usize, bool)
     ensures utf8 { IsUtf8 (take result.0 bytes.now) }
     ensures end { result.1 ≡ true → IsFirstLineEnd bytes.now (Some result.0) }
 {
-    let n = run_len(ByteClass::AsciiLine, bytes);
+    let n = run_len(ByteClass::AsciiNotLineEnd, bytes);
     (n, n < bytes.len() && is_line_end(bytes[n]))
 }
 
@@ -97,8 +97,9 @@ pub(crate) fn buffer_first_line<R: Read>(
     most: usize,
     input: &mut Counted<R>,
 ) -> Result<(usize, bool), LineReason>
-    requires room { length buffered.old ≤ most }
-    ensures does { BuffersLine (text_len result) buffered.old buffered.new (R.remaining (inner input.old)) (R.remaining (inner input.new)) most }
+    requires below_limit { length buffered.old ≤ most }
+    ensures does { BuffersLine (text_len result) buffered.old buffered.new (R.remaining (inner input.old))
+        (R.remaining (inner input.new)) most }
     ensures utf8 { IfOk result (λ x. x.1 ≡ true → IsUtf8 (take x.0 buffered.new)) }
     ensures unread { (n : ℕ) → IsFirstLineEnd buffered.old (Some n) → input.new ≡ input.old }
     ensures count { OnOk result (failures input.new ≡ failures input.old) }
@@ -109,11 +110,9 @@ pub(crate) fn buffer_first_line<R: Read>(
     if ended {
         return Ok((n, true));
     }
-    if let Some(place) = find_line_end(buffered.as_slice(), n) {
-        return Ok((place, false));
+    if let Some(end_at) = find_line_end(buffered.as_slice(), n) {
+        return Ok((end_at, false));
     }
-    match fill(buffered, most, input) {
-        Ok(n) => Ok((n, false)),
-        Err(why) => Err(why),
-    }
+    let n = fill(buffered, most, input)?;
+    Ok((n, false))
 }

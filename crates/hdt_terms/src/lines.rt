@@ -7,21 +7,23 @@ ghost use Rattle.hdt_terms.specs.Lines.{HasNoLineEnd};
 ghost use Rattle.hdt_terms.specs.declared.fault.LineReason.TheVariants.{Read};
 
 use crate::buffer::Buffer;
-use crate::encoding::check_beyond_ascii;
 use crate::fault::{LineFault, LineReason, TermFault};
-use crate::line::{is_blank_or_comment, put_triple, read_triple};
+use crate::line::{clear_all, is_blank_or_comment, parse_triple, parse_triple_strings};
 use crate::line_buffer::buffer_first_line;
 use crate::triple::Triple;
+use crate::utf8::validate_utf8;
 use hdt_wire::Counted;
 use std::alloc::{AllocError, Global};
 use std::io::Read;
 use std::marker::Model;
 
+/// The greatest limit of [`Lines::new`], in bytes: 2^63 - 1, which no input of a file exceeds.
+pub const MAX_INPUT_LEN: u64 = 9_223_372_036_854_775_807;
+
 /// The triples of a document, line by line (W3C RDF 1.1 N-Triples, by the profile of docs/NTRIPLES.md). How the reader
 /// cuts the input into pieces makes no difference.
 ///
-/// It has one buffer of 64 KiB, which grows if a line is longer, except in [`Lines::next_prefix`]. Reading a document
-/// takes linear time, and memory for its longest line.
+/// Takes linear time, and memory for the longest line; in [`Lines::next_prefix`] its buffer of 64 KiB does not grow.
 ///
 /// ```rust
 /// let mut input = Counted::new(document);
@@ -48,7 +50,16 @@ impl Model for Lines {
 
     ghost Value = { LinesState };
 
-    ghost view = { λ s. record { buffered = s.buffered; taken = s.taken; ends = s.ends; after_cr = s.after_cr; limit = s.limit; ended = s.ended; failed = s.failed } };
+    ghost view = { λ s. record {
+      buffered = s.buffered;
+      taken = s.taken;
+      ends = s.ends;
+      after_cr = s.after_cr;
+      limit =
+          s.limit;
+      ended = s.ended;
+      failed = s.failed;
+    } };
 
     ghost invariant = { λ s. (s.taken + length s.buffered ≤ s.limit) × (s.limit < 2 ^ 63) × (s.ends ≤ s.taken) };
 }
@@ -80,12 +91,13 @@ impl Lines {
         &mut self,
         input: &mut Counted<R>,
     ) -> Result<(usize, bool), LineReason>
-        ensures does { BuffersLine (text_len result) self.old.buffered self.new.buffered (R.remaining (inner input.old)) (R.remaining (inner input.new))
+        ensures does { BuffersLine (text_len result) self.old.buffered self.new.buffered (R.remaining (inner input.old))
+            (R.remaining (inner input.new))
             (self.old.limit - self.old.taken) }
         ensures utf8 { IfOk result (λ x. x.1 ≡ true → IsUtf8 (take x.0 self.new.buffered)) }
         ensures others { self.new ≡ record self.old { buffered = self.new.buffered } }
         ensures within { self.old.taken + length self.new.buffered ≤ self.old.limit }
-        ensures room { self.old.taken ≤ self.old.limit }
+        ensures below_limit { self.old.taken ≤ self.old.limit }
         ensures unread { HasBufferedLine self.old → input.new ≡ input.old }
         ensures count { OnOk result (failures input.new ≡ failures input.old) }
         ensures failed { IsErrOf result Read → failures input.new ≡ failures input.old + 1 }
@@ -125,7 +137,7 @@ impl Lines {
         if is_text {
             return Ok(is_blank_or_comment(text));
         }
-        match check_beyond_ascii(text) {
+        match validate_utf8(text) {
             Ok(()) => Ok(is_blank_or_comment(text)),
             Err(TermFault { column, reason }) => Err(self.fault(column, reason)),
         }
@@ -137,13 +149,13 @@ impl Lines {
         requires utf8 { IsUtf8 (take n self.now.buffered) }
         ensures { ParsesTriple result self.now (take n self.now.buffered) }
     {
-        match read_triple(self.alloc, &self.buffered.as_slice()[..n]) {
+        match parse_triple(self.alloc, &self.buffered.as_slice()[..n]) {
             Ok(triple) => Ok(triple),
             Err(TermFault { column, reason }) => Err(self.fault(column, reason)),
         }
     }
 
-    /// As above, as dictionary strings.
+    /// Parses the triple of the line in the first n bytes to dictionary strings.
     fn parse_strings(
         &self,
         n: usize,
@@ -155,7 +167,7 @@ impl Lines {
         requires utf8 { IsUtf8 (take n self.now.buffered) }
         ensures { ParsesTripleStrings result s.new.items p.new.items o.new.items self.now (take n self.now.buffered) }
     {
-        match put_triple(&self.buffered.as_slice()[..n], s, p, o) {
+        match parse_triple_strings(&self.buffered.as_slice()[..n], s, p, o) {
             Ok(()) => Ok(()),
             Err(TermFault { column, reason }) => Err(self.fault(column, reason)),
         }
@@ -264,7 +276,7 @@ impl Lines {
         }
     }
 
-    /// As above, as dictionary strings.
+    /// [`Lines::take_triple`], with the triple as dictionary strings.
     fn take_strings<R: Read>(
         &mut self,
         input: &mut Counted<R>,
@@ -273,7 +285,8 @@ impl Lines {
         o: &mut Vec<u8>,
     ) -> Result<bool, LineFault>
         requires { self.old.ended ≡ false }
-        ensures does { ReturnsNextStrings result s.new.items p.new.items o.new.items self.old self.new (left self.old (R.remaining (inner input.old)))
+        ensures does { ReturnsNextStrings result s.new.items p.new.items o.new.items self.old self.new
+            (left self.old (R.remaining (inner input.old)))
             (left self.new (R.remaining (inner input.new))) (R.remaining (inner input.new)) }
         ensures count { OnOk result (failures input.new ≡ failures input.old) }
         ensures failed { IfErr result (λ f. f.reason ≡ Read → failures input.new ≡ failures input.old + 1) }
@@ -303,7 +316,8 @@ impl Lines {
         input: &mut Counted<R>,
     ) -> Result<Option<Triple>, LineFault>
         // An error is returned again, and nothing is read or consumed.
-        ensures repeated { IfSome self.old.failed (λ f. (result ≡ Err f) × (self.new ≡ self.old) × (input.new ≡ input.old)) }
+        ensures repeated { IfSome self.old.failed (λ f. (result ≡ Err f) × (self.new ≡ self.old)
+            × (input.new ≡ input.old)) }
         // So is the end.
         ensures ended { self.old.failed ≡ None → self.old.ended ≡ true →
             (result ≡ Ok None) × (self.new ≡ self.old) × (input.new ≡ input.old) }
@@ -313,7 +327,8 @@ impl Lines {
             (left self.new (R.remaining (inner input.new))) (R.remaining (inner input.new)) }
         ensures fault { IfErr result (λ f. self.new.failed ≡ Some f) }
         // The reader failed in this call if the error says so, and only then.
-        ensures read { self.old.failed ≡ None → IfErr result (λ f. f.reason ≡ Read → failures input.new ≡ failures input.old + 1) }
+        ensures read { self.old.failed ≡ None
+            → IfErr result (λ f. f.reason ≡ Read → failures input.new ≡ failures input.old + 1) }
         ensures still { IfErr result (λ f. f.reason ≢ Read → failures input.new ≡ failures input.old) }
         ensures count { OnOk result (failures input.new ≡ failures input.old) }
     {
@@ -346,16 +361,19 @@ impl Lines {
         p: &mut Vec<u8>,
         o: &mut Vec<u8>,
     ) -> Result<bool, LineFault>
-        ensures repeated { IfSome self.old.failed (λ f. (result ≡ Err f) × (self.new ≡ self.old) × (input.new ≡ input.old)) }
+        ensures repeated { IfSome self.old.failed (λ f. (result ≡ Err f) × (self.new ≡ self.old)
+            × (input.new ≡ input.old)) }
         ensures ended { self.old.failed ≡ None → self.old.ended ≡ true →
             (result ≡ Ok false) × (self.new ≡ self.old) × (input.new ≡ input.old) }
         ensures answers { self.old.failed ≡ None → self.old.ended ≡ false →
-            ReturnsNextStrings result s.new.items p.new.items o.new.items self.old self.new (left self.old (R.remaining (inner input.old)))
+            ReturnsNextStrings result s.new.items p.new.items o.new.items self.old self.new
+            (left self.old (R.remaining (inner input.old)))
             (left self.new (R.remaining (inner input.new))) (R.remaining (inner input.new)) }
         ensures none { StringsClearedUnlessFound result s.new.items p.new.items o.new.items }
         ensures fault { IfErr result (λ f. self.new.failed ≡ Some f) }
         // The reader failed in this call if the error says so, and only then.
-        ensures read { self.old.failed ≡ None → IfErr result (λ f. f.reason ≡ Read → failures input.new ≡ failures input.old + 1) }
+        ensures read { self.old.failed ≡ None
+            → IfErr result (λ f. f.reason ≡ Read → failures input.new ≡ failures input.old + 1) }
         ensures still { IfErr result (λ f. f.reason ≢ Read → failures input.new ≡ failures input.old) }
         ensures count { OnOk result (failures input.new ≡ failures input.old) }
     {
@@ -379,13 +397,4 @@ impl Lines {
             }
         }
     }
-}
-
-/// Empties the buffers.
-fn clear_all(s: &mut Vec<u8>, p: &mut Vec<u8>, o: &mut Vec<u8>)
-    ensures { (s.new.items ≡ []) × (p.new.items ≡ []) × (o.new.items ≡ []) }
-{
-    s.clear();
-    p.clear();
-    o.clear();
 }

@@ -6,26 +6,23 @@ ghost use Rattle.hdt_terms.specs.Lint.{LintsInput, LintsUntilFault, GainsAllBut,
 ghost use Rattle.hdt_terms.specs.declared.lint.LintFault.TheVariants.{OutOfMemory, Write as write_failed};
 
 use crate::fault::{LineFault, LineReason, TermFault};
-use crate::line::put_line;
-use crate::lines::Lines;
+use crate::line::parse_line_strings;
+use crate::lines::{Lines, MAX_INPUT_LEN};
 use hdt_wire::Counted;
 use std::alloc::{AllocError, Global};
 use std::error::Error;
 use std::fmt;
 use std::io::{Read, Write};
 
-/// A limit in bytes that no input exceeds.
-pub(crate) const MAX_INPUT_BYTES: u64 = 9_223_372_036_854_775_807;
-
 /// Pending output is written once it has this many bytes.
-pub(crate) const PIECE: usize = 65_536;
+pub(crate) const FLUSH_LEN: usize = 65_536;
 
 /// Why [`lint_document`] stopped.
 #[derive(Clone, Copy, Debug, PartialEq, Eq)]
 pub enum LintFault {
     /// A line could not be read. The reason is `Read`, `TooLong` or `OutOfMemory`.
     Line(LineFault),
-    /// A writer failed after it had taken this number of bytes.
+    /// One of the two writers failed; this is the number of bytes that it had taken. Which one is not reported.
     Write(u64),
     /// Memory ran out.
     OutOfMemory,
@@ -81,7 +78,7 @@ fn find_fault(
 ) -> Result<Option<TermFault>, AllocError>
     ensures { IfOk result (λ fault. fault ≡ text_fault text.now) }
 {
-    match put_line(text, s, p, o) {
+    match parse_line_strings(text, s, p, o) {
         Ok(_) => Ok(None),
         Err(fault) => match fault.reason {
             LineReason::OutOfMemory => Err(AllocError),
@@ -128,9 +125,12 @@ impl Linter {
     /// Reports the line if it is faulty, and returns whether it is. Its first `n` bytes are its text.
     fn report(&mut self, number: u64, n: usize) -> Result<bool, AllocError>
         requires { n ≤ length self.old.line.items }
-        ensures reported { OnOk result (self.new.reported.items ≡ self.old.reported.items ++ report_if_faulty (fault_of_line (numbered number n self.old.line.items))) }
-        ensures faulty { OnOk result (self.new.faulty ≡ last_faulty self.old.faulty (fault_of_line (numbered number n self.old.line.items))) }
-        ensures count { IfOk result (λ faulty. from_bool faulty ≡ length (faulty_lines (numbered number n self.old.line.items ∷ []))) }
+        ensures reported { OnOk result (self.new.reported.items ≡ self.old.reported.items
+            ++ report_if_faulty (fault_of_line (numbered number n self.old.line.items))) }
+        ensures faulty { OnOk result (self.new.faulty
+            ≡ last_faulty self.old.faulty (fault_of_line (numbered number n self.old.line.items))) }
+        ensures count { IfOk result (λ faulty. from_bool faulty
+            ≡ length (faulty_lines (numbered number n self.old.line.items ∷ []))) }
         ensures line { OnOk result (self.new.line.items ≡ self.old.line.items) }
         ensures kept { OnOk result (self.new.kept.items ≡ self.old.kept.items) }
         ensures keep { OnOk result (self.new.keep ≡ self.old.keep) }
@@ -153,11 +153,15 @@ impl Linter {
     /// Appends what is kept of a line and what is reported of it. Returns whether it is faulty.
     fn lint_line(&mut self, number: u64, n: usize) -> Result<bool, AllocError>
         requires { n ≤ length self.old.line.items }
-        ensures reported { OnOk result (self.new.reported.items ≡ self.old.reported.items ++ report_if_faulty (fault_of_line (numbered number n self.old.line.items))) }
-        ensures faulty { OnOk result (self.new.faulty ≡ last_faulty self.old.faulty (fault_of_line (numbered number n self.old.line.items))) }
-        ensures count { IfOk result (λ faulty. from_bool faulty ≡ length (faulty_lines (numbered number n self.old.line.items ∷ []))) }
+        ensures reported { OnOk result (self.new.reported.items ≡ self.old.reported.items
+            ++ report_if_faulty (fault_of_line (numbered number n self.old.line.items))) }
+        ensures faulty { OnOk result (self.new.faulty
+            ≡ last_faulty self.old.faulty (fault_of_line (numbered number n self.old.line.items))) }
+        ensures count { IfOk result (λ faulty. from_bool faulty
+            ≡ length (faulty_lines (numbered number n self.old.line.items ∷ []))) }
         ensures kept { OnOk result (self.new.kept.items ≡ self.old.kept.items
-            ++ kept_if self.old.keep (last_faulty self.old.faulty (fault_of_line (numbered number n self.old.line.items))) (numbered number n self.old.line.items)) }
+            ++ kept_if self.old.keep (last_faulty self.old.faulty
+            (fault_of_line (numbered number n self.old.line.items))) (numbered number n self.old.line.items)) }
         ensures keep { OnOk result (self.new.keep ≡ self.old.keep) }
     {
         let is_faulty = self.report(number, n)?;
@@ -175,7 +179,8 @@ pub(crate) fn write_if_long<W: Write>(
     written: u64,
     out: &mut Counted<W>,
 ) -> Result<u64, LintFault>
-    ensures ok { OnOk result (GainsAllBut (W.contents (inner out.old)) (W.contents (inner out.new)) text.old.items text.new.items) }
+    ensures ok { OnOk result (GainsAllBut (W.contents (inner out.old))
+        (W.contents (inner out.new)) text.old.items text.new.items) }
     ensures whole { OnOk result (least ≡ 0 → text.new.items ≡ []) }
     ensures well { OnOk result (failures out.new ≡ failures out.old) }
     ensures err { IfErr result (λ e. (n : ℕ) × (e ≡ write_failed n)) }
@@ -193,7 +198,7 @@ pub(crate) fn write_if_long<W: Write>(
     Ok(written)
 }
 
-/// Writes pending output of at least `least` bytes to each of two writers, and returns the new totals of written bytes.
+/// Writes pending output of at least `least` bytes to each of two writers. Returns the new totals of written bytes.
 fn write_both_if_long<K: Write, T: Write>(
     least: usize,
     linter: &mut Linter,
@@ -201,14 +206,20 @@ fn write_both_if_long<K: Write, T: Write>(
     kept: &mut Counted<K>,
     reported: &mut Counted<T>,
 ) -> Result<(u64, u64), LintFault>
-    ensures kept { OnOk result (GainsAllBut (K.contents (inner kept.old)) (K.contents (inner kept.new)) linter.old.kept.items linter.new.kept.items) }
-    ensures reported { OnOk result (GainsAllBut (T.contents (inner reported.old)) (T.contents (inner reported.new)) linter.old.reported.items linter.new.reported.items) }
+    ensures kept { OnOk result
+        (GainsAllBut (K.contents (inner kept.old))
+        (K.contents (inner kept.new)) linter.old.kept.items linter.new.kept.items) }
+    ensures reported { OnOk result
+        (GainsAllBut (T.contents (inner reported.old))
+        (T.contents (inner reported.new)) linter.old.reported.items linter.new.reported.items) }
     ensures whole { OnOk result (least ≡ 0 → (linter.new.kept.items ≡ []) × (linter.new.reported.items ≡ [])) }
-    ensures well { OnOk result ((failures kept.new ≡ failures kept.old) × (failures reported.new ≡ failures reported.old)) }
+    ensures well { OnOk result ((failures kept.new ≡ failures kept.old)
+        × (failures reported.new ≡ failures reported.old)) }
     ensures others { OnOk result ((linter.new.keep ≡ linter.old.keep) × (linter.new.faulty ≡ linter.old.faulty)) }
     ensures err { IfErr result (λ e. (n : ℕ) × (e ≡ write_failed n)) }
     ensures kept_part { GainsPrefix (K.contents (inner kept.old)) (K.contents (inner kept.new)) linter.old.kept.items }
-    ensures reported_part { GainsPrefix (T.contents (inner reported.old)) (T.contents (inner reported.new)) linter.old.reported.items }
+    ensures reported_part { GainsPrefix (T.contents (inner reported.old))
+        (T.contents (inner reported.new)) linter.old.reported.items }
 {
     let first = write_if_long(least, &mut linter.kept, written.0, kept)?;
     let second = write_if_long(least, &mut linter.reported, written.1, reported)?;
@@ -223,7 +234,8 @@ fn flush_before_error<K: Write, T: Write>(
     reported: &mut Counted<T>,
 )
     ensures kept { GainsPrefix (K.contents (inner kept.old)) (K.contents (inner kept.new)) linter.old.kept.items }
-    ensures reported { GainsPrefix (T.contents (inner reported.old)) (T.contents (inner reported.new)) linter.old.reported.items }
+    ensures reported { GainsPrefix (T.contents (inner reported.old))
+        (T.contents (inner reported.new)) linter.old.reported.items }
 {
     match write_both_if_long(0, linter, written, kept, reported) {
         Ok(_) => {}
@@ -240,10 +252,10 @@ fn is_another_wanted(count: u64, most: u64, lines: &Lines) -> bool
     count < most && !lines.has_ended()
 }
 
-/// Checks every line of a document, and reports each faulty one to `reported`, in a line with the number of the line, the
-/// column in bytes, and the number and the name of the reason. Returns how many there are. With `keep`, writes the lines
-/// without an error to `kept`, byte for byte, with their ends; so a document without errors is copied. Stops after
-/// `most` faulty lines.
+/// Checks every line of a document, and reports each faulty one to `reported`, in a line with the number of the line,
+/// the column in bytes, and the number and the name of the reason. Returns how many there are. With `keep`, writes the
+/// lines without an error to `kept`, byte for byte, with their ends; so a document without errors is copied. Stops
+/// after `most` faulty lines.
 ///
 /// Linear time. Memory: the longest line, twice, and 64 KiB for each of the input and both outputs.
 ///
@@ -261,16 +273,21 @@ pub fn lint_document<R: Read, K: Write, T: Write>(
     reported: &mut Counted<T>,
 ) -> Result<u64, LintFault>
     // All lines were checked, or those up to the last of `most` faulty ones; the result is how many are faulty.
-    ensures ok { IfOk result (LintsInput keep most (R.remaining (inner input.old)) (K.contents (inner kept.old)) (K.contents (inner kept.new)) (T.contents (inner reported.old)) (T.contents (inner reported.new))) }
-    ensures writers_well { OnOk result ((failures kept.new ≡ failures kept.old) × (failures reported.new ≡ failures reported.old)) }
+    ensures ok { IfOk result (LintsInput keep most (R.remaining (inner input.old)) (K.contents (inner kept.old))
+        (K.contents (inner kept.new)) (T.contents (inner reported.old)) (T.contents (inner reported.new))) }
+    ensures writers_well { OnOk result ((failures kept.new ≡ failures kept.old)
+        × (failures reported.new ≡ failures reported.old)) }
     // The writers have gained a prefix of the output for some first lines; all lines before one that cannot be read.
-    ensures stopped { IfErr result (LintsUntilFault keep (R.remaining (inner input.old)) (R.remaining (inner input.new)) (K.contents (inner kept.old)) (K.contents (inner kept.new)) (T.contents (inner reported.old)) (T.contents (inner reported.new))) }
+    ensures stopped { IfErr result
+        (LintsUntilFault keep (R.remaining (inner input.old)) (R.remaining (inner input.new))
+        (K.contents (inner kept.old)) (K.contents (inner kept.new)) (T.contents (inner reported.old))
+        (T.contents (inner reported.new))) }
     // The reader failed if the error says so, and only then.
     ensures read { IfErr result (λ e. IsReadFault e → failures input.new ≡ failures input.old + 1) }
     ensures still { IfErr result (λ e. (IsReadFault e → ⊥) → failures input.new ≡ failures input.old) }
     ensures reader_well { OnOk result (failures input.new ≡ failures input.old) }
 {
-    let mut lines = Lines::new(alloc, MAX_INPUT_BYTES)?;
+    let mut lines = Lines::new(alloc, MAX_INPUT_LEN)?;
     let mut linter = Linter::new(alloc, keep);
     let mut written = (0, 0);
     let mut count = 0;
@@ -284,7 +301,7 @@ pub fn lint_document<R: Read, K: Write, T: Write>(
         };
         let number = lines.line_number();
         count += u64::from(linter.lint_line(number, n)?);
-        written = write_both_if_long(PIECE, &mut linter, written, kept, reported)?;
+        written = write_both_if_long(FLUSH_LEN, &mut linter, written, kept, reported)?;
     }
     write_both_if_long(0, &mut linter, written, kept, reported)?;
     Ok(count)

@@ -8,11 +8,11 @@ ghost use Rattle.hdt_terms.specs.Terms.{IsGrammarTerm};
 ghost use Rattle.hdt_terms.specs.Appending.{AppendsStringOfText};
 ghost use Rattle.hdt_terms.specs.Writing.{Extends};
 
-use crate::encoding::check_utf8;
 use crate::fault::{LineReason, TermFault, locate_error};
 use crate::strings::parsed_term;
-use crate::transcode::append_term;
+use crate::transcode::transcode_term;
 use crate::triple::Term;
+use crate::utf8::check_utf8;
 use std::alloc::Global;
 
 /// Appends the string of the term of a text, or returns its first error. After an error `out` may be longer.
@@ -23,7 +23,7 @@ fn append_whole(text: &[u8], out: &mut Vec<u8>) -> Result<(), TermFault>
     ensures kept { Extends out.old.items out.new.items }
 {
     check_utf8(text)?;
-    match append_term(text, out) {
+    match transcode_term(text, out) {
         Ok([]) => Ok(()),
         Ok(rest) => Err(TermFault {
             column: text.len().saturating_sub(rest.len()) as u64 + 1,
@@ -34,7 +34,7 @@ fn append_whole(text: &[u8], out: &mut Vec<u8>) -> Result<(), TermFault>
 }
 
 /// The term of a text, or its first error.
-fn read_whole(alloc: Global, text: &[u8]) -> Result<Term, TermFault>
+fn parse_whole(alloc: Global, text: &[u8]) -> Result<Term, TermFault>
     ensures reads { EqualsUnlessOom result (term_in text.now) }
     ensures utf8 { OnOk result (IsUtf8 text.now) }
 {
@@ -68,7 +68,7 @@ pub fn parse_term(alloc: Global, text: &[u8]) -> Result<Term, TermFault>
     // In one clause: the term of the text, or its first error.
     ensures exact { EqualsUnlessOom result (term_in text.now) }
 {
-    read_whole(alloc, text)
+    parse_whole(alloc, text)
 }
 
 /// Parses a text as [`parse_term`] and appends the dictionary string of its term ([`crate::term_string`]) to `out`,

@@ -1,8 +1,11 @@
-//! The part of a graph in parts that a triple belongs to.
+//! Which part of a split document a triple goes to: the CRC-32 of its subject modulo the number of parts.
 ghost use Rattle.std.specs.Prelude.{◌≡◌, ◌<◌};
 ghost use Rattle.hdt_terms.specs.Parts.{crc32_zlib_step, part_of_string};
 
-/// Entry b is byte b after eight shifts by the reflected polynomial of gzip.
+/// The greatest number of parts that the interfaces accept.
+pub const MAX_PARTS: u32 = 65_536;
+
+/// Entry b is the CRC-32 register after byte b (register 0).
 const TABLE: [u32; 256] = [
     0x00000000, 0x77073096, 0xEE0E612C, 0x990951BA, 0x076DC419, 0x706AF48F, 0xE963A535, 0x9E6495A3,
     0x0EDB8832, 0x79DCB8A4, 0xE0D5E91E, 0x97D2D988, 0x09B64C2B, 0x7EB17CBD, 0xE7B82D07, 0x90BF1D91,
@@ -48,9 +51,9 @@ fn next_register(register: u32, byte: u8) -> u32
     (register / 256) ^ table[low as usize]
 }
 
-/// Returns the part, less than `parts`, of the triples whose subject has this dictionary string: its CRC-32 (as gzip,
+/// The part, less than `parts`, of the triples whose subject has this dictionary string: its CRC-32 (as gzip,
 /// zlib and PNG define it) modulo `parts`. Linear time in the string.
-pub fn part_of(string: &[u8], parts: u32) -> u32
+pub(crate) fn part_of(string: &[u8], parts: u32) -> u32
     requires { 0 < parts }
     ensures value { result ≡ part_of_string parts string.now }
     ensures within { result < parts }

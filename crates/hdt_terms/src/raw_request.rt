@@ -1,12 +1,12 @@
 //! Parsing a request by dictionary strings: a line of three strings, separated by tabs.
 ghost use Rattle.std.specs.Prelude.{◌≡◌, [], Ok, Err, Option};
-ghost use Rattle.hdt_terms.specs.Appending.{AppendsRead, identity_bytes};
+ghost use Rattle.hdt_terms.specs.Appending.{AppendsParsed, identity_bytes};
 ghost use Rattle.hdt_terms.specs.RawRequestParsing.{raw_escape_byte, raw_string_at, tab_at, end_at, raw_request_at, raw_request_in, is_raw_given, PutsRawStrings, ReturnsRawRequest, IsRawEscapeAt};
 ghost use Rattle.hdt_terms.specs.TermParsing.{ReturnsUnlessOom};
 
-use crate::encoding::check_utf8;
-use crate::fault::{LineReason, ReadError, TermFault, locate_error, refuse};
+use crate::fault::{LineReason, ParseError, TermFault, fail_at, locate_error};
 use crate::line::is_blank_or_comment;
+use crate::utf8::check_utf8;
 
 /// The byte that a backslash and this letter encode.
 fn letter(letter: u8) -> Option<u8>
@@ -30,8 +30,9 @@ fn letter_at(rest: &[u8]) -> Option<(u8, &[u8])>
 }
 
 /// Appends the string up to a tab or the end, with its escapes decoded. Returns the bytes from there on.
-fn append_raw_string<'a>(bytes: &'a [u8], out: &mut Vec<u8>) -> Result<&'a [u8], ReadError>
-    ensures { AppendsRead identity_bytes out.old.items out.new.items (λ rest. rest.now) result (raw_string_at bytes.now) }
+fn append_raw_string<'a>(bytes: &'a [u8], out: &mut Vec<u8>) -> Result<&'a [u8], ParseError>
+    ensures { AppendsParsed identity_bytes out.old.items out.new.items (λ rest. rest.now) result
+        (raw_string_at bytes.now) }
 {
     let mut rest = bytes;
     'bytes: while let Some((first, tail)) = rest.split_first() {
@@ -39,7 +40,7 @@ fn append_raw_string<'a>(bytes: &'a [u8], out: &mut Vec<u8>) -> Result<&'a [u8],
             b'\t' => return Ok(rest),
             b'\\' => {
                 let Some((byte, behind)) = letter_at(tail) else {
-                    return refuse(LineReason::BadEscape, rest.len());
+                    return fail_at(LineReason::BadEscape, rest.len());
                 };
                 out.push(byte)?;
                 rest = behind;
@@ -53,49 +54,49 @@ fn append_raw_string<'a>(bytes: &'a [u8], out: &mut Vec<u8>) -> Result<&'a [u8],
     Ok(rest)
 }
 
-/// Puts the string up to a tab or the end into the buffer. Returns the bytes from there on.
-fn put_raw_string<'a>(bytes: &'a [u8], out: &mut Vec<u8>) -> Result<&'a [u8], ReadError>
-    ensures { AppendsRead identity_bytes [] out.new.items (λ rest. rest.now) result (raw_string_at bytes.now) }
+/// Parses the string up to a tab or the end into the buffer. Returns the bytes from there on.
+fn parse_raw_string<'a>(bytes: &'a [u8], out: &mut Vec<u8>) -> Result<&'a [u8], ParseError>
+    ensures { AppendsParsed identity_bytes [] out.new.items (λ rest. rest.now) result (raw_string_at bytes.now) }
 {
     out.clear();
     append_raw_string(bytes, out)
 }
 
 /// The bytes after the tab that is expected here.
-fn skip_tab(bytes: &[u8]) -> Result<&[u8], ReadError>
+fn skip_tab(bytes: &[u8]) -> Result<&[u8], ParseError>
     ensures { ReturnsUnlessOom (λ rest. rest.now) result (tab_at bytes.now) }
 {
     match bytes {
         [b'\t', behind @ ..] => Ok(behind),
-        _ => refuse(LineReason::Syntax, bytes.len()),
+        _ => fail_at(LineReason::Syntax, bytes.len()),
     }
 }
 
 /// Fails unless nothing is left.
-fn expect_end(bytes: &[u8]) -> Result<(), ReadError>
+fn expect_end(bytes: &[u8]) -> Result<(), ParseError>
     ensures { ReturnsUnlessOom (λ _. tt) result (end_at bytes.now) }
 {
     if bytes.is_empty() {
         return Ok(());
     }
-    refuse(LineReason::Syntax, bytes.len())
+    fail_at(LineReason::Syntax, bytes.len())
 }
 
-/// Puts the three strings of a line into the buffers.
+/// Parses the three strings of a line into the buffers.
 #[tactic(auto, unfolding(crate::specs::RawRequestParsing::raw_request_at))]
-fn put_raw_strings(
+fn parse_raw_strings(
     text: &[u8],
     s: &mut Vec<u8>,
     p: &mut Vec<u8>,
     o: &mut Vec<u8>,
-) -> Result<(), ReadError>
+) -> Result<(), ParseError>
     ensures { PutsRawStrings s.new.items p.new.items o.new.items result (raw_request_at text.now) }
 {
-    let rest = put_raw_string(text, s)?;
+    let rest = parse_raw_string(text, s)?;
     let rest = skip_tab(rest)?;
-    let rest = put_raw_string(rest, p)?;
+    let rest = parse_raw_string(rest, p)?;
     let rest = skip_tab(rest)?;
-    let rest = put_raw_string(rest, o)?;
+    let rest = parse_raw_string(rest, o)?;
     expect_end(rest)
 }
 
@@ -106,8 +107,8 @@ fn is_given(string: &[u8]) -> bool
     string != b"?".as_slice()
 }
 
-/// Reads a request by dictionary strings into the buffers. Returns which of subject, predicate and object are given, or
-/// `None` if the line has only whitespace and a comment. A request is three strings, separated by one tab each; in a
+/// Parses a request by dictionary strings into the buffers. Returns which of subject, predicate and object are given,
+/// or `None` if the line has only whitespace and a comment. A request is three strings, separated by one tab each; in a
 /// string `\\`, `\n`, `\r` and `\t` are a backslash, a line feed, a carriage return and a tab. The string `?` matches
 /// any. Linear time; memory only if the buffers grow.
 ///
@@ -117,7 +118,7 @@ fn is_given(string: &[u8]) -> bool
 /// the backslash, and [`LineReason::Syntax`] at the end of the line if a tab is missing, or at a tab too many.
 /// [`LineReason::OutOfMemory`], with the column 0, only if memory ran out. After an error the buffers have any
 /// contents.
-pub fn read_raw_request(
+pub fn parse_raw_request(
     text: &[u8],
     s: &mut Vec<u8>,
     p: &mut Vec<u8>,
@@ -132,7 +133,7 @@ pub fn read_raw_request(
     if is_blank_or_comment(text) {
         return Ok(None);
     }
-    match put_raw_strings(text, s, p, o) {
+    match parse_raw_strings(text, s, p, o) {
         Ok(()) => Ok(Some([is_given(s), is_given(p), is_given(o)])),
         Err(error) => Err(locate_error(text.len(), error)),
     }

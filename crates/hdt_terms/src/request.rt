@@ -4,27 +4,28 @@ ghost use Rattle.hdt_terms.specs.RequestParsing.{pattern_term_after_whitespace, 
 ghost use Rattle.hdt_terms.specs.TermParsing.{ReturnsUnlessOom};
 
 use crate::chars::skip_whitespace;
-use crate::encoding::check_utf8;
-use crate::fault::{LineReason, ReadError, TermFault, locate_error, refuse};
+use crate::fault::{LineReason, ParseError, TermFault, fail_at, locate_error};
 use crate::line::{append_role_term, expect_comment_or_end, is_blank_or_comment};
+use crate::utf8::check_utf8;
 use hdt_wire::Role;
 
-/// Skips whitespace, then reads `?`, or puts the string of the term of the role into the buffer. Returns whether it is
-/// a term, and the bytes after it.
+/// Skips whitespace, then parses `?`, or the term of the role to its string in the buffer. Returns whether it is a
+/// term, and the bytes after it.
 #[tactic(auto, unfolding(crate::specs::RequestParsing::pattern_term_after_whitespace, crate::specs::RequestParsing::pattern_term_at))]
-fn put_pattern_term<'a>(
+fn parse_pattern_term<'a>(
     role: Role,
     bytes: &'a [u8],
     out: &mut Vec<u8>,
-) -> Result<(bool, &'a [u8]), ReadError>
+) -> Result<(bool, &'a [u8]), ParseError>
     requires { IsUtf8 bytes.now }
-    ensures reads { PutsPatternTerm (λ x. x.0) (λ x. x.1.now) out.new.items result (pattern_term_after_whitespace role bytes.now) }
+    ensures reads { PutsPatternTerm (λ x. x.0) (λ x. x.1.now) out.new.items result
+        (pattern_term_after_whitespace role bytes.now) }
     ensures utf8 { IfOk result (λ x. IsUtf8 x.1.now) }
 {
     out.clear();
     let bytes = skip_whitespace(bytes);
     let Some((first, rest)) = bytes.split_first() else {
-        return refuse(LineReason::Syntax, bytes.len());
+        return fail_at(LineReason::Syntax, bytes.len());
     };
     if *first == b'?' {
         return Ok((false, rest));
@@ -33,9 +34,9 @@ fn put_pattern_term<'a>(
     Ok((true, rest))
 }
 
-/// Reads whitespace, an optional full stop, whitespace and an optional comment.
+/// Parses whitespace, an optional full stop, whitespace and an optional comment.
 #[tactic(auto, unfolding(crate::specs::RequestParsing::optional_stop_after_whitespace))]
-fn read_stop(bytes: &[u8]) -> Result<(), ReadError>
+fn parse_optional_stop(bytes: &[u8]) -> Result<(), ParseError>
     ensures { ReturnsUnlessOom (λ _. tt) result (optional_stop_after_whitespace bytes.now) }
 {
     let bytes = skip_whitespace(bytes);
@@ -48,25 +49,25 @@ fn read_stop(bytes: &[u8]) -> Result<(), ReadError>
     expect_comment_or_end(bytes)
 }
 
-/// Puts the strings of the terms of a request into the buffers. Returns which of them are given.
+/// Parses the terms of a request to strings in the buffers. Returns which of them are given.
 #[tactic(auto, unfolding(crate::specs::RequestParsing::request_at))]
-fn put_pattern(
+fn parse_pattern(
     text: &[u8],
     s: &mut Vec<u8>,
     p: &mut Vec<u8>,
     o: &mut Vec<u8>,
-) -> Result<[bool; 3], ReadError>
+) -> Result<[bool; 3], ParseError>
     requires { IsUtf8 text.now }
     ensures { PutsPattern s.new.items p.new.items o.new.items result (request_at text.now) }
 {
-    let (subject, rest) = put_pattern_term(Role::Subject, text, s)?;
-    let (predicate, rest) = put_pattern_term(Role::Predicate, rest, p)?;
-    let (object, rest) = put_pattern_term(Role::Object, rest, o)?;
-    read_stop(rest)?;
+    let (subject, rest) = parse_pattern_term(Role::Subject, text, s)?;
+    let (predicate, rest) = parse_pattern_term(Role::Predicate, rest, p)?;
+    let (object, rest) = parse_pattern_term(Role::Object, rest, o)?;
+    parse_optional_stop(rest)?;
     Ok([subject, predicate, object])
 }
 
-/// Reads a request, and puts the dictionary strings of its terms into the buffers. Returns which of subject, predicate
+/// Parses a request, and puts the dictionary strings of its terms into the buffers. Returns which of subject, predicate
 /// and object are given, or `None` if the line has only whitespace and a comment. A request is subject, predicate and
 /// object, each a term that is allowed there in a triple, or `?` for any; then an optional full stop and an optional
 /// comment. Whitespace is optional as in a triple, so each line of a document is a request for its triple. Linear time;
@@ -77,7 +78,7 @@ fn put_pattern(
 /// The first error of the line, with its column in bytes, from 1, as [`crate::Lines::next_triple`] reports it.
 /// [`LineReason::OutOfMemory`], with the column 0, only if memory ran out. After an error the buffers have any
 /// contents.
-pub fn read_request(
+pub fn parse_request(
     text: &[u8],
     s: &mut Vec<u8>,
     p: &mut Vec<u8>,
@@ -92,7 +93,7 @@ pub fn read_request(
     if is_blank_or_comment(text) {
         return Ok(None);
     }
-    match put_pattern(text, s, p, o) {
+    match parse_pattern(text, s, p, o) {
         Ok(given) => Ok(Some(given)),
         Err(error) => Err(locate_error(text.len(), error)),
     }

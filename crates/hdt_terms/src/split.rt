@@ -2,15 +2,15 @@
 ghost use Rattle.std.specs.Prelude.{◌≡◌, ◌≢◌, ◌+◌, ◌++◌, ◌∷◌, ◌⊎◌, ◌<◌, ◌≤◌, ◌^◌, ℕ, [], List, OnOk, OnErr, IfOk, IfErr, None, Some, map, length, get_or, replicate, take, true, false, IsUtf8};
 ghost use Rattle.hdt_wire.specs.Counted.{inner, failures};
 ghost use Rattle.hdt_terms.specs.Lint.{fault_of_line, numbered};
-ghost use Rattle.hdt_terms.specs.Split.{EachGains, EachGainsPrefix, EachGainsAllBut, IsSplitReadFault, SplitsInput, SplitsUntilFault, has_blank_node, is_blank_string, last_place, line_of_part, number_if_some, prefix_label, triple_of_line, triples_of_document, whole_line};
+ghost use Rattle.hdt_terms.specs.Split.{EachGains, EachGainsPrefix, EachGainsAllBut, IsSplitReadFault, SplitsInput, SplitsUntilFault, has_blank_node, is_blank_string, triple_line_after, line_if_in_part, number_if_nonempty, prefix_label, triple_of_line, triples_of_document, prefixed_line};
 ghost use Rattle.hdt_terms.specs.Parts.{part_of_string};
 ghost use Rattle.hdt_terms.specs.declared.split.SplitFault.TheVariants.{Line as line_failed, OutOfMemory, Write as write_failed};
 
 use crate::fault::{LineFault, LineReason};
 use crate::label_prefix::{append_prefixed, append_with_prefix};
-use crate::line::put_line;
-use crate::lines::Lines;
-use crate::lint::{MAX_INPUT_BYTES, PIECE, write_if_long};
+use crate::line::parse_line_strings;
+use crate::lines::{Lines, MAX_INPUT_LEN};
+use crate::lint::{FLUSH_LEN, write_if_long};
 use crate::parts::part_of;
 use hdt_wire::Counted;
 use std::alloc::{AllocError, Global};
@@ -91,7 +91,7 @@ fn part_with_prefix(
     Ok(part_of(string, parts))
 }
 
-/// One line and its strings, and the place of the last line with a triple.
+/// One line and its strings, and the number and the part of the last line with a triple.
 #[derive(Drop)]
 struct Splitter {
     alloc: Global,
@@ -109,10 +109,11 @@ struct Splitter {
 
 impl Splitter {
     ghost use Rattle.std.specs.Prelude.{◌||◌};
-    ghost use Rattle.hdt_terms.specs.Split.{Place};
+    ghost use Rattle.hdt_terms.specs.Split.{TripleLine};
 
     fn new(alloc: Global, parts: u32) -> Splitter
-        ensures { (result.parts ≡ parts) × (result.number ≡ 0) × (result.part ≡ 0) × (result.report ≡ record { lines = 0; triples = 0; has_blank_nodes = false }) }
+        ensures { (result.parts ≡ parts) × (result.number ≡ 0) × (result.part ≡ 0)
+            × (result.report ≡ record { lines = 0; triples = 0; has_blank_nodes = false }) }
     {
         Splitter {
             alloc,
@@ -133,16 +134,24 @@ impl Splitter {
     }
 
     /// Finds the triple of the line, whose first `n` bytes are its text, and its part.
-    fn place(&mut self, prefix: &[u8], number: u64, n: usize) -> Result<(), SplitFault>
+    fn assign_part(&mut self, prefix: &[u8], number: u64, n: usize) -> Result<(), SplitFault>
         requires within { n ≤ length self.old.line.items }
         requires parts { 0 < self.old.parts }
         requires count { self.old.report.triples + 1 < 2 ^ 64 }
-        ensures place { OnOk result (record { number = self.new.number; part = self.new.part } ≡ last_place prefix.now self.old.parts (record { number = self.old.number; part = self.old.part }) (numbered number n self.old.line.items)) }
+        ensures last { OnOk result (record { number = self.new.number; part = self.new.part }
+            ≡ triple_line_after prefix.now self.old.parts (record { number = self.old.number; part = self.old.part })
+            (numbered number n self.old.line.items)) }
         ensures right { OnOk result (fault_of_line (numbered number n self.old.line.items) ≡ None) }
-        ensures wrong { IfErr result (λ e. (e ≡ OutOfMemory) ⊎ ((fault : _) × (e ≡ line_failed fault) × (fault_of_line (numbered number n self.old.line.items) ≡ Some fault))) }
-        ensures triples { OnOk result (self.new.report.triples ≡ self.old.report.triples + length (triples_of_document (numbered number n self.old.line.items ∷ []))) }
-        ensures blank { OnOk result (self.new.report.has_blank_nodes ≡ self.old.report.has_blank_nodes || has_blank_node (triple_of_line (numbered number n self.old.line.items))) }
-        ensures lines { OnOk result (self.new.report.lines ≡ number_if_some self.old.report.lines number self.old.line.items) }
+        ensures wrong { IfErr result (λ e. (e ≡ OutOfMemory)
+            ⊎ ((fault : _) × (e ≡ line_failed fault)
+            × (fault_of_line (numbered number n self.old.line.items) ≡ Some fault))) }
+        ensures triples { OnOk result (self.new.report.triples
+            ≡ self.old.report.triples + length (triples_of_document (numbered number n self.old.line.items ∷ []))) }
+        ensures blank { OnOk result (self.new.report.has_blank_nodes
+            ≡ self.old.report.has_blank_nodes || has_blank_node
+            (triple_of_line (numbered number n self.old.line.items))) }
+        ensures lines { OnOk result (self.new.report.lines
+            ≡ number_if_nonempty self.old.report.lines number self.old.line.items) }
         ensures part { self.old.part < self.old.parts → OnOk result (self.new.part < self.old.parts) }
         ensures line { OnOk result (self.new.line.items ≡ self.old.line.items) }
         ensures utf8 { OnOk result (IsUtf8 (take n self.new.line.items)) }
@@ -151,7 +160,7 @@ impl Splitter {
         if !self.line.is_empty() {
             self.report.lines = number;
         }
-        match put_line(
+        match parse_line_strings(
             &self.line[..n],
             &mut self.subject,
             &mut self.predicate,
@@ -194,9 +203,12 @@ impl Splitter {
         requires within { n ≤ length self.now.line.items }
         requires part { self.now.part < length pending.old }
         ensures len { length pending.new ≡ length pending.old }
-        ensures others { (part : ℕ) → part ≢ self.now.part → get_or (map (λ text. text.items) pending.new) part [] ≡ get_or (map (λ text. text.items) pending.old) part [] }
-        ensures text { OnOk result (get_or (map (λ text. text.items) pending.new) self.now.part [] ≡ get_or (map (λ text. text.items) pending.old) self.now.part []
-            ++ line_of_part prefix.now self.now.part (record { number = self.now.number; part = self.now.part }) (numbered number n self.now.line.items)) }
+        ensures others { (part : ℕ) → part ≢ self.now.part → get_or (map (λ text. text.items) pending.new) part []
+            ≡ get_or (map (λ text. text.items) pending.old) part [] }
+        ensures text { OnOk result (get_or (map (λ text. text.items) pending.new) self.now.part []
+            ≡ get_or (map (λ text. text.items) pending.old) self.now.part []
+            ++ line_if_in_part prefix.now self.now.part (record { number = self.now.number; part = self.now.part })
+            (numbered number n self.now.line.items)) }
     {
         if self.number == number {
             let text = &mut pending[self.part as usize];
@@ -216,7 +228,7 @@ fn append_line(
 ) -> Result<(), AllocError>
     requires utf8 { IsUtf8 (take n line.now) }
     requires within { n ≤ length line.now }
-    ensures { OnOk result (text.new.items ≡ text.old.items ++ whole_line prefix.now (numbered 0 n line.now)) }
+    ensures { OnOk result (text.new.items ≡ text.old.items ++ prefixed_line prefix.now (numbered 0 n line.now)) }
 {
     append_with_prefix(alloc, prefix, &line[..n], text)?;
     let end = &line[n..];
@@ -238,13 +250,18 @@ fn write_part<W: Write>(
 ) -> Result<(), SplitFault>
     requires within { (at < length outs.old) × (length outs.old < 2 ^ 32) }
     requires len { length pending.old ≡ length outs.old }
-    ensures ok { OnOk result (EachGainsAllBut (map (λ out. W.contents (inner out)) outs.old) (map (λ out. W.contents (inner out)) outs.new) (λ part. get_or (map (λ text. text.items) pending.old) part []) (map (λ text. text.items) pending.new)) }
+    ensures ok { OnOk result (EachGainsAllBut (map (λ out. W.contents (inner out)) outs.old)
+        (map (λ out. W.contents (inner out)) outs.new) (λ part. get_or (map (λ text. text.items) pending.old) part [])
+        (map (λ text. text.items) pending.new)) }
     ensures lens { (length outs.new ≡ length outs.old) × (length pending.new ≡ length pending.old) }
-    ensures others { (part : ℕ) → part ≢ at → get_or (map (λ text. text.items) pending.new) part [] ≡ get_or (map (λ text. text.items) pending.old) part [] }
+    ensures others { (part : ℕ) → part ≢ at → get_or (map (λ text. text.items) pending.new) part []
+        ≡ get_or (map (λ text. text.items) pending.old) part [] }
     ensures whole { OnOk result (least ≡ 0 → get_or (map (λ text. text.items) pending.new) at [] ≡ []) }
     ensures well { OnOk result (map (λ out. failures out) outs.new ≡ map (λ out. failures out) outs.old) }
     ensures err { IfErr result (λ e. e ≡ write_failed at) }
-    ensures part { OnErr result (EachGainsPrefix (map (λ out. W.contents (inner out)) outs.old) (map (λ out. W.contents (inner out)) outs.new) (λ part. get_or (map (λ text. text.items) pending.old) part [])) }
+    ensures part { OnErr result
+        (EachGainsPrefix (map (λ out. W.contents (inner out)) outs.old) (map (λ out. W.contents (inner out)) outs.new)
+        (λ part. get_or (map (λ text. text.items) pending.old) part [])) }
 {
     match write_if_long(least, &mut pending[at], 0, &mut outs[at]) {
         Ok(_) => Ok(()),
@@ -270,10 +287,13 @@ fn write_all_parts<W: Write>(
 ) -> Result<(), SplitFault>
     requires within { length outs.old < 2 ^ 32 }
     requires len { length pending.old ≡ length outs.old }
-    ensures ok { OnOk result (EachGains (map (λ out. W.contents (inner out)) outs.old) (map (λ out. W.contents (inner out)) outs.new) (λ part. get_or (map (λ text. text.items) pending.old) part [])) }
+    ensures ok { OnOk result (EachGains (map (λ out. W.contents (inner out)) outs.old)
+        (map (λ out. W.contents (inner out)) outs.new) (λ part. get_or (map (λ text. text.items) pending.old) part [])) }
     ensures well { OnOk result (map (λ out. failures out) outs.new ≡ map (λ out. failures out) outs.old) }
     ensures err { IfErr result (λ e. (part : ℕ) × (part < length outs.old) × (e ≡ write_failed part)) }
-    ensures part { OnErr result (EachGainsPrefix (map (λ out. W.contents (inner out)) outs.old) (map (λ out. W.contents (inner out)) outs.new) (λ part. get_or (map (λ text. text.items) pending.old) part [])) }
+    ensures part { OnErr result
+        (EachGainsPrefix (map (λ out. W.contents (inner out)) outs.old) (map (λ out. W.contents (inner out)) outs.new)
+        (λ part. get_or (map (λ text. text.items) pending.old) part [])) }
 {
     let mut at = 0;
     'parts: while at < outs.len() {
@@ -283,11 +303,11 @@ fn write_all_parts<W: Write>(
     Ok(())
 }
 
-/// Splits a document by the subjects of its triples: each line with a triple goes to the writer of its part
-/// ([`part_of`] its subject's dictionary string), byte for byte with its end, in the order of the input. A last line
-/// without an end gets a line feed. Blank lines and comments go nowhere. There are as many parts as writers. If `prefix`
-/// is not empty, it is put before each label of a blank node, also before the part of a subject is found; it must have
-/// characters of labels only, if the lines are to stay N-Triples.
+/// Splits a document by the subjects of its triples: each line with a triple is written to the writer of its part, byte
+/// for byte with its end, in the order of the input. There are as many parts as writers; the part is the CRC-32 of the
+/// subject's dictionary string, as gzip defines it, modulo their number. A last line without an end gets a line feed.
+/// Blank lines and comments are written nowhere. `prefix`, unless empty, is inserted before each blank node label, also
+/// when the part of a subject is computed. If it is itself a label, the output is N-Triples.
 ///
 /// Linear time. Memory: the longest line, twice, and 64 KiB for the input and for each part.
 ///
@@ -304,16 +324,19 @@ pub fn split_document<R: Read, W: Write>(
 ) -> Result<SplitReport, SplitFault>
     requires parts { (0 < length outs.old) × (length outs.old < 2 ^ 32) }
     // Each writer has gained the lines of its part, and no line is faulty.
-    ensures ok { IfOk result (SplitsInput prefix.now (R.remaining (inner input.old)) (map (λ out. W.contents (inner out)) outs.old) (map (λ out. W.contents (inner out)) outs.new)) }
+    ensures ok { IfOk result (SplitsInput prefix.now (R.remaining (inner input.old))
+        (map (λ out. W.contents (inner out)) outs.old) (map (λ out. W.contents (inner out)) outs.new)) }
     // After an error each has gained a prefix of those before it. The first faulty line is the error.
-    ensures stopped { IfErr result (SplitsUntilFault prefix.now (R.remaining (inner input.old)) (R.remaining (inner input.new)) (map (λ out. W.contents (inner out)) outs.old) (map (λ out. W.contents (inner out)) outs.new)) }
+    ensures stopped { IfErr result
+        (SplitsUntilFault prefix.now (R.remaining (inner input.old)) (R.remaining (inner input.new))
+        (map (λ out. W.contents (inner out)) outs.old) (map (λ out. W.contents (inner out)) outs.new)) }
     // The reader failed if the error says so, and only then.
     ensures read { IfErr result (λ e. IsSplitReadFault e → failures input.new ≡ failures input.old + 1) }
     ensures still { IfErr result (λ e. (IsSplitReadFault e → ⊥) → failures input.new ≡ failures input.old) }
     ensures reader_well { OnOk result (failures input.new ≡ failures input.old) }
     ensures writers_well { OnOk result (map (λ out. failures out) outs.new ≡ map (λ out. failures out) outs.old) }
 {
-    let mut lines = Lines::new(alloc, MAX_INPUT_BYTES)?;
+    let mut lines = Lines::new(alloc, MAX_INPUT_LEN)?;
     let mut splitter = Splitter::new(alloc, outs.len() as u32);
     let mut pending = empty_texts(alloc, outs.len())?;
     'lines: while !lines.has_ended() {
@@ -322,9 +345,9 @@ pub fn split_document<R: Read, W: Write>(
             Err(fault) => return Err(SplitFault::Line(fault)),
         };
         let number = lines.line_number();
-        splitter.place(prefix, number, n)?;
+        splitter.assign_part(prefix, number, n)?;
         splitter.collect(prefix, number, n, &mut pending)?;
-        write_part(PIECE, splitter.part as usize, &mut pending, outs)?;
+        write_part(FLUSH_LEN, splitter.part as usize, &mut pending, outs)?;
     }
     write_all_parts(&mut pending, outs)?;
     Ok(splitter.report)

@@ -5,12 +5,12 @@ ghost use Rattle.hdt_terms.specs.Terms.{IsText};
 ghost use Rattle.hdt_terms.specs.Strings.{IsTermOfString, IsSuffixOfString, suffix_of_ref, term_of_ref, kind_of};
 
 use crate::chars::is_absolute;
-use crate::encoding::is_ascii_text;
 use crate::iri::is_iri;
 use crate::label::is_label;
 use crate::tag::is_tag;
 use crate::text::Text;
 use crate::triple::{Suffix, Term, TermKind};
+use crate::utf8::is_ascii_text;
 use memchr::{memchr, memrchr};
 use std::alloc::{AllocError, Global};
 
@@ -104,14 +104,16 @@ fn is_text(bytes: &[u8]) -> bool
 
 /// The rest after the prefix, if the bytes start with it.
 fn behind<'a>(prefix: &[u8], bytes: &'a [u8]) -> Option<&'a [u8]>
-    ensures { MatchOption result ((rest : List ℕ) → bytes.now ≢ prefix.now ++ rest) (λ rest. bytes.now ≡ prefix.now ++ rest.now) }
+    ensures { MatchOption result ((rest : List ℕ) → bytes.now ≢ prefix.now ++ rest) (λ rest. bytes.now
+        ≡ prefix.now ++ rest.now) }
 {
     bytes.strip_prefix(prefix)
 }
 
 /// The bytes before the suffix, if they end with it.
 fn before<'a>(bytes: &'a [u8], end: &[u8]) -> Option<&'a [u8]>
-    ensures { MatchOption result ((front : List ℕ) → bytes.now ≢ front ++ end.now) (λ front. bytes.now ≡ front.now ++ end.now) }
+    ensures { MatchOption result ((front : List ℕ) → bytes.now ≢ front ++ end.now) (λ front. bytes.now
+        ≡ front.now ++ end.now) }
 {
     bytes.strip_suffix(end)
 }

@@ -1,4 +1,5 @@
--- `info` decides whether a file is tight, and whether it is the file that `rewrite` makes of it, of which there is only one.
+-- `info` decides whether a file is tight, and whether it is the file that `rewrite` makes of it, of which there is only
+-- one.
 use Rattle.std.proofs.Common.{◌≡◌, ◌↔◌, ◌∙◌, ℕ, Bool, false, List, Result, Ok, Err, subst, sym}
 use Rattle.std.specs.Prelude.{IsTrue}
 use Rattle.std.specs.Str.{bytes_eq}
@@ -7,14 +8,14 @@ use Rattle.hdt_wire.specs.Checks.{ReadsUnlessOom}
 use Rattle.hdt_wire.specs.declared.fault.Fault.{Fault}
 use Rattle.hdt_file.specs.File.{GraphParts, IsLayout}
 use Rattle.hdt_file.specs.Faults.{open_fault_of}
-use Rattle.hdt_file.specs.GraphView.{graph_counts}
+use Rattle.hdt_file.specs.Graph.{graph_counts}
 use Rattle.hdt_file.specs.Tight.{IsTightLayout}
 use Rattle.hdt_file.specs.declared.fault.OpenFault.{OpenFault}
 use Rattle.hdt_file.specs.declared.fault.OpenFault.TheVariants as opening
 use Rattle.hdt_build.specs.Canonical.{IsCanonical}
 use Rattle.hdt_build.specs.Layouts.{denoted_by}
 use Rattle.hdt_build.specs.Options.{IsBlockSize}
-use Rattle.hdt_build.specs.Rewritten.{IsRewritten}
+use Rattle.hdt_build.specs.Built.{IsRewritten}
 use Rattle.hdt_build.specs.declared.options.Report.{Report}
 use Rattle.hdt_tool.specs.Info.{IsRewrittenAs, IsTightFile}
 use Rattle.hdt_tool.specs.Outcomes.{IsFaultOfBytes}
@@ -23,7 +24,8 @@ use Rattle.hdt_tool.specs.declared.fault.ToolFault.TheVariants.{OutOfMemory}
 use Rattle.hdt_tool.specs.declared.request.Action.TheVariants.{Info}
 
 -- The rewritten file has the same bytes.
-is_same : (b : ℕ) (bytes made : List ℕ) (graph : GraphParts) (report : Report) → IsBlockSize b → IsLayout bytes graph → IsRewritten b graph made report → made ≡ bytes → IsRewrittenAs b bytes
+is_same : (b : ℕ) (bytes made : List ℕ) (graph : GraphParts) (report : Report) → IsBlockSize b → IsLayout bytes graph
+    → IsRewritten b graph made report → made ≡ bytes → IsRewrittenAs b bytes
 is_same b bytes made graph report size encoded rewritten same = record {
   size = size;
   graph = graph;
@@ -32,21 +34,27 @@ is_same b bytes made graph report size encoded rewritten same = record {
   rewritten = subst (λ (x : List ℕ). IsRewritten b graph x report) same rewritten;
 }
 
-same_is : (b : ℕ) (bytes made : List ℕ) (graph : GraphParts) (report : Report) → ((other : GraphParts) → IsLayout bytes other → other ≡ graph)
-    → ((x y : List ℕ) → IsCanonical graph.header (denoted_by graph) b x → IsCanonical graph.header (denoted_by graph) b y → x ≡ y)
+same_is : (b : ℕ) (bytes made : List ℕ) (graph : GraphParts) (report : Report)
+    → ((other : GraphParts) → IsLayout bytes other → other ≡ graph)
+    → ((x y : List ℕ) → IsCanonical graph.header (denoted_by graph) b x
+    → IsCanonical graph.header (denoted_by graph) b y → x ≡ y)
     → IsRewritten b graph made report → IsRewrittenAs b bytes → made ≡ bytes
 same_is b bytes made graph report only alone rewritten h =
     let other = subst (λ (g : GraphParts). IsRewritten b g bytes h.report) (only h.graph h.encoded) h.rewritten in
     alone made bytes rewritten.file other.file
 
 -- Comparing the bytes with the rewritten file decides whether they are that file.
-pub compared : (b : ℕ) (bytes made : List ℕ) (graph : GraphParts) (report : Report) (same : Bool) → same ≡ bytes_eq made bytes → IsBlockSize b → IsLayout bytes graph
+pub compared : (b : ℕ) (bytes made : List ℕ) (graph : GraphParts) (report : Report) (same : Bool)
+    → same ≡ bytes_eq made bytes → IsBlockSize b → IsLayout bytes graph
     → ((other : GraphParts) → IsLayout bytes other → other ≡ graph)
-    → ((x y : List ℕ) → IsCanonical graph.header (denoted_by graph) b x → IsCanonical graph.header (denoted_by graph) b y → x ≡ y)
+    → ((x y : List ℕ) → IsCanonical graph.header (denoted_by graph) b x
+    → IsCanonical graph.header (denoted_by graph) b y → x ≡ y)
     → IsRewritten b graph made report → IsTrue same ↔ IsRewrittenAs b bytes
 compared b bytes made graph report same is size encoded only alone rewritten =
-    let decides = bytes_eq-Decides made bytes in
-    (λ t. is_same b bytes made graph report size encoded rewritten (decides.0 (sym is ∙ t)), λ h. is ∙ decides.1 (same_is b bytes made graph report only alone rewritten h))
+    let decides = bytes_eq-Decides made bytes in (
+      λ t. is_same b bytes made graph report size encoded rewritten (decides.0 (sym is ∙ t)),
+      λ h. is ∙ decides.1 (same_is b bytes made graph report only alone rewritten h),
+    )
 
 -- A block size that `rewrite` does not take.
 pub bad_size : (b : ℕ) (bytes : List ℕ) → (IsBlockSize b → ⊥) → IsTrue false ↔ IsRewrittenAs b bytes
@@ -54,17 +62,26 @@ bad_size b bytes bad = (λ t. absurd (cc), λ h. absurd (bad h.size))
 
 -- A file whose tight reading fails.
 pub not_tight : (bytes : List ℕ) (e : OpenFault) (fault : Fault) → e ≡ opening.Fault fault
-    → ((graph : GraphParts) → IsTightLayout bytes graph → ReadsUnlessOom open_fault_of (λ (lens : List ℕ). lens) (Err e) (Ok (graph_counts graph))) → IsTrue false ↔ IsTightFile bytes
-not_tight bytes e fault is only =
-    (λ t. absurd (cc), λ h. let k = subst (λ (e : OpenFault). ReadsUnlessOom open_fault_of (λ (lens : List ℕ). lens) (Err e) (Ok (graph_counts h.0))) is (only h.0 h.1) in absurd (cc))
+    → ((graph : GraphParts) → IsTightLayout bytes graph
+    → ReadsUnlessOom open_fault_of (λ (lens : List ℕ). lens) (Err e) (Ok (graph_counts graph))) → IsTrue false
+    ↔ IsTightFile bytes
+not_tight bytes e fault is only = (
+  λ t. absurd (cc),
+  λ h. let k =
+      subst (λ (e : OpenFault). ReadsUnlessOom open_fault_of (λ (lens : List ℕ). lens) (Err e)
+      (Ok (graph_counts h.0))) is (only h.0 h.1) in absurd (cc),
+)
 
 graph_is : (a b : GraphParts) → (let r : Result GraphParts Fault = Ok a in r) ≡ Ok b → a ≡ b
 graph_is a b e = cc
 
 -- An opened file has no other graph.
-pub only_graph : (bytes : List ℕ) (graph : GraphParts) → ((other : GraphParts) → IsLayout bytes other → (let r : Result GraphParts Fault = Ok other in r) ≡ Ok graph) → (other : GraphParts) → IsLayout bytes other → other ≡ graph
+pub only_graph : (bytes : List ℕ) (graph : GraphParts)
+    → ((other : GraphParts) → IsLayout bytes other → (let r : Result GraphParts Fault = Ok other in r) ≡ Ok graph)
+    → (other : GraphParts) → IsLayout bytes other → other ≡ graph
 only_graph bytes graph only other h = graph_is other graph (only other h)
 
 -- Memory that ran out is no error of the file.
-pub out_of_memory : (json : Bool) (bytes : List ℕ) (e : ToolFault) → e ≡ OutOfMemory → IsFaultOfBytes (Info json) bytes e
+pub out_of_memory : (json : Bool) (bytes : List ℕ) (e : ToolFault) → e ≡ OutOfMemory
+    → IsFaultOfBytes (Info json) bytes e
 out_of_memory json bytes e is = subst (λ (t : ToolFault). IsFaultOfBytes (Info json) bytes t) (sym is) tt

@@ -13,6 +13,5 @@ mod InfoLaws
 mod Triples
 pub mod Statuses
 pub mod Dialogues
-mod TermReportLaws
-mod ReportLaws
+mod NonTermLaws
 mod FindActions

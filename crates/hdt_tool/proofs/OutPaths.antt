@@ -8,23 +8,25 @@ use Rattle.hdt_tool.specs.declared.request.Action.{Action}
 use Rattle.hdt_tool.specs.declared.request.Action.TheVariants.{Build, Rewrite}
 use Rattle.hdt_tool.specs.declared.request.Request.{Request}
 use Rattle.hdt_tool.specs.Outcomes.{HasOut, MakesFile, IsReadOnly}
-use Rattle.hdt_tool.specs.CommandLine.{IsRequestOfCommand, IsFileAction, IsRequestOf, IsMakeAction, ParsesToRequest}
+use Rattle.hdt_tool.specs.CommandLine.{IsRequestOfCommand, IsQueryAction, IsRequestOf, IsOutputAction, ParsesToRequest}
 
-reads : (name : Text) (rows : List Row) (action : Action) → IsFileAction name rows action → IsReadOnly action
+reads : (name : Text) (rows : List Row) (action : Action) → IsQueryAction name rows action → IsReadOnly action
 reads name rows (Build options) h = h
 reads name rows (Rewrite b) h = h
 reads name rows action h = tt
 
-makes : (name : Text) (rows : List Row) (action : Action) → IsMakeAction name rows action → MakesFile action
+makes : (name : Text) (rows : List Row) (action : Action) → IsOutputAction name rows action → MakesFile action
 makes name rows (Build options) h = tt
 makes name rows (Rewrite b) h = tt
 makes name rows action h = h
 
-without : (A B : Type 0) (out : Option (String Global)) → option_map string_bytes out ≡ None → A → MatchOption out A (λ path. B)
+without : (A B : Type 0) (out : Option (String Global)) → option_map string_bytes out ≡ None → A
+    → MatchOption out A (λ path. B)
 without A B None e h = h
 without A B (Some path) e h = absurd cc
 
-with : (A B : Type 0) (P : String Global → Type 0) (out : Option (String Global)) → IsSomeAnd out P → B → MatchOption out A (λ path. B)
+with : (A B : Type 0) (P : String Global → Type 0) (out : Option (String Global)) → IsSomeAnd out P → B
+    → MatchOption out A (λ path. B)
 with A B P None some h = absurd some
 with A B P (Some path) some h = h
 

@@ -1,5 +1,5 @@
 -- The output and the new file of a run, by kind of command.
-use Rattle.std.proofs.Common.{◌≡◌, ◌≢◌, ◌+◌, ◌++◌, ◌∙◌, ℕ, List, [], Option, Result, Ok, Err, length, take, refl, sym, ap, subst}
+use Rattle.std.proofs.Common.{◌≡◌, ◌≢◌, ◌+◌, ◌++◌, ◌∙◌, ℕ, Bool, List, [], Option, Result, Ok, Err, length, take, refl, sym, ap, subst}
 use Rattle.std.specs.Prelude.{IfErr, IsErrOf, OnErr, OnOk}
 use Rattle.std.specs.Io.KnownBytes.{Appends}
 use Rattle.std.proofs.lemmas.List.{append-nil, take_at}
@@ -7,11 +7,13 @@ use Rattle.hdt_build.specs.Reading.{ReadFailed}
 use Rattle.hdt_build.specs.declared.fault.BuildFault.{BuildFault}
 use Rattle.hdt_build.specs.declared.fault.BuildFault.TheVariants as building
 use Rattle.hdt_build.specs.declared.options.Options.{Options}
+use Rattle.hdt_wire.specs.declared.role.Role.{Role}
 use Rattle.hdt_tool.specs.declared.fault.ToolFault.{ToolFault}
 use Rattle.hdt_tool.specs.declared.fault.ToolFault.TheVariants.{BadOptions, Read, Write}
 use Rattle.hdt_tool.specs.declared.request.Action.{Action}
-use Rattle.hdt_tool.specs.declared.request.Action.TheVariants.{Build, Rewrite}
-use Rattle.hdt_tool.specs.Outcomes.{Completes, FailsAfter, IfBuild, IsFaultOfInput, IsReadOnly, Prints, ReadsAll, ReadsWith, RewritesFile, WritesOutputPrefix, Yields, YieldsAppended}
+use Rattle.hdt_tool.specs.declared.request.Action.TheVariants.{Build, Rewrite, SkipNonTerms, Strings, VerifyTerms}
+use Rattle.hdt_tool.specs.Outcomes.{Completes, FailsAfter, IfBuild, IsFaultOfInput, IsReadOnly, Prints, PrintsCountingNonTerms, PrintsText, PrintsWithCount, ReadsAll, ReadsWith, RewritesFile, WritesOutputPrefix, Yields, YieldsAppended}
+use Rattle.hdt_tool.specs.TriplesText.{GivenStrings}
 use Rattle.hdt_tool.specs.Faults.{build_fault_of, fault_of_reason}
 
 -- If the command's error is not a read error, neither is that of the builder.
@@ -20,26 +22,77 @@ not_failed (building.Line fault) not h = not (ap (fault_of_reason fault) h)
 not_failed fault not h = h
 
 -- A command other than `build` and `rewrite` writes no file.
-pub read_only : (action : Action) → ((options : Options) → action ≢ Build options) → ((b : ℕ) → action ≢ Rewrite b) → IsReadOnly action
+pub read_only : (action : Action) → ((options : Options) → action ≢ Build options) → ((b : ℕ) → action ≢ Rewrite b)
+    → IsReadOnly action
 read_only (Build options) not_build not_rewrite = absurd (not_build options refl)
 read_only (Rewrite b) not_build not_rewrite = absurd (not_rewrite b refl)
 read_only action not_build not_rewrite = tt
 
 -- A command that writes no file leaves `made` unchanged.
-pub nothing_built : (action : Action) → IsReadOnly action → (before after : Option (List ℕ)) (text made : List ℕ) → ReadsWith before after (λ bytes. Prints action bytes text)
+pub nothing_built : (action : Action) → IsReadOnly action → (before after : Option (List ℕ)) (text made : List ℕ)
+    → ReadsWith before after (λ bytes. Prints action bytes text)
     → YieldsAppended action before after text made made
 nothing_built (Build options) is before after text made h = absurd is
 nothing_built (Rewrite b) is before after text made h = absurd is
-nothing_built action is before after text made h = record { built = []; yields = (h, refl); made = sym (append-nil made) }
+nothing_built action is before after text made h =
+    record { built = []; yields = (h, refl); made = sym (append-nil made) }
+
+-- What a command prints, with what it counts, is its output.
+printed : (action : Action) (bytes text : List ℕ) (n : ℕ) → PrintsWithCount action bytes text n
+    → Prints action bytes text
+printed (SkipNonTerms given count most) bytes text n h = (n, h)
+printed (VerifyTerms tight) bytes text n h = (n, h)
+printed action bytes text n h = h.0
+
+pub reads_printed : (action : Action) (before after : Option (List ℕ)) (text : List ℕ) (n : ℕ)
+    → ReadsWith before after (λ bytes. PrintsWithCount action bytes text n)
+    → ReadsWith before after (λ bytes. Prints action bytes text)
+reads_printed action before after text n h =
+    record { bytes = h.bytes; read = h.read; holds = printed action h.bytes text n h.holds }
+
+-- Commands that count, and those that don't.
+pub counts_non_terms : (action : Action) (bytes text : List ℕ) (n : ℕ) → PrintsCountingNonTerms action bytes text n
+    → PrintsWithCount action bytes text n
+counts_non_terms (SkipNonTerms given count most) bytes text n h = h
+counts_non_terms (VerifyTerms tight) bytes text n h = h
+counts_non_terms action bytes text n h = absurd h
+
+pub counts_nothing : (action : Action) (bytes text : List ℕ) → PrintsText action → Prints action bytes text
+    → PrintsWithCount action bytes text 0
+counts_nothing (SkipNonTerms given count most) bytes text is h = absurd is
+counts_nothing (VerifyTerms tight) bytes text is h = absurd is
+counts_nothing action bytes text is h = (h, refl)
+
+pub prints_text : (action : Action) → IsReadOnly action → ((role : Role) → action ≢ Strings role)
+    → ((given : GivenStrings) (count : Bool) (most : Option ℕ) → action ≢ SkipNonTerms given count most)
+    → ((tight : Bool) → action ≢ VerifyTerms tight) → PrintsText action
+prints_text (Strings role) is not_strings not_skipping not_terms = absurd (not_strings role refl)
+prints_text (SkipNonTerms given count most) is not_strings not_skipping not_terms =
+    absurd (not_skipping given count most refl)
+prints_text (VerifyTerms tight) is not_strings not_skipping not_terms = absurd (not_terms tight refl)
+prints_text action is not_strings not_skipping not_terms = is
 
 -- `rewrite` of the bytes that were read.
-pub rewrites : (b : ℕ) (before after : Option (List ℕ)) (bytes seen text made more : List ℕ) → ReadsAll before after bytes → seen ≡ bytes
-    → ((file : List ℕ) × RewritesFile b seen text file × (more ≡ made ++ file)) → YieldsAppended (Rewrite b) before after text made more
+pub rewrites : (b : ℕ) (before after : Option (List ℕ)) (bytes seen text made more : List ℕ)
+    → ReadsAll before after bytes → seen ≡ bytes
+    → ((file : List ℕ) × RewritesFile b seen text file × (more ≡ made ++ file))
+    → YieldsAppended (Rewrite b) before after text made more
 rewrites b before after bytes seen text made more read same h = record {
   built = h.0;
-  yields = record { bytes = bytes; read = read; holds = subst (λ (bytes : List ℕ). RewritesFile b bytes text h.0) same h.1 };
+  yields = record {
+    bytes = bytes;
+    read = read;
+    holds =
+        subst (λ (bytes : List ℕ). RewritesFile b bytes text h.0) same h.1;
+  };
   made = h.2;
 }
+
+-- What follows for the options of `build`.
+pub if_build : (action : Action) (P Q : Options → Type 0) → ((options : Options) → P options → Q options)
+    → IfBuild action P → IfBuild action Q
+if_build (Build options) P Q f h = f options h
+if_build action P Q f h = tt
 
 -- It has no options of `build`.
 pub no_options : (action : Action) (Holds : Options → Type 0) → IsReadOnly action → IfBuild action Holds
@@ -53,15 +106,23 @@ abbrev pub IsWriteFault : List ℕ → Option (List ℕ) → Option (List ℕ) �
 IsWriteFault text old new f g e = (n : ℕ) × (e ≡ Write n) × FailsAfter n text old new f g
 
 -- All of the text is written.
-pub completes : (r : Result (Unit {0}) ToolFault) (action : Action) (before after old new : Option (List ℕ)) (text made mid last : List ℕ) → YieldsAppended action before after text made mid
+pub completes : (r : Result (Unit {0}) ToolFault) (action : Action) (before after old new : Option (List ℕ))
+    (text made mid last : List ℕ) → YieldsAppended action before after text made mid
     → OnOk r (Appends old new text) → OnOk r (last ≡ mid) → OnOk r (Completes action before after old new made last)
 completes (Ok done) action before after old new text made mid last makes written same =
-    record { text = text; makes = subst (YieldsAppended action before after text made) (sym same) makes; written = written }
+    record {
+      text = text;
+      makes = subst (YieldsAppended action before after text made) (sym same) makes;
+      written =
+          written;
+    }
 completes (Err e) action before after old new text made mid last makes written same = tt
 
 -- A prefix of it is written.
-pub writes_prefix : (r : Result (Unit {0}) ToolFault) (action : Action) (before after old new : Option (List ℕ)) (text built : List ℕ) (f g : ℕ) → Yields action before after text built
-    → IfErr r (IsWriteFault text old new f g) → IfErr r (λ e. (n : ℕ) → e ≡ Write n → (g ≡ f + 1) × WritesOutputPrefix action before after old new n)
+pub writes_prefix : (r : Result (Unit {0}) ToolFault) (action : Action) (before after old new : Option (List ℕ))
+    (text built : List ℕ) (f g : ℕ) → Yields action before after text built
+    → IfErr r (IsWriteFault text old new f g)
+    → IfErr r (λ e. (n : ℕ) → e ≡ Write n → (g ≡ f + 1) × WritesOutputPrefix action before after old new n)
 writes_prefix (Ok done) action before after old new text built f g yields fails = tt
 writes_prefix (Err e) action before after old new text built f g yields fails = λ n is.
     let same : Write fails.0 ≡ Write n = sym fails.1 ∙ is in
@@ -70,23 +131,30 @@ writes_prefix (Err e) action before after old new text built f g yields fails = 
     (cut.failed, record { text = text; built = built; yields = yields; within = cut.within; written = cut.written })
 
 -- A write error is an error of any run, and no other error.
-pub told_writing : (r : Result (Unit {0}) ToolFault) (action : Action) (before after old new : Option (List ℕ)) (text : List ℕ) (f g : ℕ) → IfErr r (IsWriteFault text old new f g)
+pub told_writing : (r : Result (Unit {0}) ToolFault) (action : Action) (before after old new : Option (List ℕ))
+    (text : List ℕ) (f g : ℕ) → IfErr r (IsWriteFault text old new f g)
     → IfErr r (IsFaultOfInput action before after)
 told_writing (Ok done) action before after old new text f g fails = tt
-told_writing (Err e) action before after old new text f g fails = subst (IsFaultOfInput action before after) (sym fails.1) tt
+told_writing (Err e) action before after old new text f g fails =
+    subst (IsFaultOfInput action before after) (sym fails.1) tt
 
-pub only_writing : (A : ToolFault → Type 0) (r : Result (Unit {0}) ToolFault) (old new : Option (List ℕ)) (text : List ℕ) (f g : ℕ) → IfErr r (IsWriteFault text old new f g)
+pub only_writing : (A : ToolFault
+    → Type 0) (r : Result (Unit {0}) ToolFault) (old new : Option (List ℕ)) (text : List ℕ) (f g : ℕ)
+    → IfErr r (IsWriteFault text old new f g)
     → IfErr r (λ e. ((n : ℕ) → e ≢ Write n) → A e)
 only_writing A (Ok done) old new text f g fails = tt
 only_writing A (Err e) old new text f g fails = λ none. absurd (none fails.0 fails.1)
 
-pub not_bad_writing : (r : Result (Unit {0}) ToolFault) (old new : Option (List ℕ)) (text : List ℕ) (f g : ℕ) → IfErr r (IsWriteFault text old new f g) → IsErrOf r BadOptions → ⊥
+pub not_bad_writing : (r : Result (Unit {0}) ToolFault) (old new : Option (List ℕ)) (text : List ℕ) (f g : ℕ)
+    → IfErr r (IsWriteFault text old new f g) → IsErrOf r BadOptions → ⊥
 not_bad_writing (Ok done) old new text f g fails is = absurd cc
 not_bad_writing (Err e) old new text f g fails is =
     let bad : e ≡ BadOptions = cc in
     let same : Write fails.0 ≡ BadOptions = sym fails.1 ∙ bad in absurd cc
 
 -- Truncation removes exactly what was appended.
-pub restored : (r : Result (Unit {0}) ToolFault) (start : ℕ) (before built after new : List ℕ) → length before ≡ start → after ≡ before ++ built → OnErr r (new ≡ take start after) → OnErr r (new ≡ before)
+pub restored : (r : Result (Unit {0}) ToolFault) (start : ℕ) (before built after new : List ℕ) → length before ≡ start
+    → after ≡ before ++ built → OnErr r (new ≡ take start after) → OnErr r (new ≡ before)
 restored (Ok done) start before built after new long made cut = tt
-restored (Err e) start before built after new long made cut = cut ∙ ap (take start) made ∙ take_at before built start long
+restored (Err e) start before built after new long made cut = cut ∙ ap (take start) made
+    ∙ take_at before built start long

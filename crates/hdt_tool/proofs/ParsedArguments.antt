@@ -15,76 +15,103 @@ use Rattle.hdt_tool.specs.declared.request.Action.{Action}
 use Rattle.hdt_tool.specs.declared.request.Request.{Request}
 use Rattle.hdt_tool.specs.declared.request.Action.TheVariants as action
 use Rattle.hdt_tool.specs.declared.request.SplitOptions.{SplitOptions}
-use Rattle.hdt_tool.specs.CommandLine.{IsFileAction, IsSplitCommand, IsRequestOf, IsFileRequest, IsMakeRequest, IsMakeAction, Refutes, RefutesOrInvalidTerm, IsFaultOfArgument, IsInvalidTerm, IsInvalidPart, IsUsed, HasInvalidTerm, ParsesAsOptions, IsFaultOfTerm}
+use Rattle.hdt_tool.specs.CommandLine.{IsQueryAction, ParsesAsSplitOptions, IsRequestOf, IsQueryRequest, IsOutputRequest, IsOutputAction, Refutes, RefutesOrInvalidTerm, IsFaultOfArgument, IsInvalidTerm, IsInvalidPatternTerm, IsUsed, HasInvalidTerm, ParsesAsBuildOptions, IsFaultOfTerm}
 use Rattle.hdt_tool.specs.ErrorLines.{argument_name}
 
 some_is : (a b : Text) → Some a ≡ Some b → a ≡ b
 some_is a b e = cc
 
 -- An error that refutes P, or is one of Q, also refutes every W that implies P, or is one of every Z that contains Q.
-pub map_refutes : (P W : Type 0) (Q Z : TermArgument → TermFault → Type 0) (r : UsageFault) → (W → P) → ((word : TermArgument) (fault : TermFault) → Q word fault → Z word fault) → RefutesOrInvalidTerm P Q r → RefutesOrInvalidTerm W Z r
+pub map_refutes : (P W : Type 0) (Q Z : TermArgument → TermFault → Type 0) (r : UsageFault) → (W → P)
+    → ((argument : TermArgument) (fault : TermFault) → Q argument fault → Z argument fault) → RefutesOrInvalidTerm P Q r
+    → RefutesOrInvalidTerm W Z r
 map_refutes P W Q Z (Help said) f g h = absurd h
 map_refutes P W Q Z (Usage said) f g h = λ w. h (f w)
-map_refutes P W Q Z (InvalidTerm word fault) f g h = g word fault h
+map_refutes P W Q Z (InvalidTerm argument fault) f g h = g argument fault h
 map_refutes P W Q Z OutOfMemory f g h = tt
 
-pub without_or : (P W : Type 0) (Q : TermArgument → TermFault → Type 0) (r : UsageFault) → (W → P) → Refutes P r → RefutesOrInvalidTerm W Q r
-without_or P W Q r f h = map_refutes P W (λ _ _. ⊥) Q r f (λ word fault none. absurd none) h
+pub without_or : (P W : Type 0) (Q : TermArgument → TermFault → Type 0) (r : UsageFault) → (W → P) → Refutes P r
+    → RefutesOrInvalidTerm W Q r
+without_or P W Q r f h = map_refutes P W (λ _ _. ⊥) Q r f (λ argument fault none. absurd none) h
 
 pub without : (P W : Type 0) (r : UsageFault) → (W → P) → Refutes P r → Refutes W r
 without P W r f h = without_or P W (λ _ _. ⊥) r f h
 
 -- The error of parsing a text as a term.
-pub term_fault_of_argument : (word : TermArgument) (text : List ℕ) (raw : Bool) (fault : TermFault) (r : UsageFault) → raw ≡ false → IsFaultOfTerm word fault r → (fault ≡ out_of_memory) ⊎ IsTermError text fault
-    → RefutesOrInvalidTerm (Unit {0}) (IsFaultOfArgument word raw text) r
-term_fault_of_argument word text raw fault (InvalidTerm other told) unused k (inl e) = absurd (k.2 (ap (λ (f : TermFault). f.reason) e))
-term_fault_of_argument word text raw fault (InvalidTerm other told) unused k (inr f) = (k.0, unused, subst (IsTermError text) (sym k.1) f)
-term_fault_of_argument word text raw fault OutOfMemory unused k h = tt
-term_fault_of_argument word text raw fault r unused k h = absurd k
+pub term_fault_of_argument : (argument : TermArgument) (text : List ℕ) (raw : Bool) (fault : TermFault) (r : UsageFault)
+    → raw ≡ false → IsFaultOfTerm argument fault r → (fault ≡ out_of_memory) ⊎ IsTermError text fault
+    → RefutesOrInvalidTerm (Unit {0}) (IsFaultOfArgument argument raw text) r
+term_fault_of_argument argument text raw fault (InvalidTerm other told) unused k (inl e) =
+    absurd (k.2 (ap (λ (f : TermFault). f.reason) e))
+term_fault_of_argument argument text raw fault (InvalidTerm other told) unused k (inr f) =
+    (k.0, unused, subst (IsTermError text) (sym k.1) f)
+term_fault_of_argument argument text raw fault OutOfMemory unused k h = tt
+term_fault_of_argument argument text raw fault r unused k h = absurd k
 
 -- The error is one of the argument's entry.
-in_entry : (word : TermArgument) (rows : List Row) (text : List ℕ) (flag : Bool) (other : TermArgument) (fault : TermFault) → (IsUsed (one_of (codes "raw") rows) → flag ≡ true)
-    → first_of (argument_name word) rows ≡ Some text → IsFaultOfArgument word flag text other fault → IsInvalidTerm rows word fault
-in_entry word rows text flag other fault on is h =
-    (λ used. let bad : true ≡ false = sym (on used) ∙ h.1 in absurd cc, subst (λ (e : Option Text). IsSomeAnd e (λ t. IsTermError t fault)) (sym is) h.2)
+in_entry : (argument : TermArgument) (rows : List Row) (text : List ℕ) (flag : Bool) (other : TermArgument)
+    (fault : TermFault) → (IsUsed (one_of (codes "raw") rows) → flag ≡ true)
+    → first_of (argument_name argument) rows ≡ Some text → IsFaultOfArgument argument flag text other fault
+    → IsInvalidTerm rows argument fault
+in_entry argument rows text flag other fault on is h = (
+  λ used. let bad : true ≡ false = sym (on used) ∙ h.1 in absurd cc,
+  subst (λ (e : Option Text). IsSomeAnd e (λ t. IsTermError t fault)) (sym is) h.2,
+)
 
-pub invalid_term : (word : TermArgument) (rows : List Row) (text : List ℕ) (flag : Bool) (r : UsageFault) → (IsUsed (one_of (codes "raw") rows) → flag ≡ true)
-    → first_of (argument_name word) rows ≡ Some text → RefutesOrInvalidTerm (Unit {0}) (IsFaultOfArgument word flag text) r
-    → RefutesOrInvalidTerm (IsSome (first_of (argument_name word) rows)) (λ other fault. (other ≡ word) × IsInvalidTerm rows word fault) r
-invalid_term word rows text flag r on is h = map_refutes _ _ _ _ r (λ _. tt) (λ other fault f. (f.0, in_entry word rows text flag other fault on is f)) h
+pub invalid_term : (argument : TermArgument) (rows : List Row) (text : List ℕ) (flag : Bool) (r : UsageFault)
+    → (IsUsed (one_of (codes "raw") rows) → flag ≡ true)
+    → first_of (argument_name argument) rows ≡ Some text
+    → RefutesOrInvalidTerm (Unit {0}) (IsFaultOfArgument argument flag text) r
+    → RefutesOrInvalidTerm (IsSome (first_of (argument_name argument) rows)) (λ other fault. (other ≡ argument)
+    × IsInvalidTerm rows argument fault) r
+invalid_term argument rows text flag r on is h =
+    map_refutes _ _ _ _ r (λ _. tt) (λ other fault f. (f.0, in_entry argument rows text flag other fault on is f)) h
 
-pub invalid_part : (word : TermArgument) (rows : List Row) (text : List ℕ) (flag : Bool) (r : UsageFault) → (IsUsed (one_of (codes "raw") rows) → flag ≡ true)
-    → first_of (argument_name word) rows ≡ Some text → RefutesOrInvalidTerm (Unit {0}) (λ other fault. (text ≢ codes "?") × IsFaultOfArgument word flag text other fault) r
-    → RefutesOrInvalidTerm (IsSome (first_of (argument_name word) rows)) (λ other fault. (other ≡ word) × IsInvalidPart rows word fault) r
-invalid_part word rows text flag r on is h =
-    map_refutes _ _ _ _ r (λ _. tt) (λ other fault f. (f.1.0, (λ any. f.0 (some_is _ _ (sym is ∙ any)), in_entry word rows text flag other fault on is f.1))) h
+pub invalid_part : (argument : TermArgument) (rows : List Row) (text : List ℕ) (flag : Bool) (r : UsageFault)
+    → (IsUsed (one_of (codes "raw") rows) → flag ≡ true)
+    → first_of (argument_name argument) rows ≡ Some text
+    → RefutesOrInvalidTerm (Unit {0}) (λ other fault. (text ≢ codes "?")
+    × IsFaultOfArgument argument flag text other fault) r
+    → RefutesOrInvalidTerm (IsSome (first_of (argument_name argument) rows)) (λ other fault. (other ≡ argument)
+    × IsInvalidPatternTerm rows argument fault) r
+invalid_part argument rows text flag r on is h =
+    map_refutes _ _ _ _ r (λ _. tt)
+    (λ other fault f. (
+      f.1.0,
+      (λ any. f.0 (some_is _ _ (sym is ∙ any)), in_entry argument rows text flag other fault on is f.1),
+    )) h
 
 -- ---- what every action needs
 
 -- Two different names.
 pub differ : {P : Type 0} (name a b : Text) → name ≡ a → name ≡ b → bytes_eq a b ≡ false → P
-differ name a b p q apart = let same : bytes_eq a b ≡ true = (bytes_eq-Decides a b).1 (sym p ∙ q) in let bad : true ≡ false = sym same ∙ apart in absurd cc
+differ name a b p q apart = let same : bytes_eq a b ≡ true = (bytes_eq-Decides a b).1 (sym p ∙ q) in
+    let bad : true ≡ false = sym same ∙ apart in absurd cc
 
 -- ---- `build` and `rewrite`
 
 -- `build` needs its options.
-pub options_needed : (name : Text) (rows : List Row) → name ≡ codes "build" → (a : Action) → IsMakeAction name rows a → (options : Options) × ParsesAsOptions rows options
+pub options_needed : (name : Text) (rows : List Row) → name ≡ codes "build" → (a : Action) → IsOutputAction name rows a
+    → (options : Options) × ParsesAsBuildOptions rows options
 options_needed name rows is (action.Build options) h = (options, h.1)
 options_needed name rows is (action.Rewrite b) h = differ name _ _ is h.0 refl
 options_needed name rows is a h = absurd h
 
 -- Only `build` and `rewrite` write a file.
-only_these : (name : Text) (rows : List Row) (a : Action) → name ≢ codes "build" → name ≢ codes "rewrite" → IsMakeAction name rows a → ⊥
+only_these : (name : Text) (rows : List Row) (a : Action) → name ≢ codes "build" → name ≢ codes "rewrite"
+    → IsOutputAction name rows a → ⊥
 only_these name rows (action.Build options) build rewrite h = build h.0
 only_these name rows (action.Rewrite b) build rewrite h = rewrite h.0
 only_these name rows a build rewrite h = h
 
 -- A command that writes no file is neither `build` nor `rewrite`.
-other_name : {P : Type 0} (name other : Text) → (name ≡ codes "build") ⊎ (name ≡ codes "rewrite") → name ≡ other → bytes_eq (codes "build") other ≡ false → bytes_eq (codes "rewrite") other ≡ false → P
+other_name : {P : Type 0} (name other : Text) → (name ≡ codes "build") ⊎ (name ≡ codes "rewrite") → name ≡ other
+    → bytes_eq (codes "build") other ≡ false → bytes_eq (codes "rewrite") other ≡ false → P
 other_name name other (inl is) e build rewrite = differ name _ other is e build
 other_name name other (inr is) e build rewrite = differ name _ other is e rewrite
 
-none_on_file : (name : Text) (rows : List Row) → (name ≡ codes "build") ⊎ (name ≡ codes "rewrite") → (a : Action) → IsFileAction name rows a → ⊥
+none_on_file : (name : Text) (rows : List Row) → (name ≡ codes "build") ⊎ (name ≡ codes "rewrite") → (a : Action)
+    → IsQueryAction name rows a → ⊥
 none_on_file name rows is action.Head h = other_name name _ is h refl refl
 none_on_file name rows is (action.Find given numbers) (inl h) = other_name name _ is h.named refl refl
 none_on_file name rows is (action.Search given format most) h = other_name name _ is h.named refl refl
@@ -99,22 +126,28 @@ none_on_file name rows is a h = other_name name _ is h.0 refl refl
 
 -- A usage error of `build` and `rewrite` is one of the command line.
 pub of_making : (name : Text) (rows : List Row) (r : UsageFault) → (name ≡ codes "build") ⊎ (name ≡ codes "rewrite")
-    → Refutes ((request : Request) × IsMakeRequest name rows request) r
+    → Refutes ((request : Request) × IsOutputRequest name rows request) r
     → RefutesOrInvalidTerm ((request : Request) × IsRequestOf name rows request) (HasInvalidTerm name rows) r
 of_making name rows r is h =
-    without_or _ _ (HasInvalidTerm name rows) r (λ w. (w.0, ⊎_elim (λ file. absurd (none_on_file name rows is w.0.action file.action)) (λ asks. asks) w.1)) h
+    without_or _ _ (HasInvalidTerm name rows) r
+    (λ w. (w.0, ⊎_elim (λ file. absurd (none_on_file name rows is w.0.action file.action)) (λ asks. asks) w.1)) h
 
 -- So is one of the other commands.
 pub of_others : (name : Text) (rows : List Row) (r : UsageFault) → name ≢ codes "build" → name ≢ codes "rewrite"
-    → RefutesOrInvalidTerm ((request : Request) × IsFileRequest name rows request) (HasInvalidTerm name rows) r
+    → RefutesOrInvalidTerm ((request : Request) × IsQueryRequest name rows request) (HasInvalidTerm name rows) r
     → RefutesOrInvalidTerm ((request : Request) × IsRequestOf name rows request) (HasInvalidTerm name rows) r
 of_others name rows r build rewrite h =
-    map_refutes _ _ _ _ r (λ w. (w.0, ⊎_elim (λ file. file) (λ asks. absurd (only_these name rows w.0.action build rewrite asks.action)) w.1)) (λ word fault m. m) h
+    map_refutes _ _ _ _ r (λ w. (
+      w.0,
+      ⊎_elim (λ file. file) (λ asks. absurd (only_these name rows w.0.action build rewrite asks.action)) w.1,
+    ))
+    (λ argument fault m. m) h
 
 -- ---- `split`
 
 -- `split` needs its options.
-pub split_needed : (name : Text) (rows : List Row) → name ≡ codes "split" → (a : Action) → IsFileAction name rows a → (options : SplitOptions) × IsSplitCommand rows options
+pub split_needed : (name : Text) (rows : List Row) → name ≡ codes "split" → (a : Action) → IsQueryAction name rows a
+    → (options : SplitOptions) × ParsesAsSplitOptions rows options
 split_needed name rows is action.Head h = differ name _ _ is h refl
 split_needed name rows is (action.Find given numbers) (inl h) = differ name _ _ is h.named refl
 split_needed name rows is (action.Find given numbers) (inr h) = differ name _ _ is h.0 refl

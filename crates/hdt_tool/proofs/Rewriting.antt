@@ -18,14 +18,18 @@ size_written b h = grind arith
 
 -- The error of `rewrite` is an error for the bytes.
 pub not_rewritten : (b : ℕ) (bytes : List ℕ) (graph : GraphParts) (fault : RewriteFault) → IsLayout bytes graph
-    → (fault ≡ rewriting.BadOptions → IsBlockSize b → ⊥) → ((n : ℕ) → fault ≢ rewriting.Write n) → IsFaultOfBytes (Rewrite b) bytes (rewrite_fault_of fault)
-not_rewritten b bytes graph rewriting.BadOptions encoded bad unwritten = record { graph = graph; encoded = encoded; holds = bad refl }
+    → (fault ≡ rewriting.BadOptions → IsBlockSize b → ⊥) → ((n : ℕ) → fault ≢ rewriting.Write n)
+    → IsFaultOfBytes (Rewrite b) bytes (rewrite_fault_of fault)
+not_rewritten b bytes graph rewriting.BadOptions encoded bad unwritten =
+    record { graph = graph; encoded = encoded; holds = bad refl }
 not_rewritten b bytes graph rewriting.OutOfMemory encoded bad unwritten = tt
 not_rewritten b bytes graph (rewriting.Write n) encoded bad unwritten = absurd (unwritten n refl)
 
 -- An equivalence about `BadOptions` carries over from one result to another.
-pub still_bad : {T U : Type 0} (action : Action) (r : Result T ToolFault) (s : Result U ToolFault) → (IsErrOf r BadOptions → IsErrOf s BadOptions)
-    → (IsErrOf s BadOptions → IsErrOf r BadOptions) → IfBuild action (λ options. IsErrOf r BadOptions ↔ (AreValidOptions options → ⊥))
+pub still_bad : {T U : Type 0} (action : Action) (r : Result T ToolFault) (s : Result U ToolFault)
+    → (IsErrOf r BadOptions → IsErrOf s BadOptions)
+    → (IsErrOf s BadOptions → IsErrOf r BadOptions)
+    → IfBuild action (λ options. IsErrOf r BadOptions ↔ (AreValidOptions options → ⊥))
     → IfBuild action (λ options. IsErrOf s BadOptions ↔ (AreValidOptions options → ⊥))
 still_bad (Build options) r s to from h = (λ e. h.0 (from e), λ bad. to (h.1 bad))
 still_bad action r s to from h = tt

@@ -4,20 +4,23 @@ use Rattle.hdt_terms.specs.Split.{SplitsInput, SplitsUntilFault}
 use Rattle.hdt_terms.specs.declared.split.SplitFault.{SplitFault}
 use Rattle.hdt_terms.specs.declared.split.SplitReport.{SplitReport}
 use Rattle.hdt_tool.specs.declared.request.BlankNodes.{BlankNodes}
-use Rattle.hdt_tool.specs.declared.splitting.SplitStop.{SplitStop}
-use Rattle.hdt_tool.specs.declared.splitting.SplitStop.TheVariants as stop
-use Rattle.hdt_tool.specs.SplitInputs.{IsScopeFault, StopsHere, input_prefix}
+use Rattle.hdt_tool.specs.declared.splitting.SplitInputsFault.{SplitInputsFault}
+use Rattle.hdt_tool.specs.declared.splitting.SplitInputsFault.TheVariants as stop
+use Rattle.hdt_tool.specs.SplitInputs.{IsBlankNodesFault, IsFaultOfInputAt, input_prefix}
 
 -- An error of an input alone is one whatever the inputs before it have.
-pub alone : (mode : Option BlankNodes) (first : Option ℕ) (n : ℕ) (input : Option (List ℕ)) (before after : List (Option (List ℕ))) (fault : SplitStop)
-    → StopsHere mode None n input before after fault → StopsHere mode first n input before after fault
+pub alone : (mode : Option BlankNodes) (first : Option ℕ) (n : ℕ) (input : Option (List ℕ))
+    (before after : List (Option (List ℕ))) (fault : SplitInputsFault)
+    → IsFaultOfInputAt mode None n input before after fault → IsFaultOfInputAt mode first n input before after fault
 alone mode first n input before after (stop.Input k fault) h = h
 alone mode first n input before after (stop.BlankNodes k m) h = let none : None ≡ Some k = h.0.1 in absurd cc
 alone mode first n input before after stop.OutOfMemory h = h
 
 -- A second input with blank nodes.
-pub mixed : (mode : Option BlankNodes) (first : Option ℕ) (n : ℕ) (input : Option (List ℕ)) (before after : List (Option (List ℕ))) (report : SplitReport) (fault : SplitStop)
-    → SplitsInput (input_prefix mode n) input before after report → IsScopeFault mode first n fault → report.has_blank_nodes ≡ true → StopsHere mode first n input before after fault
+pub mixed : (mode : Option BlankNodes) (first : Option ℕ) (n : ℕ) (input : Option (List ℕ))
+    (before after : List (Option (List ℕ))) (report : SplitReport) (fault : SplitInputsFault)
+    → SplitsInput (input_prefix mode n) input before after report → IsBlankNodesFault mode first n fault
+    → report.has_blank_nodes ≡ true → IsFaultOfInputAt mode first n input before after fault
 mixed mode first n input before after report (stop.Input k fault) split scope has = absurd scope
 mixed mode first n input before after report (stop.BlankNodes k m) split scope has = (scope, (report, split, has))
 mixed mode first n input before after report stop.OutOfMemory split scope has = absurd scope
@@ -27,6 +30,9 @@ none_left [] e = refl
 none_left (x ∷ xs) e = absurd cc
 
 -- An error of the input n, after the lines before it.
-pub stops_at_fault : (mode : Option BlankNodes) (n : ℕ) (prefix : List ℕ) (input left : Option (List ℕ)) (before after : List (Option (List ℕ))) (fault : SplitFault)
-    → prefix ≡ input_prefix mode n → SplitsUntilFault prefix input left before after fault → StopsHere mode None n input before after (stop.Input n fault)
-stops_at_fault mode n prefix input left before after fault e h = (refl, (left, subst (λ p. SplitsUntilFault p input left before after fault) e h))
+pub stops_at_fault : (mode : Option BlankNodes) (n : ℕ) (prefix : List ℕ) (input left : Option (List ℕ))
+    (before after : List (Option (List ℕ))) (fault : SplitFault)
+    → prefix ≡ input_prefix mode n → SplitsUntilFault prefix input left before after fault
+    → IsFaultOfInputAt mode None n input before after (stop.Input n fault)
+stops_at_fault mode n prefix input left before after fault e h =
+    (refl, (left, subst (λ p. SplitsUntilFault p input left before after fault) e h))

@@ -10,23 +10,27 @@ use Rattle.hdt_tool.specs.declared.request.Invocation.{Invocation}
 use Rattle.hdt_tool.specs.CommandLine.{IsRefused, ParsesToInvocation}
 use Rattle.hdt_tool.specs.Dialogue.{plain_report}
 use Rattle.hdt_tool.specs.ErrorLines.{fault_status}
-use Rattle.hdt_tool.specs.Status.{Ends, IsCommandStatus, IsRefusalStatus, IsActionStatus, IsReportStatus}
+use Rattle.hdt_tool.specs.Status.{ExitsWith, IsCommandStatus, IsRefusalStatus, IsActionStatus, IsReportStatus}
 use Rattle.hdt_tool.proofs.Refusals.{parses_to_request}
 
 -- An error is a write error or another one.
-by_writer : {A B : Type 0} (fault : ToolFault) → (((n : ℕ) → fault ≢ Write n) → A) → ((n : ℕ) → fault ≡ Write n → B) → A ⊎ B
+by_writer : {A B : Type 0} (fault : ToolFault) → (((n : ℕ) → fault ≢ Write n) → A) → ((n : ℕ) → fault ≡ Write n → B)
+    → A ⊎ B
 by_writer (Write m) other write = inr (write m refl)
 by_writer fault other write = inl (other (λ n is. absurd cc))
 
 -- The status of a command, also if memory for its error message ran out.
 pub command_status : (outcome : Result (Unit {0}) ToolFault) (status : ℕ)
-    → MatchResult outcome (λ _. status ≡ 0) (λ fault. (status ≡ fault_status fault) ⊎ (status ≡ 4)) → IsCommandStatus status
+    → MatchResult outcome (λ _. status ≡ 0) (λ fault. (status ≡ fault_status fault) ⊎ (status ≡ 4))
+    → IsCommandStatus status
 command_status (Ok done) status h = inl h
 command_status (Err fault) status (inl h) = inr (fault, h)
 command_status (Err fault) status (inr h) = inr (OutOfMemory, h)
 
 -- The status of `lint`.
-pub lint_status : (outcome : Result Bool ToolFault) (status : ℕ) → MatchResult outcome (λ faulty. status ≡ cond faulty 1 0) (λ fault. (status ≡ fault_status fault) ⊎ (status ≡ 4)) → IsCommandStatus status
+pub lint_status : (outcome : Result Bool ToolFault) (status : ℕ)
+    → MatchResult outcome (λ faulty. status ≡ cond faulty 1 0) (λ fault. (status ≡ fault_status fault) ⊎ (status ≡ 4))
+    → IsCommandStatus status
 lint_status (Ok true) status h = inr (NoTriples, h)
 lint_status (Ok false) status h = inl h
 lint_status (Err fault) status (inl h) = inr (fault, h)
@@ -40,20 +44,22 @@ not_done fault status (inr h) is = absurd cc
 
 -- Status 0 of `lint`: no line is faulty.
 abbrev IsLintStatus : Result Bool ToolFault → ℕ → Type 0
-IsLintStatus outcome status = MatchResult outcome (λ faulty. status ≡ cond faulty 1 0) (λ fault. (status ≡ fault_status fault) ⊎ (status ≡ 4))
+IsLintStatus outcome status =
+    MatchResult outcome (λ faulty. status ≡ cond faulty 1 0) (λ fault. (status ≡ fault_status fault) ⊎ (status ≡ 4))
 
-pub lint_done : (P : Bool → Type 0) (outcome : Result Bool ToolFault) (status : ℕ) → IsLintStatus outcome status → IfOk outcome P → status ≡ 0 → P false
+pub lint_done : (P : Bool → Type 0) (outcome : Result Bool ToolFault) (status : ℕ) → IsLintStatus outcome status
+    → IfOk outcome P → status ≡ 0 → P false
 lint_done P (Ok true) status of ok is = absurd cc
 lint_done P (Ok false) status of ok is = ok
 lint_done P (Err fault) status of ok is = absurd (not_done fault status of is)
 
 -- Any other status: one of the lines is faulty, or an error ended the run.
-pub lint_stopped : {A : Type 0} (P : Bool → Type 0) (Q : ToolFault → Type 0) (outcome : Result Bool ToolFault) (status : ℕ) → IsLintStatus outcome status → IfOk outcome P → IfErr outcome (λ e. A ⊎ Q e) → status ≢ 0
-    → A ⊎ (((status ≡ 1) × P true) ⊎ ((e : ToolFault) × ((status ≡ fault_status e) ⊎ (status ≡ 4)) × Q e))
-lint_stopped P Q (Ok true) status of ok err not = inr (inl (of, ok))
+pub lint_stopped : (P : Bool → Type 0) (Q : ToolFault → Type 0) (outcome : Result Bool ToolFault) (status : ℕ)
+    → IsLintStatus outcome status → IfOk outcome P → IfErr outcome Q → status ≢ 0
+    → ((status ≡ 1) × P true) ⊎ ((e : ToolFault) × ((status ≡ fault_status e) ⊎ (status ≡ 4)) × Q e)
+lint_stopped P Q (Ok true) status of ok err not = inl (of, ok)
 lint_stopped P Q (Ok false) status of ok err not = absurd (not of)
-lint_stopped P Q (Err fault) status of ok (inl a) not = inl a
-lint_stopped P Q (Err fault) status of ok (inr q) not = inr (inr (fault, of, q))
+lint_stopped P Q (Err fault) status of ok err not = inr (fault, of, err)
 
 -- ---- the status of `answer`
 
@@ -65,14 +71,17 @@ zero_or_one : (faulty : Bool) (status : ℕ) → status ≡ cond faulty 1 0 → 
 zero_or_one true status h = inr (NoTriples, h)
 zero_or_one false status h = inl h
 
-of_report : (faulty : Bool) (skipped status : ℕ) → IsReportStatus (record { has_errors = faulty; skipped = skipped }) status → IsCommandStatus status
+of_report : (faulty : Bool) (skipped status : ℕ)
+    → IsReportStatus (record { has_errors = faulty; skipped = skipped }) status → IsCommandStatus status
 of_report faulty zero status h = zero_or_one faulty status (h.0 refl)
 of_report faulty (suc n) status h = one_or_four status (h.1 (λ is. absurd cc))
 
 abbrev IsAnswersStatus : Result AnswerReport ToolFault → ℕ → Type 0
-IsAnswersStatus outcome status = MatchResult outcome (λ report. IsReportStatus report status) (λ fault. (status ≡ fault_status fault) ⊎ (status ≡ 4))
+IsAnswersStatus outcome status =
+    MatchResult outcome (λ report. IsReportStatus report status) (λ fault. (status ≡ fault_status fault) ⊎ (status ≡ 4))
 
-pub answers_status : (outcome : Result AnswerReport ToolFault) (status : ℕ) → IsAnswersStatus outcome status → IsCommandStatus status
+pub answers_status : (outcome : Result AnswerReport ToolFault) (status : ℕ) → IsAnswersStatus outcome status
+    → IsCommandStatus status
 answers_status (Ok report) status h = of_report report.has_errors report.skipped status h
 answers_status (Err fault) status (inl h) = inr (fault, h)
 answers_status (Err fault) status (inr h) = inr (OutOfMemory, h)
@@ -82,113 +91,137 @@ not_one_or_four : (status : ℕ) → (status ≡ 1) ⊎ (status ≡ 4) → statu
 not_one_or_four status (inl h) is = absurd cc
 not_one_or_four status (inr h) is = absurd cc
 
-done_report : (P : AnswerReport → Type 0) (faulty : Bool) (skipped status : ℕ) → IsReportStatus (record { has_errors = faulty; skipped = skipped }) status
+done_report : (P : AnswerReport → Type 0) (faulty : Bool) (skipped status : ℕ)
+    → IsReportStatus (record { has_errors = faulty; skipped = skipped }) status
     → P (record { has_errors = faulty; skipped = skipped }) → status ≡ 0 → P (plain_report false)
 done_report P false zero status of ok is = ok
 done_report P true zero status of ok is = let one = of.0 refl in absurd cc
 done_report P faulty (suc n) status of ok is = absurd (not_one_or_four status (of.1 (λ none. absurd cc)) is)
 
-pub answers_done : (P : AnswerReport → Type 0) (outcome : Result AnswerReport ToolFault) (status : ℕ) → IsAnswersStatus outcome status → IfOk outcome P → status ≡ 0 → P (plain_report false)
+pub answers_done : (P : AnswerReport → Type 0) (outcome : Result AnswerReport ToolFault) (status : ℕ)
+    → IsAnswersStatus outcome status → IfOk outcome P → status ≡ 0 → P (plain_report false)
 answers_done P (Ok report) status of ok is = done_report P report.has_errors report.skipped status of ok is
 answers_done P (Err fault) status of ok is = absurd (not_done fault status of is)
 
 -- Any other status: an answer is an error or leaves out triples, or an error ended the answers.
-pub answers_stopped : {A : Type 0} (P : AnswerReport → Type 0) (Q : ToolFault → Type 0) (outcome : Result AnswerReport ToolFault) (status : ℕ) → IsAnswersStatus outcome status → IfOk outcome P → IfErr outcome (λ e. A ⊎ Q e)
-    → A ⊎ (((report : AnswerReport) × IsReportStatus report status × P report) ⊎ ((e : ToolFault) × ((status ≡ fault_status e) ⊎ (status ≡ 4)) × Q e))
+pub answers_stopped : {A : Type 0} (P : AnswerReport → Type 0) (Q : ToolFault
+    → Type 0) (outcome : Result AnswerReport ToolFault) (status : ℕ) → IsAnswersStatus outcome status → IfOk outcome P
+    → IfErr outcome (λ e. A ⊎ Q e)
+    → A ⊎ (((report : AnswerReport) × IsReportStatus report status × P report)
+    ⊎ ((e : ToolFault) × ((status ≡ fault_status e) ⊎ (status ≡ 4)) × Q e))
 answers_stopped P Q (Ok report) status of ok err = inr (inl (report, of, ok))
 answers_stopped P Q (Err fault) status of ok (inl a) = inl a
 answers_stopped P Q (Err fault) status of ok (inr q) = inr (inr (fault, of, q))
 
 -- Status 0 implies what holds on success.
-pub if_done : {A T : Type 0} (P : T → Type 0) (outcome : Result T ToolFault) (status : ℕ) → MatchResult outcome P (λ fault. (status ≡ fault_status fault) ⊎ (status ≡ 4))
+pub if_done : {A T : Type 0} (P : T → Type 0) (outcome : Result T ToolFault) (status : ℕ)
+    → MatchResult outcome P (λ fault. (status ≡ fault_status fault) ⊎ (status ≡ 4))
     → OnOk outcome A → status ≡ 0 → A
 if_done P (Ok done) status of ok is = ok
 if_done P (Err fault) status of ok is = absurd (not_done fault status of is)
 
--- Status 1 implies that nothing was written.
+-- ---- the status of a command that writes no file
+
+abbrev IsCountStatus : Result ℕ ToolFault → ℕ → Type 0
+IsCountStatus outcome status =
+    MatchResult outcome (λ count. (count ≡ 0 → status ≡ 0)
+    × (count ≢ 0 → (status ≡ 1) ⊎ (status ≡ 4))) (λ fault. (status ≡ fault_status fault) ⊎ (status ≡ 4))
+
+pub count_status : (outcome : Result ℕ ToolFault) (status : ℕ) → IsCountStatus outcome status → IsCommandStatus status
+count_status (Ok zero) status h = inl (h.0 refl)
+count_status (Ok (suc n)) status h = one_or_four status (h.1 (λ is. absurd cc))
+count_status (Err fault) status (inl h) = inr (fault, h)
+count_status (Err fault) status (inr h) = inr (OutOfMemory, h)
+
+-- Status 0: nothing was counted.
+pub count_done : (P : ℕ → Type 0) (outcome : Result ℕ ToolFault) (status : ℕ) → IsCountStatus outcome status
+    → IfOk outcome P → status ≡ 0 → P 0
+count_done P (Ok zero) status of ok is = ok
+count_done P (Ok (suc n)) status of ok is = absurd (not_one_or_four status (of.1 (λ none. absurd cc)) is)
+count_done P (Err fault) status of ok is = absurd (not_done fault status of is)
+
+-- Status 1: an error of that status, and nothing was written; or something was counted.
 first : {A C D : Type 0} → (D → ⊥) → A ⊎ (D × C) → A
 first not (inl a) = a
 first not (inr h) = absurd (not h.0)
 
-pub still_at_1 : (A C : Type 0) (outcome : Result (Unit {0}) ToolFault) (status : ℕ) → MatchResult outcome (λ _. status ≡ 0) (λ fault. (status ≡ fault_status fault) ⊎ (status ≡ 4))
-    → IfErr outcome (λ fault. ((n : ℕ) → fault ≢ Write n) → A ⊎ ((fault ≡ OutOfMemory) × C)) → status ≡ 1 → A
-still_at_1 A C (Ok done) status of unwritten is = absurd cc
-still_at_1 A C (Err fault) status (inr memory) unwritten is = absurd cc
-still_at_1 A C (Err fault) status (inl h) unwritten is =
-    let other : (e : ToolFault) → fault_status e ≢ 1 → fault ≢ e = λ e not same. not (sym (ap fault_status same) ∙ sym h ∙ is) in
-    first (other OutOfMemory (λ e. cc)) (unwritten (λ n. other (Write n) (λ e. cc)))
+pub count_fault : {A : Type 0} (C : Type 0) (P : ℕ → Type 0) (Q : ToolFault → Type 0) (outcome : Result ℕ ToolFault) (status : ℕ)
+    → IsCountStatus outcome status → IfOk outcome P → IfErr outcome Q
+    → IfErr outcome (λ fault. ((n : ℕ) → fault ≢ Write n) → A ⊎ ((fault ≡ OutOfMemory) × C)) → status ≡ 1
+    → (((fault : ToolFault) × (fault_status fault ≡ 1) × Q fault) × A) ⊎ ((n : ℕ) × (n ≢ 0) × P n)
+count_fault C P Q (Ok zero) status of ok told unwritten is = let none = of.0 refl in absurd cc
+count_fault C P Q (Ok (suc n)) status of ok told unwritten is = inr (suc n, (λ e. absurd cc), ok)
+count_fault C P Q (Err fault) status (inr memory) ok told unwritten is = absurd cc
+count_fault C P Q (Err fault) status (inl h) ok told unwritten is =
+    let other : (e : ToolFault) → fault_status e ≢ 1
+    → fault ≢ e = λ e not same. not (sym (ap fault_status same) ∙ sym h ∙ is) in
+    inl ((fault, sym h ∙ is, told), first (other OutOfMemory (λ e. cc)) (unwritten (λ n. other (Write n) (λ e. cc))))
 
--- Status 1 implies an error of that status.
-pub faulted : (Q : ToolFault → Type 0) (outcome : Result (Unit {0}) ToolFault) (status : ℕ) → MatchResult outcome (λ _. status ≡ 0) (λ fault. (status ≡ fault_status fault) ⊎ (status ≡ 4))
-    → IfErr outcome Q → status ≡ 1 → (fault : ToolFault) × (fault_status fault ≡ 1) × Q fault
-faulted Q (Ok done) status of told is = absurd cc
-faulted Q (Err fault) status (inl h) told is = (fault, sym h ∙ is, told)
-faulted Q (Err fault) status (inr h) told is = absurd cc
-
--- Any status but 0 implies that nothing was written, or the writer failed, or `strings` ran out of memory.
-joined : {A B C D : Type 0} → (A ⊎ (D × C)) ⊎ B → A ⊎ (B ⊎ C)
+-- Any status but 0: nothing was written, or something was counted, or the writer failed, or `strings` ran out of
+-- memory.
+joined : {A B C D P : Type 0} → (A ⊎ (D × C)) ⊎ B → A ⊎ (P ⊎ (B ⊎ C))
 joined (inl (inl a)) = inl a
-joined (inl (inr h)) = inr (inr h.1)
-joined (inr b) = inr (inl b)
+joined (inl (inr h)) = inr (inr (inr h.1))
+joined (inr b) = inr (inr (inl b))
 
-pub stopped : {A B C : Type 0} (outcome : Result (Unit {0}) ToolFault) (status : ℕ) → MatchResult outcome (λ _. status ≡ 0) (λ fault. (status ≡ fault_status fault) ⊎ (status ≡ 4))
-    → IfErr outcome (λ fault. ((n : ℕ) → fault ≢ Write n) → A ⊎ ((fault ≡ OutOfMemory) × C)) → IfErr outcome (λ fault. (n : ℕ) → fault ≡ Write n → B) → status ≢ 0 → A ⊎ (B ⊎ C)
-stopped (Ok done) status of unwritten write not = absurd (not of)
-stopped (Err fault) status of unwritten write not = joined (by_writer fault unwritten write)
+pub count_stopped : {A C F : Type 0} (P B : ℕ → Type 0) (outcome : Result ℕ ToolFault) (status : ℕ)
+    → IsCountStatus outcome status → IfOk outcome P
+    → IfErr outcome (λ fault. ((n : ℕ) → fault ≢ Write n) → A ⊎ ((fault ≡ OutOfMemory) × C))
+    → IfErr outcome (λ fault. (n : ℕ) → fault ≡ Write n → F × B n) → status ≢ 0
+    → A ⊎ (((n : ℕ) × (n ≢ 0) × P n) ⊎ ((F × (n : ℕ) × B n) ⊎ C))
+count_stopped P B (Ok zero) status of ok unwritten write not = absurd (not (of.0 refl))
+count_stopped P B (Ok (suc n)) status of ok unwritten write not = inr (inl (suc n, (λ e. absurd cc), ok))
+count_stopped P B (Err fault) status of ok unwritten write not =
+    joined (by_writer fault unwritten (λ n is. let w = write n is in (w.0, n, w.1)))
 
--- ---- the input, as it was opened
+-- ---- an input that cannot be opened
 
--- What holds for the reader holds for the result of opening it.
-pub opened : {F E : Type 0} (P : F → Type 0) (file : Result F E) (input seen : F) → file ≡ Ok input → seen ≡ input → P seen → MatchResult file P (λ _. ⊥)
-opened {F} {E} P file input seen is same h = subst (λ (r : Result F E). MatchResult r P (λ _. ⊥)) (sym is) (subst P same h)
+pub open_failed_status : (status : ℕ) → (status ≡ 3) ⊎ (status ≡ 4) → IsCommandStatus status
+open_failed_status status (inl h) = inr (Read, h)
+open_failed_status status (inr h) = inr (OutOfMemory, h)
 
-pub if_opened : {F E : Type 0} (P : F → Type 0) (file : Result F E) (input seen : F) → file ≡ Ok input → seen ≡ input → P seen → IfOk file P
-if_opened {F} {E} P file input seen is same h = subst (λ (r : Result F E). IfOk r P) (sym is) (subst P same h)
-
--- The status if it could not be opened.
-pub memory_status : (fault : ToolFault) (status : ℕ) → fault ≡ OutOfMemory → (status ≡ fault_status fault) ⊎ (status ≡ 4) → status ≡ 4
+pub memory_status : (fault : ToolFault) (status : ℕ) → fault ≡ OutOfMemory → (status ≡ fault_status fault)
+    ⊎ (status ≡ 4) → status ≡ 4
 memory_status fault status memory (inl h) = h ∙ ap fault_status memory
 memory_status fault status memory (inr h) = h
 
-pub unopened_status : (fault : ToolFault) (status : ℕ) → (fault ≡ OutOfMemory) ⊎ (fault ≡ Read) → (status ≡ fault_status fault) ⊎ (status ≡ 4) → (status ≡ 3) ⊎ (status ≡ 4)
+pub unopened_status : (fault : ToolFault) (status : ℕ) → (fault ≡ OutOfMemory) ⊎ (fault ≡ Read)
+    → (status ≡ fault_status fault) ⊎ (status ≡ 4) → (status ≡ 3) ⊎ (status ≡ 4)
 unopened_status fault status (inl memory) (inl h) = inr (h ∙ ap fault_status memory)
 unopened_status fault status (inr read) (inl h) = inl (h ∙ ap fault_status read)
 unopened_status fault status either (inr h) = inr h
 
-pub refused_memory : {F E : Type 0} (K : E → Type 0) (file : Result F E) (error : E) (fault : ToolFault) (status : ℕ) → file ≡ Err error → (K error → fault ≡ OutOfMemory)
-    → (status ≡ fault_status fault) ⊎ (status ≡ 4) → IfErr file (λ e. K e → status ≡ 4)
-refused_memory {F} {E} K file error fault status is memory of =
-    subst (λ (r : Result F E). IfErr r (λ e. K e → status ≡ 4)) (sym is) (λ kind. memory_status fault status (memory kind) of)
-
-pub refused_unopened : {F E : Type 0} (K : E → Type 0) (file : Result F E) (error : E) (fault : ToolFault) (status : ℕ) → file ≡ Err error → (fault ≡ OutOfMemory) ⊎ (fault ≡ Read)
-    → (status ≡ fault_status fault) ⊎ (status ≡ 4) → IfErr file (λ e. K e → (status ≡ 3) ⊎ (status ≡ 4))
-refused_unopened {F} {E} K file error fault status is either of =
-    subst (λ (r : Result F E). IfErr r (λ e. K e → (status ≡ 3) ⊎ (status ≡ 4))) (sym is) (λ kind. unopened_status fault status either of)
-
-pub not_one : (status : ℕ) → (status ≡ 3) ⊎ (status ≡ 4) → status ≡ 1 → ⊥
-not_one status (inl h) is = absurd cc
-not_one status (inr h) is = absurd cc
-
 -- ---- the program
 
 -- The status of the invocation is one that the program may end with.
-pub ends : {X E : Type 0} (texts : X → List Text) (words : Result X E) (asked : Result Invocation UsageFault) (status : ℕ)
-    → IfOk asked (λ asked. MatchResult words (λ w. ParsesToInvocation (texts w) asked) (λ _. ⊥)) → IfErr asked (λ fault. IfOk words (λ w. IsRefused (texts w) fault))
-    → MatchResult asked (λ asked. IsActionStatus asked.request.action status) (λ fault. IsRefusalStatus fault status) → IfOk words (λ w. Ends (texts w) status)
-ends texts (Ok w) (Ok asked) status wanted refused of = inl (record { request = asked.request; wanted = parses_to_request (texts w) asked wanted; ends = of })
+pub ends : {X E : Type 0} (texts : X
+    → List Text) (words : Result X E) (asked : Result Invocation UsageFault) (status : ℕ)
+    → IfOk asked (λ asked. MatchResult words (λ w. ParsesToInvocation (texts w) asked) (λ _. ⊥))
+    → IfErr asked (λ fault. IfOk words (λ w. IsRefused (texts w) fault))
+    → MatchResult asked (λ asked. IsActionStatus asked.request.action status) (λ fault. IsRefusalStatus fault status)
+    → IfOk words (λ w. ExitsWith (texts w) status)
+ends texts (Ok w) (Ok asked) status wanted refused of =
+    inl (record { request = asked.request; wanted = parses_to_request (texts w) asked wanted; ends = of })
 ends texts (Ok w) (Err fault) status wanted refused of = inr (record { fault = fault; refused = refused; ends = of })
 ends texts (Err e) asked status wanted refused of = tt
 
 -- A request that was parsed was given.
-pub was_given : {X E : Type 0} (texts : X → List Text) (words : Result X E) (asked : Result Invocation UsageFault) (invocation : Invocation) (Q : E → Type 0) → asked ≡ Ok invocation
+pub was_given : {X E : Type 0} (texts : X
+    → List Text) (words : Result X E) (asked : Result Invocation UsageFault) (invocation : Invocation) (Q : E → Type 0)
+    → asked ≡ Ok invocation
     → IfOk asked (λ asked. MatchResult words (λ w. ParsesToInvocation (texts w) asked) (λ _. ⊥)) → IfErr words Q
 was_given texts (Ok w) asked invocation Q is ok = tt
-was_given texts (Err e) asked invocation Q is ok = absurd (subst (λ (r : Result Invocation UsageFault). IfOk r (λ _. ⊥)) is ok)
+was_given texts (Err e) asked invocation Q is ok =
+    absurd (subst (λ (r : Result Invocation UsageFault). IfOk r (λ _. ⊥)) is ok)
 
 -- The status of its command is one that the program may end with.
-pub ends_with : {X E : Type 0} (texts : X → List Text) (words : Result X E) (asked : Result Invocation UsageFault) (invocation : Invocation) (status : ℕ) → asked ≡ Ok invocation
-    → IfOk asked (λ asked. MatchResult words (λ w. ParsesToInvocation (texts w) asked) (λ _. ⊥)) → IfErr asked (λ fault. IfOk words (λ w. IsRefused (texts w) fault))
-    → IsActionStatus invocation.request.action status → IfOk words (λ w. Ends (texts w) status)
+pub ends_with : {X E : Type 0} (texts : X
+    → List Text) (words : Result X E) (asked : Result Invocation UsageFault) (invocation : Invocation) (status : ℕ)
+    → asked ≡ Ok invocation
+    → IfOk asked (λ asked. MatchResult words (λ w. ParsesToInvocation (texts w) asked) (λ _. ⊥))
+    → IfErr asked (λ fault. IfOk words (λ w. IsRefused (texts w) fault))
+    → IsActionStatus invocation.request.action status → IfOk words (λ w. ExitsWith (texts w) status)
 ends_with texts words asked invocation status is wanted refused of =
     ends texts words asked status wanted refused
-    (subst (λ (r : Result Invocation UsageFault). MatchResult r (λ asked. IsActionStatus asked.request.action status) (λ fault. IsRefusalStatus fault status)) (sym is) of)
+    (subst (λ (r : Result Invocation UsageFault). MatchResult r (λ asked. IsActionStatus asked.request.action status)
+    (λ fault. IsRefusalStatus fault status)) (sym is) of)

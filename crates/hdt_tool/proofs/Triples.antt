@@ -11,7 +11,8 @@ use Rattle.hdt_file.specs.TextWriting.{limited}
 use Rattle.hdt_tool.specs.TriplesText.{GivenStrings, AreBorrowed, numbers_line, numbers_lines}
 
 -- An array of three elements.
-three : (given : GivenStrings) (a b c : Option (Vec ℕ Global)) → length given ≡ 3 → given ≡ get_or given 0 a ∷ get_or given 1 b ∷ get_or given 2 c ∷ []
+three : (given : GivenStrings) (a b c : Option (Vec ℕ Global)) → length given ≡ 3
+    → given ≡ get_or given 0 a ∷ get_or given 1 b ∷ get_or given 2 c ∷ []
 three [] a b c n = absurd (omega arith)
 three (x ∷ []) a b c n = absurd (omega arith)
 three (x ∷ y ∷ []) a b c n = absurd (omega arith)
@@ -19,20 +20,23 @@ three (x ∷ y ∷ z ∷ []) a b c n = refl
 three (x ∷ y ∷ z ∷ w ∷ rest) a b c n = absurd (omega arith)
 
 -- A string as a borrowed slice.
-pub lent_part : (a : Option (Vec ℕ Global)) (x : Option BorrowedString) → MatchOption a (x ≡ None) (λ v. IsSomeAnd x (λ y. (y.now ≡ v.items) × (length y.now ≡ vec_len v)))
+pub lent_part : (a : Option (Vec ℕ Global)) (x : Option BorrowedString)
+    → MatchOption a (x ≡ None) (λ v. IsSomeAnd x (λ y. (y.now ≡ v.items) × (length y.now ≡ vec_len v)))
     → option_map (λ s. s.now) x ≡ option_map (λ v. v.items) a
 lent_part None x h = ap (option_map (λ s. s.now)) h
 lent_part (Some v) None h = absurd h
 lent_part (Some v) (Some y) h = ap Some h.0
 
 pub are_lent : (given : GivenStrings) (a b c : Option (Vec ℕ Global)) (x y z : Option BorrowedString) → length given ≡ 3
-    → option_map (λ s. s.now) x ≡ option_map (λ v. v.items) (get_or given 0 a) → option_map (λ s. s.now) y ≡ option_map (λ v. v.items) (get_or given 1 b)
+    → option_map (λ s. s.now) x ≡ option_map (λ v. v.items) (get_or given 0 a)
+    → option_map (λ s. s.now) y ≡ option_map (λ v. v.items) (get_or given 1 b)
     → option_map (λ s. s.now) z ≡ option_map (λ v. v.items) (get_or given 2 c) → AreBorrowed given (x ∷ y ∷ z ∷ [])
 are_lent given a b c x y z n one two last =
     let whole = ap (λ (xs : GivenStrings). map (option_map (λ v. v.items)) xs) (three given a b c n) in cc
 
 -- A triple's line is appended to the text.
-pub one_line : (text new all : List ℕ) (t : Triple) (left rest : List Triple) → left ≡ t ∷ rest → new ≡ text ++ numbers_line t → text ++ numbers_lines left ≡ all
+pub one_line : (text new all : List ℕ) (t : Triple) (left rest : List Triple) → left ≡ t ∷ rest
+    → new ≡ text ++ numbers_line t → text ++ numbers_lines left ≡ all
     → new ++ numbers_lines rest ≡ all
 one_line text new all t left rest first is h =
     ap (λ (x : List ℕ). x ++ numbers_lines rest) is ∙ append_assoc text (numbers_line t) (numbers_lines rest)

@@ -13,6 +13,7 @@ use Rattle.hdt_wire.specs.declared.role.Role.{Role}
 use Rattle.hdt_terms.specs.declared.fault.TermFault.{TermFault}
 use Rattle.hdt_terms.specs.declared.fault.LineReason.TheVariants as line
 use Rattle.hdt_terms.specs.Appending.{AppendsStringOfText}
+use Rattle.hdt_terms.specs.Parts.{IsPartCount}
 use Rattle.hdt_terms.specs.TermErrors.{IsTermError}
 use Rattle.hdt_tool.specs.declared.fault.UsageFault.{UsageFault}
 use Rattle.hdt_tool.specs.declared.fault.UsageFault.TheVariants.{Usage, Help, InvalidTerm, OutOfMemory}
@@ -35,20 +36,21 @@ use Rattle.hdt_tool.specs.declared.request.SplitOutput.TheVariants as split
 use Rattle.hdt_tool.specs.ErrorLines.{argument_name}
 use Rattle.hdt_usage.specs.CommandTable.{Names, AreRoles, role_name, table}
 use Rattle.hdt_usage.specs.Explanations.{explanation_of}
-use Rattle.hdt_tool.specs.TermReports.{kept_format}
+use Rattle.hdt_tool.specs.NonTermText.{kept_format}
 use Rattle.hdt_tool.specs.TriplesText.{GivenStrings, find_format}
 
 -- ---- arguments
 
 -- The text is the number n in decimal, below 2^bits; a plus sign may precede it.
 abbrev pub IsDecimalOf : ℕ → Text → ℕ → Type 0
-IsDecimalOf bits text n = IsNumeral 10 (without_leading_plus text) × (digits_value 10 (without_leading_plus text) < 2 ^ bits)
+IsDecimalOf bits text n = IsNumeral 10 (without_leading_plus text)
+    × (digits_value 10 (without_leading_plus text) < 2 ^ bits)
     × (n ≡ digits_value 10 (without_leading_plus text))
 
 abbrev pub ParsesAsNumber : ℕ → Option Text → ℕ → Type 0
 ParsesAsNumber bits entry n = IsSomeAnd entry (λ text. IsDecimalOf bits text n)
 
--- The entry is a decimal u64 with this value, or it is none.
+-- The entry is a decimal u64 with this value, or it is no decimal u64.
 abbrev pub ParsesAsNumberOrNone : Option Text → Option ℕ → Type 0
 ParsesAsNumberOrNone entry None = (n : ℕ) → ParsesAsNumber 64 entry n → ⊥
 ParsesAsNumberOrNone entry (Some n) = ParsesAsNumber 64 entry n
@@ -63,7 +65,8 @@ IsUnused entry = entry ≡ Some (codes "false")
 -- With `--raw` the dictionary string is the text itself; without it, the string of the N-Triples term that the text
 -- spells.
 abbrev pub ParsesAsString : Option Text → Option Text → List ℕ → Type 0
-ParsesAsString raw entry x = IsSomeAnd entry (λ text. (IsUsed raw → x ≡ text) × (IsUnused raw → AppendsStringOfText text [] x))
+ParsesAsString raw entry x =
+    IsSomeAnd entry (λ text. (IsUsed raw → x ≡ text) × (IsUnused raw → AppendsStringOfText text [] x))
 
 -- The text `?` means any string, also with `--raw`; any other text means its dictionary string.
 abbrev pub ParsesAsStringOrAny : Option Text → Option Text → Option (Vec ℕ Global) → Type 0
@@ -73,17 +76,20 @@ ParsesAsStringOrAny raw entry (Some x) = (entry ≢ Some (codes "?")) × ParsesA
 abbrev pub ParsesAsFlag : Option Text → Bool → Type 0
 ParsesAsFlag entry flag = (IsUsed entry → flag ≡ true) × (IsUnused entry → flag ≡ false)
 
--- `--no-progress` turns progress off. Without it `--progress` asks for lines, and without both it is shown by itself; so it
+-- `--no-progress` turns progress off. Without it `--progress` asks for lines, and without both it is shown by itself;
+-- so it
 -- is for a command that has no option `--progress`.
 pub record ParsesAsProgress (rows : List Row) (progress : Progress) : Type 0 where
   pub off : IsUsed (one_of (codes "no-progress") rows) → progress ≡ Off
   pub lines : IsUnused (one_of (codes "no-progress") rows) → IsUsed (one_of (codes "progress") rows) → progress ≡ Lines
-  pub shown : IsUnused (one_of (codes "no-progress") rows) → IsUnused (one_of (codes "progress") rows) → progress ≡ Automatic
+  pub shown : IsUnused (one_of (codes "no-progress") rows) → IsUnused (one_of (codes "progress") rows)
+      → progress ≡ Automatic
   pub none : IsUnused (one_of (codes "no-progress") rows) → one_of (codes "progress") rows ≡ None → progress ≡ Automatic
 
 -- The argument S, P or O means this string, or any.
-abbrev pub ParsesAsPart : List Row → TermArgument → Option (Vec ℕ Global) → Type 0
-ParsesAsPart rows word x = ParsesAsStringOrAny (one_of (codes "raw") rows) (first_of (argument_name word) rows) x
+abbrev pub ParsesAsPatternTerm : List Row → TermArgument → Option (Vec ℕ Global) → Type 0
+ParsesAsPatternTerm rows argument x =
+    ParsesAsStringOrAny (one_of (codes "raw") rows) (first_of (argument_name argument) rows) x
 
 -- The prefix is the text of `--prefix`, or empty without it.
 abbrev pub ParsesAsPrefix : Option Text → List ℕ → Type 0
@@ -96,9 +102,9 @@ pub record ParsesAsPattern (rows : List Row) (given : GivenStrings) : Type 0 whe
   pub predicate : Option (Vec ℕ Global)
   pub object : Option (Vec ℕ Global)
   pub are : given ≡ subject ∷ predicate ∷ object ∷ []
-  pub s : ParsesAsPart rows Subject subject
-  pub p : ParsesAsPart rows Predicate predicate
-  pub o : ParsesAsPart rows Object object
+  pub s : ParsesAsPatternTerm rows Subject subject
+  pub p : ParsesAsPatternTerm rows Predicate predicate
+  pub o : ParsesAsPatternTerm rows Object object
 
 -- ---- requests
 
@@ -116,7 +122,8 @@ abbrev pub SkipsNothing : List Row → OutputFormat → Type 0
 SkipsNothing rows format = SkipsIn rows false ⊎ (format ≡ Numbers)
 
 -- The command is `find`, without `--quiet`, and with this pattern, output format and limit. It skips nothing.
-pub record IsFindCommand (name : Text) (rows : List Row) (given : GivenStrings) (format : OutputFormat) (most : Option ℕ) : Type 0 where
+pub record IsFindCommand (name : Text) (rows : List Row) (given : GivenStrings) (format : OutputFormat)
+    (most : Option ℕ) : Type 0 where
   pub named : name ≡ codes "find"
   pub words : ParsesAsPattern rows given
   pub format_is : ParsesAsFormat rows format
@@ -125,7 +132,8 @@ pub record IsFindCommand (name : Text) (rows : List Row) (given : GivenStrings) 
   pub skips_nothing : SkipsNothing rows format
 
 -- The command is `find` with `--skip-non-terms`, and with this pattern, output format and limit.
-pub record IsSkippingFind (name : Text) (rows : List Row) (given : GivenStrings) (count : Bool) (most : Option ℕ) : Type 0 where
+pub record IsSkippingFind (name : Text) (rows : List Row) (given : GivenStrings) (count : Bool)
+    (most : Option ℕ) : Type 0 where
   pub named : name ≡ codes "find"
   pub words : ParsesAsPattern rows given
   pub format_is : ParsesAsFormat rows (kept_format count)
@@ -135,23 +143,29 @@ pub record IsSkippingFind (name : Text) (rows : List Row) (given : GivenStrings)
 
 -- The command is `find`, with `--quiet` and this pattern.
 abbrev pub IsQuietFindCommand : Text → List Row → GivenStrings → Type 0
-IsQuietFindCommand name rows given = (name ≡ codes "find") × ParsesAsPattern rows given × ParsesAsFlag (one_of (codes "quiet") rows) true
+IsQuietFindCommand name rows given = (name ≡ codes "find") × ParsesAsPattern rows given
+    × ParsesAsFlag (one_of (codes "quiet") rows) true
 
 -- The action finds triples by these strings, in this output format and up to this limit, and skips some if that is
 -- asked.
 abbrev pub IsFindAction : GivenStrings → OutputFormat → Option ℕ → Bool → Action → Type 0
-IsFindAction given format most skip (action.Find strings numbers) = (strings ≡ given) × (find_format numbers ≡ format) × (most ≡ None) × ((skip ≡ false) ⊎ (format ≡ Numbers))
-IsFindAction given format most skip (action.Search strings other n) = (strings ≡ given) × (other ≡ format) × (n ≡ most) × ((skip ≡ false) ⊎ (format ≡ Numbers))
-IsFindAction given format most skip (action.SkipNonTerms strings count n) = (strings ≡ given) × (kept_format count ≡ format) × (n ≡ most) × (skip ≡ true)
+IsFindAction given format most skip (action.Find strings numbers) = (strings ≡ given) × (find_format numbers ≡ format)
+    × (most ≡ None) × ((skip ≡ false) ⊎ (format ≡ Numbers))
+IsFindAction given format most skip (action.Search strings other n) = (strings ≡ given) × (other ≡ format) × (n ≡ most)
+    × ((skip ≡ false) ⊎ (format ≡ Numbers))
+IsFindAction given format most skip (action.SkipNonTerms strings count n) = (strings ≡ given)
+    × (kept_format count ≡ format) × (n ≡ most) × (skip ≡ true)
 IsFindAction given format most skip action = ⊥
 
 -- The command is `dump`: all triples, in N-Triples.
 abbrev pub IsDumpCommand : Text → List Row → GivenStrings → Bool → Type 0
-IsDumpCommand name rows given numbers = (name ≡ codes "dump") × (given ≡ None ∷ None ∷ None ∷ []) × (numbers ≡ false) × SkipsIn rows false
+IsDumpCommand name rows given numbers = (name ≡ codes "dump") × (given ≡ None ∷ None ∷ None ∷ []) × (numbers ≡ false)
+    × SkipsIn rows false
 
 -- The command is `dump` with `--skip-non-terms`.
 abbrev pub IsSkippingDump : Text → List Row → GivenStrings → Bool → Option ℕ → Type 0
-IsSkippingDump name rows given count most = (name ≡ codes "dump") × (given ≡ None ∷ None ∷ None ∷ []) × (count ≡ false) × (most ≡ None) × SkipsIn rows true
+IsSkippingDump name rows given count most = (name ≡ codes "dump") × (given ≡ None ∷ None ∷ None ∷ []) × (count ≡ false)
+    × (most ≡ None) × SkipsIn rows true
 
 -- The command is `verify`, with or without `--tight` and `--terms`.
 abbrev pub IsVerifyCommand : Text → List Row → Bool → Bool → Type 0
@@ -180,20 +194,18 @@ pub record IsCountCommand (name : Text) (rows : List Row) (role : Role) (top : O
 
 -- The command is `lint`, with or without `--keep`, and with this limit.
 abbrev pub IsLintCommand : Text → List Row → Bool → Option ℕ → Type 0
-IsLintCommand name rows keep most = (name ≡ codes "lint") × ParsesAsFlag (one_of (codes "keep") rows) keep × ParsesAsNumberOrNone (one_of (codes "most") rows) most
+IsLintCommand name rows keep most = (name ≡ codes "lint") × ParsesAsFlag (one_of (codes "keep") rows) keep
+    × ParsesAsNumberOrNone (one_of (codes "most") rows) most
 
 -- ---- `split`
-
--- A number of parts is 1 to 65,536.
-abbrev pub IsPartCount : ℕ → Type 0
-IsPartCount n = (1 ≤ n) × (n ≤ 65536)
 
 abbrev pub ParsesAsPartCount : List Row → ℕ → Type 0
 ParsesAsPartCount rows n = ParsesAsNumber 64 (one_of (codes "parts") rows) n × IsPartCount n
 
 -- The text is K/N, for the part k, from 0, of n parts.
 abbrev pub IsPartOfParts : Text → ℕ → ℕ → Type 0
-IsPartOfParts text k n = IsDecimalOf 32 (before_first (λ b. b == 47) text) k × IsDecimalOf 32 (after_first (λ b. b == 47) text) n × (k < n) × (n ≤ 65536)
+IsPartOfParts text k n = IsDecimalOf 32 (before_first (λ b. b == 47) text) k
+    × IsDecimalOf 32 (after_first (λ b. b == 47) text) n × (k < n) × (n ≤ 65536)
 
 abbrev pub ParsesAsBlankNodes : Option Text → Option BlankNodes → Type 0
 ParsesAsBlankNodes entry None = entry ≡ None
@@ -208,68 +220,76 @@ further_paths rows = unwrap_or (all_of (codes "PATHS") rows) []
 abbrev pub ParsesAsSplitOutput : List Row → List Text → ℕ → SplitOutput → Type 0
 ParsesAsSplitOutput rows others n (split.Folder path) = (first_of (codes "of") rows ≡ None) × ParsesAsPartCount rows n
     × (further_paths rows ≡ others ++ string_bytes path ∷ [])
-ParsesAsSplitOutput rows others n (split.Part k) = IsSomeAnd (first_of (codes "of") rows) (λ text. IsPartOfParts text k n)
+ParsesAsSplitOutput rows others n (split.Part k) =
+    IsSomeAnd (first_of (codes "of") rows) (λ text. IsPartOfParts text k n)
     × (first_of (codes "parts") rows ≡ None) × (further_paths rows ≡ others)
 
 -- The arguments give these options of `split`.
-pub record IsSplitCommand (rows : List Row) (options : SplitOptions) : Type 0 where
+pub record ParsesAsSplitOptions (rows : List Row) (options : SplitOptions) : Type 0 where
   pub output : ParsesAsSplitOutput rows (map string_bytes options.others.items) options.parts options.output
   pub blank_nodes : ParsesAsBlankNodes (first_of (codes "blank-nodes") rows) options.blank_nodes
 
 -- ---- commands
 
 -- The command's name and arguments give this action, which writes no file.
-abbrev pub IsFileAction : Text → List Row → Action → Type 0
-IsFileAction name rows action.Head = name ≡ codes "head"
-IsFileAction name rows action.Verify = IsVerifyCommand name rows false false
-IsFileAction name rows action.VerifyTight = IsVerifyCommand name rows true false
-IsFileAction name rows (action.VerifyTerms tight) = IsVerifyCommand name rows tight true
-IsFileAction name rows (action.Info json) = IsInfoCommand name rows json
-IsFileAction name rows (action.Strings role) = (name ≡ codes "strings") × (first_of (codes "ROLE") rows ≡ Some (role_name role))
+abbrev pub IsQueryAction : Text → List Row → Action → Type 0
+IsQueryAction name rows action.Head = name ≡ codes "head"
+IsQueryAction name rows action.Verify = IsVerifyCommand name rows false false
+IsQueryAction name rows action.VerifyTight = IsVerifyCommand name rows true false
+IsQueryAction name rows (action.VerifyTerms tight) = IsVerifyCommand name rows tight true
+IsQueryAction name rows (action.Info json) = IsInfoCommand name rows json
+IsQueryAction name rows (action.Strings role) = (name ≡ codes "strings")
+    × (first_of (codes "ROLE") rows ≡ Some (role_name role))
     × ParsesAsFlag (one_of (codes "terms") rows) false × (first_of (codes "prefix") rows ≡ None)
-IsFileAction name rows (action.ListStrings role prefix terms) = (name ≡ codes "strings") × (first_of (codes "ROLE") rows ≡ Some (role_name role))
+IsQueryAction name rows (action.ListStrings role prefix terms) = (name ≡ codes "strings")
+    × (first_of (codes "ROLE") rows ≡ Some (role_name role))
     × ParsesAsFlag (one_of (codes "terms") rows) terms × ParsesAsPrefix (first_of (codes "prefix") rows) prefix.items
-IsFileAction name rows (action.Nth role n) = (name ≡ codes "string") × (first_of (codes "ROLE") rows ≡ Some (role_name role))
+IsQueryAction name rows (action.Nth role n) = (name ≡ codes "string")
+    × (first_of (codes "ROLE") rows ≡ Some (role_name role))
     × ParsesAsNumber 64 (one_of (codes "N") rows) n
-IsFileAction name rows (action.Number role x) = (name ≡ codes "number") × (first_of (codes "ROLE") rows ≡ Some (role_name role))
+IsQueryAction name rows (action.Number role x) = (name ≡ codes "number")
+    × (first_of (codes "ROLE") rows ≡ Some (role_name role))
     × ParsesAsString (one_of (codes "raw") rows) (first_of (codes "TERM") rows) x.items
-IsFileAction name rows (action.Find given numbers) = IsFindCommand name rows given (find_format numbers) None ⊎ IsDumpCommand name rows given numbers
-IsFileAction name rows (action.Search given format most) = IsFindCommand name rows given format most
-IsFileAction name rows (action.SkipNonTerms given count most) = IsSkippingFind name rows given count most ⊎ IsSkippingDump name rows given count most
-IsFileAction name rows (action.Exists given) = IsQuietFindCommand name rows given
-IsFileAction name rows (action.Count role top raw) = IsCountCommand name rows role top raw
-IsFileAction name rows (action.Answer options) = IsAnswerCommand name rows options
-IsFileAction name rows (action.Lint keep most) = IsLintCommand name rows keep most
-IsFileAction name rows (action.Build options) = ⊥
-IsFileAction name rows (action.Rewrite b) = ⊥
-IsFileAction name rows (action.Split options) = (name ≡ codes "split") × IsSplitCommand rows options
+IsQueryAction name rows (action.Find given numbers) = IsFindCommand name rows given (find_format numbers) None
+    ⊎ IsDumpCommand name rows given numbers
+IsQueryAction name rows (action.Search given format most) = IsFindCommand name rows given format most
+IsQueryAction name rows (action.SkipNonTerms given count most) = IsSkippingFind name rows given count most
+    ⊎ IsSkippingDump name rows given count most
+IsQueryAction name rows (action.Exists given) = IsQuietFindCommand name rows given
+IsQueryAction name rows (action.Count role top raw) = IsCountCommand name rows role top raw
+IsQueryAction name rows (action.Answer options) = IsAnswerCommand name rows options
+IsQueryAction name rows (action.Lint keep most) = IsLintCommand name rows keep most
+IsQueryAction name rows (action.Build options) = ⊥
+IsQueryAction name rows (action.Rewrite b) = ⊥
+IsQueryAction name rows (action.Split options) = (name ≡ codes "split") × ParsesAsSplitOptions rows options
 
 -- The request reads FILE and writes no file.
-pub record IsFileRequest (name : Text) (rows : List Row) (request : Request) : Type 0 where
+pub record IsQueryRequest (name : Text) (rows : List Row) (request : Request) : Type 0 where
   pub file : first_of (codes "FILE") rows ≡ Some (string_bytes request.file)
   pub out : option_map string_bytes request.out ≡ None
-  pub action : IsFileAction name rows request.action
+  pub action : IsQueryAction name rows request.action
 
 -- The options of `build` are those of the arguments, or their defaults in the table of commands.
-pub record ParsesAsOptions (rows : List Row) (options : Options) : Type 0 where
+pub record ParsesAsBuildOptions (rows : List Row) (options : Options) : Type 0 where
   pub base : first_of (codes "base") rows ≡ Some options.base.items
   pub block_size : ParsesAsNumber 32 (one_of (codes "block-size") rows) options.block_size
 
 -- The command's name and arguments give this action, which writes a file.
-abbrev pub IsMakeAction : Text → List Row → Action → Type 0
-IsMakeAction name rows (action.Build options) = (name ≡ codes "build") × ParsesAsOptions rows options
-IsMakeAction name rows (action.Rewrite b) = (name ≡ codes "rewrite") × ParsesAsNumber 32 (one_of (codes "block-size") rows) b
-IsMakeAction name rows action = ⊥
+abbrev pub IsOutputAction : Text → List Row → Action → Type 0
+IsOutputAction name rows (action.Build options) = (name ≡ codes "build") × ParsesAsBuildOptions rows options
+IsOutputAction name rows (action.Rewrite b) = (name ≡ codes "rewrite")
+    × ParsesAsNumber 32 (one_of (codes "block-size") rows) b
+IsOutputAction name rows action = ⊥
 
 -- The request reads IN and writes OUT.
-pub record IsMakeRequest (name : Text) (rows : List Row) (request : Request) : Type 0 where
+pub record IsOutputRequest (name : Text) (rows : List Row) (request : Request) : Type 0 where
   pub file : first_of (codes "IN") rows ≡ Some (string_bytes request.file)
   pub out : IsSomeAnd request.out (λ path. first_of (codes "OUT") rows ≡ Some (string_bytes path))
-  pub action : IsMakeAction name rows request.action
+  pub action : IsOutputAction name rows request.action
 
 -- The command's name and arguments give this request.
 abbrev pub IsRequestOf : Text → List Row → Request → Type 0
-IsRequestOf name rows request = IsFileRequest name rows request ⊎ IsMakeRequest name rows request
+IsRequestOf name rows request = IsQueryRequest name rows request ⊎ IsOutputRequest name rows request
 
 abbrev pub IsRequestOfCommand : Option (Text × List Row) → Request → Type 0
 IsRequestOfCommand entered request = IsSomeAnd entered (λ command. IsRequestOf command.0 command.1 request)
@@ -295,15 +315,17 @@ pub record ParsesToInvocation (words : List Text) (asked : Invocation) : Type 0 
   pub roles : AreRoles names
   pub wanted : ParsesWithRoles names words asked.request
   pub progress : IsSomeAnd (subcommand_of (table names) words) (λ command. ParsesAsProgress command.1 asked.progress)
-  pub verbose : IsSomeAnd (subcommand_of (table names) words) (λ command. ParsesAsFlag (one_of (codes "verbose") command.1) asked.verbose)
+  pub verbose : IsSomeAnd (subcommand_of (table names) words)
+      (λ command. ParsesAsFlag (one_of (codes "verbose") command.1) asked.verbose)
 
 -- The explanation of the argument REASON is this text.
 abbrev pub IsExplained : List Row → Text → Type 0
-IsExplained rows text = IsSomeAnd (first_of (codes "REASON") rows) (λ word. explanation_of word ≡ Some text)
+IsExplained rows text = IsSomeAnd (first_of (codes "REASON") rows) (λ argument. explanation_of argument ≡ Some text)
 
 -- `clap` accepts the command line, and it is `explain` with a reason that has this explanation.
 abbrev pub IsExplainCommand : Option (Text × List Row) → Text → Type 0
-IsExplainCommand entered text = IsSomeAnd entered (λ command. (command.0 ≡ codes "explain") × IsExplained command.1 text)
+IsExplainCommand entered text =
+    IsSomeAnd entered (λ command. (command.0 ≡ codes "explain") × IsExplained command.1 text)
 
 pub record ParsesToExplanation (names : Names) (words : List Text) (text : Text) : Type 0 where
   pub taken : clap_errors names words ≡ []
@@ -313,25 +335,30 @@ pub record ParsesToExplanation (names : Names) (words : List Text) (text : Text)
 
 -- Without `--raw`, the argument is not a valid term, and this is its first error.
 abbrev pub IsInvalidTerm : List Row → TermArgument → TermFault → Type 0
-IsInvalidTerm rows word fault = (IsUsed (one_of (codes "raw") rows) → ⊥) × IsSomeAnd (first_of (argument_name word) rows) (λ text. IsTermError text fault)
+IsInvalidTerm rows argument fault = (IsUsed (one_of (codes "raw") rows) → ⊥)
+    × IsSomeAnd (first_of (argument_name argument) rows) (λ text. IsTermError text fault)
 
 -- The same for S, P and O, which may be `?`.
-abbrev pub IsInvalidPart : List Row → TermArgument → TermFault → Type 0
-IsInvalidPart rows word fault = (first_of (argument_name word) rows ≢ Some (codes "?")) × IsInvalidTerm rows word fault
+abbrev pub IsInvalidPatternTerm : List Row → TermArgument → TermFault → Type 0
+IsInvalidPatternTerm rows argument fault = (first_of (argument_name argument) rows ≢ Some (codes "?"))
+    × IsInvalidTerm rows argument fault
 
 -- The argument S, P or O is valid.
-abbrev pub IsValidPart : List Row → TermArgument → Type 0
-IsValidPart rows word = (x : Option (Vec ℕ Global)) × ParsesAsPart rows word x
+abbrev pub IsValidPatternTerm : List Row → TermArgument → Type 0
+IsValidPatternTerm rows argument = (x : Option (Vec ℕ Global)) × ParsesAsPatternTerm rows argument x
 
 -- This is the error of TERM of `number`, or of the first invalid one of S, P and O of `find`.
 abbrev pub HasInvalidTerm : Text → List Row → TermArgument → TermFault → Type 0
 HasInvalidTerm name rows Term fault = (name ≡ codes "number") × IsInvalidTerm rows Term fault
-HasInvalidTerm name rows Subject fault = (name ≡ codes "find") × IsInvalidPart rows Subject fault
-HasInvalidTerm name rows Predicate fault = (name ≡ codes "find") × IsValidPart rows Subject × IsInvalidPart rows Predicate fault
-HasInvalidTerm name rows Object fault = (name ≡ codes "find") × IsValidPart rows Subject × IsValidPart rows Predicate × IsInvalidPart rows Object fault
+HasInvalidTerm name rows Subject fault = (name ≡ codes "find") × IsInvalidPatternTerm rows Subject fault
+HasInvalidTerm name rows Predicate fault = (name ≡ codes "find") × IsValidPatternTerm rows Subject
+    × IsInvalidPatternTerm rows Predicate fault
+HasInvalidTerm name rows Object fault = (name ≡ codes "find") × IsValidPatternTerm rows Subject
+    × IsValidPatternTerm rows Predicate × IsInvalidPatternTerm rows Object fault
 
 abbrev pub HasInvalidTermIn : Option (Text × List Row) → TermArgument → TermFault → Type 0
-HasInvalidTermIn entered word fault = IsSomeAnd entered (λ command. HasInvalidTerm command.0 command.1 word fault)
+HasInvalidTermIn entered argument fault =
+    IsSomeAnd entered (λ command. HasInvalidTerm command.0 command.1 argument fault)
 
 -- An error of this kind shows help or the version.
 abbrev pub IsHelpOrVersion : ErrorKind → Type 0
@@ -341,11 +368,15 @@ IsHelpOrVersion k = (k ≡ kind.DisplayHelp) ⊎ (k ≡ kind.DisplayVersion)
 -- `Usage` only if the command line gives no request and no explanation; and an invalid term is the first one, with its
 -- first error.
 abbrev pub IsRefusedWithRoles : Names → List Text → UsageFault → Type 0
-IsRefusedWithRoles names words (Help text) = IsAmong kind.DisplayHelp (clap_errors names words) ⊎ IsAmong kind.DisplayVersion (clap_errors names words)
+IsRefusedWithRoles names words (Help text) = IsAmong kind.DisplayHelp (clap_errors names words)
+    ⊎ IsAmong kind.DisplayVersion (clap_errors names words)
     ⊎ ParsesToExplanation names words (string_bytes text)
-IsRefusedWithRoles names words (Usage text) = (clap_errors names words ≢ kind.DisplayHelp ∷ []) × (clap_errors names words ≢ kind.DisplayVersion ∷ [])
-    × ((request : Request) → ParsesWithRoles names words request → ⊥) × ((text : Text) → ParsesToExplanation names words text → ⊥)
-IsRefusedWithRoles names words (InvalidTerm word fault) = (clap_errors names words ≡ []) × HasInvalidTermIn (subcommand_of (table names) words) word fault
+IsRefusedWithRoles names words (Usage text) = (clap_errors names words ≢ kind.DisplayHelp ∷ [])
+    × (clap_errors names words ≢ kind.DisplayVersion ∷ [])
+    × ((request : Request) → ParsesWithRoles names words request → ⊥)
+    × ((text : Text) → ParsesToExplanation names words text → ⊥)
+IsRefusedWithRoles names words (InvalidTerm argument fault) = (clap_errors names words ≡ [])
+    × HasInvalidTermIn (subcommand_of (table names) words) argument fault
 IsRefusedWithRoles names words OutOfMemory = Unit {0}
 
 -- The same, for some list of the names of the roles.
@@ -370,25 +401,26 @@ IsUsageText said fault = ⊥
 abbrev pub IsFaultOfKind : ErrorKind → UsageFault → Type 0
 IsFaultOfKind k (Help text) = IsHelpOrVersion k
 IsFaultOfKind k (Usage text) = (IsHelpOrVersion k → ⊥) × (k ≢ kind.OutOfMemory)
-IsFaultOfKind k (InvalidTerm word fault) = ⊥
+IsFaultOfKind k (InvalidTerm argument fault) = ⊥
 IsFaultOfKind k OutOfMemory = Unit {0}
 
 -- `Usage` is returned only if P is false, an invalid term only if Q is true of it, and `Help` never.
 abbrev pub RefutesOrInvalidTerm : Type 0 → (TermArgument → TermFault → Type 0) → UsageFault → Type 0
 RefutesOrInvalidTerm P Q (Help text) = ⊥
 RefutesOrInvalidTerm P Q (Usage text) = P → ⊥
-RefutesOrInvalidTerm P Q (InvalidTerm word fault) = Q word fault
+RefutesOrInvalidTerm P Q (InvalidTerm argument fault) = Q argument fault
 RefutesOrInvalidTerm P Q OutOfMemory = Unit {0}
 
 -- `Usage` is returned only if P is false, and no error but that and out of memory.
 abbrev pub Refutes : Type 0 → UsageFault → Type 0
-Refutes P fault = RefutesOrInvalidTerm P (λ word fault. ⊥) fault
+Refutes P fault = RefutesOrInvalidTerm P (λ argument fault. ⊥) fault
 
 -- The error for a failure of parsing this argument as a term.
 abbrev pub IsFaultOfTerm : TermArgument → TermFault → UsageFault → Type 0
-IsFaultOfTerm word fault (InvalidTerm other told) = (other ≡ word) × (told ≡ fault) × (fault.reason ≢ line.OutOfMemory)
-IsFaultOfTerm word fault OutOfMemory = fault.reason ≡ line.OutOfMemory
-IsFaultOfTerm word fault other = ⊥
+IsFaultOfTerm argument fault (InvalidTerm other told) = (other ≡ argument) × (told ≡ fault)
+    × (fault.reason ≢ line.OutOfMemory)
+IsFaultOfTerm argument fault OutOfMemory = fault.reason ≡ line.OutOfMemory
+IsFaultOfTerm argument fault other = ⊥
 
 -- The dictionary string for a text: the text itself if raw, else the string of the N-Triples term that it spells.
 abbrev pub IsStringOfText : Bool → Text → List ℕ → Type 0
@@ -398,18 +430,19 @@ IsStringOfText raw text x = (raw ≡ true → x ≡ text) × (raw ≡ false → 
 abbrev pub IsExplanation : List Row → UsageFault → Type 0
 IsExplanation rows (Help text) = IsExplained rows (string_bytes text)
 IsExplanation rows (Usage text) = (explained : Text) → IsExplained rows explained → ⊥
-IsExplanation rows (InvalidTerm word fault) = ⊥
+IsExplanation rows (InvalidTerm argument fault) = ⊥
 IsExplanation rows OutOfMemory = Unit {0}
 
--- The error of a command: `Help` is the explanation that `explain` prints; `Usage` is returned only if the arguments give
+-- The error of a command: `Help` is the explanation that `explain` prints; `Usage` is returned only if the arguments
+-- give
 -- no request and no explanation.
 abbrev pub IsFaultOfCommand : Text → List Row → UsageFault → Type 0
 IsFaultOfCommand name rows (Help text) = IsExplainCommand (Some (name, rows)) (string_bytes text)
 IsFaultOfCommand name rows (Usage text) = ((request : Request) → IsRequestOf name rows request → ⊥)
     × ((explained : Text) → IsExplainCommand (Some (name, rows)) explained → ⊥)
-IsFaultOfCommand name rows (InvalidTerm word fault) = HasInvalidTerm name rows word fault
+IsFaultOfCommand name rows (InvalidTerm argument fault) = HasInvalidTerm name rows argument fault
 IsFaultOfCommand name rows OutOfMemory = Unit {0}
 
 -- The error is one of this argument: it is not raw, and this is the first error in its text.
 abbrev pub IsFaultOfArgument : TermArgument → Bool → Text → TermArgument → TermFault → Type 0
-IsFaultOfArgument word raw text other fault = (other ≡ word) × (raw ≡ false) × IsTermError text fault
+IsFaultOfArgument argument raw text other fault = (other ≡ argument) × (raw ≡ false) × IsTermError text fault

@@ -1,9 +1,8 @@
 -- The answers of `answer`: to one line of requests, and to all lines.
-use Rattle.std.specs.Prelude.{◌≡◌, ◌≢◌, ◌+◌, ◌^◌, ◌-◌, ℕ, Bool, true, false, nat_lt, length, ◌||◌, ◌⊎◌, List, [], ◌∷◌, ◌++◌, if◌then◌else◌, Option, None, Some, MatchOption, Result, Ok, Err, codes, option_map}
+use Rattle.std.specs.Prelude.{◌≡◌, ◌+◌, ◌^◌, ◌-◌, ℕ, Bool, true, false, nat_lt, length, ◌||◌, ◌⊎◌, List, [], ◌∷◌, ◌++◌, if◌then◌else◌, Option, None, Some, MatchOption, Result, Ok, Err, codes, option_map}
 use Rattle.std.specs.Fmt.{decimal}
 use Rattle.std.specs.Io.KnownBytes.{Appends}
 use Rattle.hdt_wire.specs.declared.role.Role.{Role}
-use Rattle.hdt_terms.specs.declared.fault.LineFault.{LineFault}
 use Rattle.hdt_terms.specs.declared.fault.LineReason.TheVariants as reasons
 use Rattle.hdt_terms.specs.declared.fault.TermFault.{TermFault}
 use Rattle.hdt_terms.specs.Faults.{out_of_memory}
@@ -16,7 +15,7 @@ use Rattle.hdt_terms.specs.LinesReader.{LinesState}
 use Rattle.hdt_terms.specs.Terms.{dictionary_string}
 use Rattle.hdt_triples.specs.TripleSequences.{Triple}
 use Rattle.hdt_file.specs.File.{GraphParts}
-use Rattle.hdt_file.specs.SkippedLines.{SkipsNonTerms}
+use Rattle.hdt_file.specs.Writable.{SkipsNonTerms}
 use Rattle.hdt_file.specs.TermFlags.{AreTermFlags}
 use Rattle.hdt_file.specs.Text.{IsFirstNonTerm}
 use Rattle.hdt_file.specs.TextWriting.{limited}
@@ -38,7 +37,8 @@ abbrev pub RequestStrings : Type 0
 RequestStrings = List (Option (List ℕ))
 
 abbrev pub term_request_strings : TermPattern → RequestStrings
-term_request_strings asked = option_map dictionary_string asked.s ∷ option_map dictionary_string asked.p ∷ option_map dictionary_string asked.o ∷ []
+term_request_strings asked = option_map dictionary_string asked.s ∷ option_map dictionary_string asked.p
+    ∷ option_map dictionary_string asked.o ∷ []
 
 -- With `--raw`, the text `?` matches any; any other text is a string.
 abbrev pub raw_request_string : List ℕ → Option (List ℕ)
@@ -47,7 +47,8 @@ raw_request_string x = if is_raw_given x then Some x else None
 abbrev pub raw_request_strings : StringPattern → RequestStrings
 raw_request_strings asked = raw_request_string asked.s ∷ raw_request_string asked.p ∷ raw_request_string asked.o ∷ []
 
-abbrev pub map_request : {A : Type 0} → (A → RequestStrings) → Result (Option A) TermFault → Result (Option RequestStrings) TermFault
+abbrev pub map_request : {A : Type 0} → (A → RequestStrings) → Result (Option A) TermFault
+    → Result (Option RequestStrings) TermFault
 map_request strings (Ok None) = Ok None
 map_request strings (Ok (Some asked)) = Ok (Some (strings asked))
 map_request strings (Err fault) = Err fault
@@ -64,17 +65,20 @@ too_long = record { column = 0; reason = reasons.TooLong }
 
 -- The request in a line, unless the line is above the maximum length.
 abbrev pub bounded_request_in : AnswerOptions → List ℕ → Result (Option RequestStrings) TermFault
-bounded_request_in options text = if nat_lt options.longest (length text) then Err too_long else request_strings_in options.raw text
+bounded_request_in options text =
+    if nat_lt options.longest (length text) then Err too_long else request_strings_in options.raw text
 
 -- Those of the three strings that are given.
 abbrev pub given_strings : List Bool → List ℕ → List ℕ → List ℕ → RequestStrings
 given_strings [] s p o = []
 given_strings (a ∷ []) s p o = []
 given_strings (a ∷ b ∷ []) s p o = []
-given_strings (a ∷ b ∷ c ∷ rest) s p o = (if a then Some s else None) ∷ (if b then Some p else None) ∷ (if c then Some o else None) ∷ []
+given_strings (a ∷ b ∷ c ∷ rest) s p o = (if a then Some s else None) ∷ (if b then Some p else None)
+    ∷ (if c then Some o else None) ∷ []
 
 -- The request that was parsed into the three buffers, unless memory ran out.
-abbrev pub ReadsRequest : Result (Option (List Bool)) TermFault → List ℕ → List ℕ → List ℕ → Result (Option RequestStrings) TermFault → Type 0
+abbrev pub ReadsRequest : Result (Option (List Bool)) TermFault → List ℕ → List ℕ → List ℕ
+    → Result (Option RequestStrings) TermFault → Type 0
 ReadsRequest (Ok None) s p o read = read ≡ Ok None
 ReadsRequest (Ok (Some given)) s p o read = read ≡ Ok (Some (given_strings given s p o))
 ReadsRequest (Err fault) s p o read = (fault ≡ out_of_memory) ⊎ (read ≡ Err fault)
@@ -100,7 +104,8 @@ AnswersTriples format g found answer = (text : List ℕ) × PrintsTriples format
 
 -- The answer in N-Triples if a string of the triples is not a term: only a comment with the first one.
 abbrev pub AnswersNonTerm : OutputFormat → GraphParts → List Triple → List ℕ → Type 0
-AnswersNonTerm format g found answer = (role : Role) × (n : ℕ) × (format ≡ NTriples) × IsFirstNonTerm g found role n × (answer ≡ ended (non_term_comment role n))
+AnswersNonTerm format g found answer = (role : Role) × (n : ℕ) × (format ≡ NTriples) × IsFirstNonTerm g found role n
+    × (answer ≡ ended (non_term_comment role n))
 
 -- The answer for these triples, and whether it is an error.
 abbrev pub AnswersFound : OutputFormat → GraphParts → List Triple → Bool → List ℕ → Type 0
@@ -125,12 +130,15 @@ AreFlagsIfSkipping skips g flags = MatchOption flags (skips ≡ false) (λ flags
 
 -- The answer for those of the triples that have a line, up to the limit; n without one were left out.
 abbrev pub AnswersKept : OutputFormat → GraphParts → Option ℕ → List Triple → ℕ → List ℕ → Type 0
-AnswersKept format g most found n answer = (kept : List Triple) × SkipsNonTerms g most found kept n × AnswersTriples format g kept answer
+AnswersKept format g most found n answer = (kept : List Triple) × SkipsNonTerms g most found kept n
+    × AnswersTriples format g kept answer
 
 -- The answer for the triples that were found, up to the limit, and its report.
 abbrev pub AnswersMatches : Bool → OutputFormat → GraphParts → Option ℕ → List Triple → AnswerReport → List ℕ → Type 0
-AnswersMatches false format g most found report answer = (report.skipped ≡ 0) × AnswersFound format g (limited most found) report.has_errors answer
-AnswersMatches true format g most found report answer = (report.has_errors ≡ false) × AnswersKept format g most found report.skipped answer
+AnswersMatches false format g most found report answer = (report.skipped ≡ 0)
+    × AnswersFound format g (limited most found) report.has_errors answer
+AnswersMatches true format g most found report answer = (report.has_errors ≡ false)
+    × AnswersKept format g most found report.skipped answer
 
 -- The report of an answer that leaves out no triple.
 abbrev pub plain_report : Bool → AnswerReport
@@ -138,25 +146,31 @@ plain_report faulty = record { has_errors = faulty; skipped = 0 }
 
 -- The report of two answers, or of all answers to some lines and to others.
 abbrev pub joined_reports : AnswerReport → AnswerReport → AnswerReport
-joined_reports one other = record { has_errors = one.has_errors || other.has_errors; skipped = one.skipped + other.skipped }
+joined_reports one other =
+    record { has_errors = one.has_errors || other.has_errors; skipped = one.skipped + other.skipped }
 
 -- The answer to the request in line n: empty for a blank line or a comment, a comment for an error, or the matches up
 -- to the limit.
-abbrev pub AnswersRequest : GraphParts → AnswerOptions → ℕ → Result (Option RequestStrings) TermFault → AnswerReport → List ℕ → Type 0
+abbrev pub AnswersRequest : GraphParts → AnswerOptions → ℕ → Result (Option RequestStrings) TermFault → AnswerReport
+    → List ℕ → Type 0
 AnswersRequest g options n (Ok None) report answer = (report ≡ plain_report false) × (answer ≡ [])
 AnswersRequest g options n (Ok (Some wanted)) report answer = (found : List Triple) × FindsStrings g wanted found
     × AnswersMatches (skips_in options.skip options.format) options.format g options.most found report answer
-AnswersRequest g options n (Err fault) report answer = (report ≡ plain_report true) × (answer ≡ ended (fault_comment n fault))
+AnswersRequest g options n (Err fault) report answer = (report ≡ plain_report true)
+    × (answer ≡ ended (fault_comment n fault))
 
 -- The answer to a numbered line.
 abbrev pub AnswersLine : GraphParts → AnswerOptions → ℕ × List ℕ → AnswerReport → List ℕ → Type 0
-AnswersLine g options line report answer = AnswersRequest g options line.0 (bounded_request_in options line.1) report answer
+AnswersLine g options line report answer =
+    AnswersRequest g options line.0 (bounded_request_in options line.1) report answer
 
 -- The concatenated answers to lines, whether any of them is an error, and how many triples they leave out.
 abbrev pub AnswersLines : GraphParts → AnswerOptions → List (ℕ × List ℕ) → AnswerReport → List ℕ → Type 0
 AnswersLines g options [] report answers = (report ≡ plain_report false) × (answers ≡ [])
-AnswersLines g options (line ∷ lines) report answers = (first : AnswerReport) × (answer : List ℕ) × (others : AnswerReport) × (more : List ℕ)
-    × AnswersLine g options line first answer × AnswersLines g options lines others more × (report ≡ joined_reports first others) × (answers ≡ answer ++ more)
+AnswersLines g options (line ∷ lines) report answers = (first : AnswerReport) × (answer : List ℕ)
+    × (others : AnswerReport) × (more : List ℕ)
+    × AnswersLine g options line first answer × AnswersLines g options lines others more
+    × (report ≡ joined_reports first others) × (answers ≡ answer ++ more)
 
 -- ---- the answers to an input
 
@@ -164,23 +178,9 @@ AnswersLines g options (line ∷ lines) report answers = (first : AnswerReport) 
 abbrev pub max_input_bytes : ℕ
 max_input_bytes = 2 ^ 63 - 1
 
--- These lines have been read from the input: those up to what is left, or all of them.
-abbrev pub HasTakenLines : LinesState → Option (List ℕ) → Option (List ℕ) → List (ℕ × List ℕ) → Type 0
-HasTakenLines s input left lines = ((s.ended ≡ false) × LinesSoFar max_input_bytes s input left lines) ⊎ ((s.ended ≡ true) × AreLines max_input_bytes input lines)
-
--- An upper bound of the number of lines left, for termination.
-abbrev pub lines_left : LinesState → ℕ
-lines_left s = if s.ended then 0 else s.limit - s.taken + 1
-
--- The error of `answer` if a line cannot be read.
-abbrev pub IsFaultOfLine : LineFault → ToolFault → Type 0
-IsFaultOfLine fault Read = fault.reason ≡ reasons.Read
-IsFaultOfLine fault OutOfMemory = fault.reason ≡ reasons.OutOfMemory
-IsFaultOfLine fault (Input told) = (told ≡ fault) × (fault.reason ≢ reasons.Read) × (fault.reason ≢ reasons.OutOfMemory)
-IsFaultOfLine fault other = ⊥
-
 -- The writer has gained the answers to all lines of the input.
-pub record AnswersInput (g : GraphParts) (options : AnswerOptions) (input written_before written_after : Option (List ℕ)) (report : AnswerReport) : Type 0 where
+pub record AnswersInput (g : GraphParts) (options : AnswerOptions)
+    (input written_before written_after : Option (List ℕ)) (report : AnswerReport) : Type 0 where
   pub lines : List (ℕ × List ℕ)
   pub are : AreLines max_input_bytes input lines
   pub text : List ℕ
@@ -189,28 +189,38 @@ pub record AnswersInput (g : GraphParts) (options : AnswerOptions) (input writte
 
 -- These are the first lines of the input, or all of them.
 abbrev pub AreFirstLines : Option (List ℕ) → List (ℕ × List ℕ) → Type 0
-AreFirstLines input lines = ((s : LinesState) × (left : Option (List ℕ)) × LinesSoFar max_input_bytes s input left lines) ⊎ AreLines max_input_bytes input lines
+AreFirstLines input lines =
+    ((s : LinesState) × (left : Option (List ℕ)) × LinesSoFar max_input_bytes s input left lines)
+    ⊎ AreLines max_input_bytes input lines
 
 -- The writer failed after exactly the first n bytes of the answers; or another error occurred after all of them.
 abbrev pub StopsAfterAnswers : ToolFault → List ℕ → Option (List ℕ) → Option (List ℕ) → ℕ → ℕ → Type 0
-StopsAfterAnswers (Write n) text written_before written_after failed_before failed_after = FailsAfter n text written_before written_after failed_before failed_after
-StopsAfterAnswers Read text written_before written_after failed_before failed_after = (failed_after ≡ failed_before) × Appends written_before written_after text
-StopsAfterAnswers OutOfMemory text written_before written_after failed_before failed_after = (failed_after ≡ failed_before) × Appends written_before written_after text
-StopsAfterAnswers (Input fault) text written_before written_after failed_before failed_after = (failed_after ≡ failed_before) × Appends written_before written_after text
+StopsAfterAnswers (Write n) text written_before written_after failed_before failed_after =
+    FailsAfter n text written_before written_after failed_before failed_after
+StopsAfterAnswers Read text written_before written_after failed_before failed_after = (failed_after ≡ failed_before)
+    × Appends written_before written_after text
+StopsAfterAnswers OutOfMemory text written_before written_after failed_before failed_after =
+    (failed_after ≡ failed_before) × Appends written_before written_after text
+StopsAfterAnswers (Input fault) text written_before written_after failed_before failed_after =
+    (failed_after ≡ failed_before) × Appends written_before written_after text
 StopsAfterAnswers fault text written_before written_after failed_before failed_after = ⊥
 
--- If a line could not be read, these are exactly the complete lines before it; `given` is what the reader still yields
+-- If a line could not be read, these are exactly the complete lines before it; `after` is what the reader still yields
 -- after it.
 abbrev pub FollowsLines : ToolFault → Option (List ℕ) → Option (List ℕ) → List (ℕ × List ℕ) → Type 0
-FollowsLines Read input given lines = (line : ℕ) × FaultAfterLines (record { line = line; column = 0; reason = reasons.Read }) max_input_bytes input given lines
-FollowsLines (Input fault) input given lines = (fault.reason ≡ reasons.TooLong) × FaultAfterLines fault max_input_bytes input given lines
-FollowsLines fault input given lines = Unit {0}
+FollowsLines Read input after lines = (line : ℕ)
+    × FaultAfterLines (record { line = line; column = 0; reason = reasons.Read }) max_input_bytes input after lines
+FollowsLines (Input fault) input after lines = (fault.reason ≡ reasons.TooLong)
+    × FaultAfterLines fault max_input_bytes input after lines
+FollowsLines fault input after lines = Unit {0}
 
 -- An error ended the answers: the writer has gained those to the first lines of the input, complete unless it failed.
-pub record AnswersUntilFault (g : GraphParts) (options : AnswerOptions) (input given written_before written_after : Option (List ℕ)) (failed_before failed_after : ℕ) (fault : ToolFault) : Type 0 where
+pub record AnswersUntilFault (g : GraphParts) (options : AnswerOptions)
+    (input after written_before written_after : Option (List ℕ)) (failed_before failed_after : ℕ)
+    (fault : ToolFault) : Type 0 where
   pub lines : List (ℕ × List ℕ)
   pub are : AreFirstLines input lines
-  pub behind : FollowsLines fault input given lines
+  pub behind : FollowsLines fault input after lines
   pub report : AnswerReport
   pub text : List ℕ
   pub answers : AnswersLines g options lines report text
@@ -219,11 +229,18 @@ pub record AnswersUntilFault (g : GraphParts) (options : AnswerOptions) (input g
 -- ---- the same over a file
 
 -- The file is valid, and the writer has gained the answers to all lines of the requests over its graph.
-abbrev pub AnswersOverFile : AnswerOptions → Option (List ℕ) → Option (List ℕ) → Option (List ℕ) → Option (List ℕ) → Option (List ℕ) → AnswerReport → Type 0
-AnswersOverFile options before after input written_before written_after report =
-    ReadsWith before after (λ bytes. IsLayoutWith bytes (λ graph. AnswersInput graph options input written_before written_after report))
+abbrev pub AnswersOverFile : AnswerOptions → Option (List ℕ) → Option (List ℕ) → Option (List ℕ) → Option (List ℕ)
+    → Option (List ℕ) → AnswerReport → Type 0
+AnswersOverFile options file_before file_after input written_before written_after report =
+    ReadsWith file_before file_after
+    (λ bytes. IsLayoutWith bytes (λ graph. AnswersInput graph options input written_before written_after report))
 
 -- The file is valid, and an error ended the answers to the requests over its graph.
-abbrev pub AnswersOverFileUntilFault : AnswerOptions → Option (List ℕ) → Option (List ℕ) → Option (List ℕ) → Option (List ℕ) → Option (List ℕ) → Option (List ℕ) → ℕ → ℕ → ToolFault → Type 0
-AnswersOverFileUntilFault options before after input given written_before written_after failed_before failed_after fault =
-    ReadsWith before after (λ bytes. IsLayoutWith bytes (λ graph. AnswersUntilFault graph options input given written_before written_after failed_before failed_after fault))
+abbrev pub AnswersOverFileUntilFault : AnswerOptions → Option (List ℕ) → Option (List ℕ) → Option (List ℕ)
+    → Option (List ℕ) → Option (List ℕ) → Option (List ℕ) → ℕ → ℕ → ToolFault → Type 0
+AnswersOverFileUntilFault options file_before file_after input after written_before written_after failed_before
+    failed_after fault =
+    ReadsWith file_before file_after
+    (λ bytes. IsLayoutWith bytes
+    (λ graph. AnswersUntilFault graph options input after written_before written_after failed_before failed_after
+    fault))

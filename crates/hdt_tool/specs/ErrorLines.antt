@@ -26,8 +26,10 @@ fault_status (tool.Write n) = 3
 fault_status tool.OutOfMemory = 4
 
 abbrev pub fault_line : ToolFault → List ℕ
-fault_line (tool.File fault) = codes "hdt: fault " ++ decimal (reason_number fault.reason) ++ codes " " ++ reason_name fault.reason ++ codes " at " ++ decimal fault.place
-fault_line (tool.Input fault) = codes "hdt: line " ++ decimal fault.line ++ codes " column " ++ decimal fault.column ++ codes ": "
+fault_line (tool.File fault) = codes "hdt: fault " ++ decimal (reason_number fault.reason) ++ codes " "
+    ++ reason_name fault.reason ++ codes " at " ++ decimal fault.place
+fault_line (tool.Input fault) = codes "hdt: line " ++ decimal fault.line ++ codes " column " ++ decimal fault.column
+    ++ codes ": "
     ++ decimal (line_reason_number fault.reason) ++ codes " " ++ line_reason_name fault.reason
 fault_line tool.NoTriples = codes "hdt: no triples"
 fault_line tool.NoSuchTerm = codes "hdt: no such term"
@@ -48,18 +50,19 @@ argument_name Object = codes "O"
 
 -- The message for an invalid term: the argument, the column, and the number and the name of the reason.
 abbrev pub invalid_term_line : TermArgument → TermFault → List ℕ
-invalid_term_line word fault = codes "hdt: " ++ argument_name word ++ codes " column " ++ decimal fault.column ++ codes ": "
+invalid_term_line argument fault = codes "hdt: " ++ argument_name argument ++ codes " column " ++ decimal fault.column
+    ++ codes ": "
     ++ decimal (line_reason_number fault.reason) ++ codes " " ++ line_reason_name fault.reason
 
 -- Help is printed with status 0, since it is no failure.
 abbrev pub usage_status : UsageFault → ℕ
 usage_status (usage.Usage text) = 2
 usage_status (usage.Help text) = 0
-usage_status (usage.InvalidTerm word fault) = 2
+usage_status (usage.InvalidTerm argument fault) = 2
 usage_status usage.OutOfMemory = 4
 
 abbrev pub usage_line : UsageFault → List ℕ
 usage_line (usage.Usage text) = string_bytes text
 usage_line (usage.Help text) = string_bytes text
-usage_line (usage.InvalidTerm word fault) = invalid_term_line word fault
+usage_line (usage.InvalidTerm argument fault) = invalid_term_line argument fault
 usage_line usage.OutOfMemory = codes "hdt: out of memory"

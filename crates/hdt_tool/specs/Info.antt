@@ -5,7 +5,7 @@ use Rattle.hdt_file.specs.Tight.{IsTightLayout}
 use Rattle.hdt_file.specs.Info.{IsFileInfo}
 use Rattle.hdt_file.specs.declared.info.FileInfo.{FileInfo}
 use Rattle.hdt_build.specs.Options.{IsBlockSize}
-use Rattle.hdt_build.specs.Rewritten.{IsRewritten}
+use Rattle.hdt_build.specs.Built.{IsRewritten}
 use Rattle.hdt_build.specs.declared.options.Report.{Report}
 use Rattle.hdt_tool.specs.InfoText.{info_text}
 

@@ -1,4 +1,5 @@
--- The output of `info`: a line for each value, with its name, a tab and the value; with `--json` one object with the same
+-- The output of `info`: a line for each value, with its name, a tab and the value; with `--json` one object with the
+-- same
 -- names and values.
 use Rattle.std.specs.Prelude.{ℕ, ◌*◌, ◌/◌, ◌%◌, Bool, true, false, List, [], ◌∷◌, ◌++◌, codes, max}
 use Rattle.std.specs.Fmt.{decimal}
@@ -38,18 +39,23 @@ flag_text false false = codes "no"
 
 -- The bytes of the file and of its header body, and the number of triples.
 unfoldable pub sizes_text : Bool → FileInfo → List ℕ
-sizes_text json info = number_text json (codes "bytes") info.bytes ++ (number_text json (codes "header-bytes") info.header_bytes
+sizes_text json info = number_text json (codes "bytes") info.bytes
+    ++ (number_text json (codes "header-bytes") info.header_bytes
     ++ number_text json (codes "triples") info.triples)
 
 -- The number of strings of each section.
 unfoldable pub strings_text : Bool → DictionaryInfo → List ℕ
-strings_text json d = number_text json (codes "shared") d.shared.strings ++ (number_text json (codes "subjects") d.subjects.strings
-    ++ (number_text json (codes "predicates") d.predicates.strings ++ number_text json (codes "objects") d.objects.strings))
+strings_text json d = number_text json (codes "shared") d.shared.strings
+    ++ (number_text json (codes "subjects") d.subjects.strings
+    ++ (number_text json (codes "predicates") d.predicates.strings
+    ++ number_text json (codes "objects") d.objects.strings))
 
 -- The sizes of a section.
 unfoldable pub section_text : Bool → List ℕ → SectionInfo → List ℕ
-section_text json section s = number_text json (section ++ codes "-bytes") s.bytes ++ (number_text json (section ++ codes "-block-size") s.block_size
-    ++ (mean_text json (section ++ codes "-mean-length") s.string_bytes s.strings ++ number_text json (section ++ codes "-offset-bits") s.offset_bits))
+section_text json section s = number_text json (section ++ codes "-bytes") s.bytes
+    ++ (number_text json (section ++ codes "-block-size") s.block_size
+    ++ (mean_text json (section ++ codes "-mean-length") s.string_bytes s.strings
+    ++ number_text json (section ++ codes "-offset-bits") s.offset_bits))
 
 -- The sizes of all sections.
 unfoldable pub sections_text : Bool → DictionaryInfo → List ℕ
@@ -58,12 +64,15 @@ sections_text json d = section_text json (codes "shared") d.shared ++ (section_t
 
 -- The bits of an entry of each sequence of the triples.
 unfoldable pub widths_text : Bool → EntryBits → List ℕ
-widths_text json bits = number_text json (codes "bitmap-y-bits") bits.bitmap_y ++ (number_text json (codes "bitmap-z-bits") bits.bitmap_z
+widths_text json bits = number_text json (codes "bitmap-y-bits") bits.bitmap_y
+    ++ (number_text json (codes "bitmap-z-bits") bits.bitmap_z
     ++ (number_text json (codes "array-y-bits") bits.array_y ++ number_text json (codes "array-z-bits") bits.array_z))
 
 -- Whether the file is tight, and whether it is canonical.
 unfoldable pub flags_text : Bool → Bool → Bool → List ℕ
-flags_text json tight canonical = name_text json (codes "tight") ++ (flag_text json tight ++ (value_end json ++ (name_text json (codes "canonical") ++ flag_text json canonical)))
+flags_text json tight canonical =
+    name_text json (codes "tight")
+    ++ (flag_text json tight ++ (value_end json ++ (name_text json (codes "canonical") ++ flag_text json canonical)))
 
 -- What precedes the first value and what follows the last.
 abbrev pub opening : Bool → List ℕ
@@ -76,5 +85,6 @@ closing false = 10 ∷ []
 
 -- The output.
 unfoldable pub info_text : Bool → FileInfo → Bool → Bool → List ℕ
-info_text json info tight canonical = opening json ++ (sizes_text json info ++ (strings_text json info.dictionary ++ (sections_text json info.dictionary
+info_text json info tight canonical =
+    opening json ++ (sizes_text json info ++ (strings_text json info.dictionary ++ (sections_text json info.dictionary
     ++ (widths_text json info.entry_bits ++ (flags_text json tight canonical ++ closing json)))))

@@ -1,1 +1,3 @@
+pub mod AnswerLoop
+pub mod FrequencyKeys
 pub mod ProgressText

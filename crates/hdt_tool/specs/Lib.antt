@@ -1,14 +1,11 @@
-pub mod Escaping
-pub mod HeadText
+pub mod PrintedReports
 pub mod StringsText
 pub mod ListedStrings
 pub mod TriplesText
 pub mod TermCounts
-pub mod TermReports
-pub mod Verdict
+pub mod NonTermText
 pub mod InfoText
 pub mod Info
-pub mod BuiltText
 pub mod Outcomes
 pub mod Dialogue
 pub mod Faults

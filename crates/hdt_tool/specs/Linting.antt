@@ -17,9 +17,11 @@ abbrev pub IsAny : ℕ → Bool → Type 0
 IsAny n false = n ≡ 0
 IsAny n true = 0 < n
 
--- All lines of the input, or its first lines up to the last of `most` faulty ones, were checked, and `faulty` is whether
+-- All lines of the input, or its first lines up to the last of `most` faulty ones, were checked, and `faulty` is
+-- whether
 -- any of these is faulty. The two writers have gained the kept lines and the reports.
-pub record Lints (keep : Bool) (most : Option ℕ) (input kept_before kept_after reported_before reported_after : Option (List ℕ)) (faulty : Bool) : Type 0 where
+pub record Lints (keep : Bool) (most : Option ℕ)
+    (input kept_before kept_after reported_before reported_after : Option (List ℕ)) (faulty : Bool) : Type 0 where
   pub count : ℕ
   pub any : IsAny count faulty
   pub lints : LintsInput keep (most_faulty most) input kept_before kept_after reported_before reported_after count
@@ -30,9 +32,12 @@ lint_fault_of (linting.Line fault) = line_fault_of fault
 lint_fault_of (linting.Write n) = Write n
 lint_fault_of linting.OutOfMemory = OutOfMemory
 
--- The error ended the run after some lines: the two writers have gained a prefix of the kept lines and of the reports. If
+-- The error ended the run after some lines: the two writers have gained a prefix of the kept lines and of the reports.
+-- If
 -- a line could not be read, these are all lines before it.
-pub record LintsUntilError (keep : Bool) (input given kept_before kept_after reported_before reported_after : Option (List ℕ)) (error : ToolFault) : Type 0 where
+pub record LintsUntilError (keep : Bool)
+    (input given kept_before kept_after reported_before reported_after : Option (List ℕ))
+    (error : ToolFault) : Type 0 where
   pub fault : LintFault
   pub is : error ≡ lint_fault_of fault
   pub lints : LintsUntilFault keep input given kept_before kept_after reported_before reported_after fault

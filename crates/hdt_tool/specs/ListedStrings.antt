@@ -1,46 +1,37 @@
 -- The output of `strings` with `--prefix` or `--terms`: the strings of a role that begin with a prefix.
-use Rattle.std.specs.Prelude.{◌≡◌, ◌≢◌, ◌↔◌, ◌-◌, ◌<◌, ℕ, suc, Bool, true, false, List, [], ◌∷◌, ◌++◌, Some, get_or, length}
-use Rattle.std.specs.List.{range_with_len}
+use Rattle.std.specs.Prelude.{◌≡◌, ◌↔◌, ◌<◌, ℕ, suc, Bool, true, false, List, [], ◌∷◌, ◌++◌, Some, get_or, length}
+use Rattle.std.specs.List.{Contains}
 use Rattle.hdt_wire.specs.declared.role.Role.{Role}
-use Rattle.hdt_terms.specs.declared.triple.Term.{Term}
-use Rattle.hdt_terms.specs.Terms.{IsDictionaryTerm, dictionary_string}
 use Rattle.hdt_dict.specs.Ids.{string_at_id}
-use Rattle.hdt_dict.specs.Prefixes.{IsInRanges, RangesAscend, SomeBeginsWith}
-use Rattle.hdt_dict.specs.declared.prefix.PrefixRanges.{PrefixRanges}
-use Rattle.hdt_tool.specs.StringsText.{AreLinesOf, string_line}
-use Rattle.hdt_tool.specs.TermCounts.{IsShown}
+use Rattle.hdt_dict.specs.Prefixes.{SomeBeginsWith}
+use Rattle.hdt_tool.specs.StringsText.{AreLinesOf, IsFirstWithoutLine, string_line}
+use Rattle.hdt_tool.specs.TermCounts.{IsStringOrTerm}
 use Rattle.hdt_tool.specs.declared.fault.ToolFault.{ToolFault}
 use Rattle.hdt_tool.specs.declared.fault.ToolFault.TheVariants.{NotATerm, OutOfMemory}
 
 -- ---- the strings
 
--- The IDs of two ranges, in order.
-abbrev pub range_ids : PrefixRanges → List ℕ
-range_ids r = range_with_len r.first.start (r.first.end - r.first.start) ++ range_with_len r.second.start (r.second.end - r.second.start)
-
--- The IDs are those of the strings that begin with the prefix, ascending: two ranges have exactly these.
+-- The IDs are those of the strings that begin with the prefix, ascending.
 pub record ArePrefixIds (strings : List (List ℕ)) (prefix ids : List ℕ) : Type 0 where
-  pub ranges : PrefixRanges
-  pub exact : (n : ℕ) → IsInRanges ranges n ↔ SomeBeginsWith prefix (string_at_id strings n)
-  pub ascend : RangesAscend ranges (length strings)
-  pub ids_are : ids ≡ range_ids ranges
+  pub exact : (n : ℕ) → Contains ids n ↔ SomeBeginsWith prefix (string_at_id strings n)
+  pub ascend : (i d : ℕ) → suc i < length ids → get_or ids i d < get_or ids (suc i) d
 
 -- The IDs ascend, and each has a string.
 pub record AreAscendingIds (strings : List (List ℕ)) (ids : List ℕ) : Type 0 where
-  pub there : (i d : ℕ) → i < length ids → (string : List ℕ) × (string_at_id strings (get_or ids i d) ≡ Some string)
+  pub found : (i d : ℕ) → i < length ids → (string : List ℕ) × (string_at_id strings (get_or ids i d) ≡ Some string)
   pub ascend : (i d : ℕ) → suc i < length ids → get_or ids i d < get_or ids (suc i) d
 
 -- ---- lines
 
 -- The line of a string with ID n: with `--terms` its N-Triples term, else the ID, a tab and the escaped string.
 abbrev pub IsListedLine : Bool → ℕ → List ℕ → List ℕ → Type 0
-IsListedLine true n string line = (shown : List ℕ) × IsShown false string shown × (line ≡ shown ++ 10 ∷ [])
+IsListedLine true n string line = (shown : List ℕ) × IsStringOrTerm false string shown × (line ≡ shown ++ 10 ∷ [])
 IsListedLine false n string line = line ≡ string_line n string
 
 -- The line of ID n.
 pub record IsLineOfId (strings : List (List ℕ)) (terms : Bool) (n : ℕ) (line : List ℕ) : Type 0 where
   pub string : List ℕ
-  pub there : string_at_id strings n ≡ Some string
+  pub found : string_at_id strings n ≡ Some string
   pub listed : IsListedLine terms n string line
 
 -- The text has the lines of these IDs, in order.
@@ -55,30 +46,17 @@ pub record PrintsListed (strings : List (List ℕ)) (prefix : List ℕ) (terms :
 
 -- ---- errors
 
--- No term has this string.
-abbrev pub IsNoTermString : List ℕ → Type 0
-IsNoTermString string = (term : Term) → IsDictionaryTerm term → dictionary_string term ≢ string
-
--- ID n is the first one whose string is not a term; those before it have lines.
-pub record IsFirstNotListed (strings : List (List ℕ)) (ids : List ℕ) (n : ℕ) : Type 0 where
-  pub front : List ℕ
-  pub behind : List ℕ
-  pub text : List ℕ
-  pub cut : ids ≡ front ++ n ∷ behind
-  pub lines : AreLinesOfIds strings true front text
-  pub string : List ℕ
-  pub there : string_at_id strings n ≡ Some string
-  pub none : IsNoTermString string
-
 -- The error is one that printing these IDs of the role may return.
 abbrev pub IsLineFault : List (List ℕ) → List ℕ → Role → Bool → ToolFault → Type 0
-IsLineFault strings ids role terms (NotATerm other n) = (other ≡ role) × (terms ≡ true) × IsFirstNotListed strings ids n
+IsLineFault strings ids role terms (NotATerm other n) = (other ≡ role) × (terms ≡ true)
+    × IsFirstWithoutLine (IsLineOfId strings true) strings ids n
 IsLineFault strings ids role terms OutOfMemory = Unit {0}
 IsLineFault strings ids role terms fault = ⊥
 
 -- With `--terms`, ID n of the role is the first one to print whose string is not a term.
 abbrev pub HasUnlistedTerm : List (List ℕ) → List ℕ → Bool → ℕ → Type 0
-HasUnlistedTerm strings prefix terms n = (terms ≡ true) × ((ids : List ℕ) × ArePrefixIds strings prefix ids × IsFirstNotListed strings ids n)
+HasUnlistedTerm strings prefix terms n = (terms ≡ true)
+    × ((ids : List ℕ) × ArePrefixIds strings prefix ids × IsFirstWithoutLine (IsLineOfId strings true) strings ids n)
 
 -- The error is one that the listing may return.
 abbrev pub IsListFault : List (List ℕ) → List ℕ → Role → Bool → ToolFault → Type 0

@@ -7,11 +7,11 @@ use Rattle.hdt_wire.specs.declared.fault.Fault.{Fault}
 use Rattle.hdt_file.specs.Head.{HeadParts, IsHead, decode_head}
 use Rattle.hdt_file.specs.File.{GraphParts, IsLayout, decode_graph}
 use Rattle.hdt_file.specs.Tight.{IsTightLayout, decode_tight_graph}
-use Rattle.hdt_file.specs.GraphView.{graph_counts}
+use Rattle.hdt_file.specs.Graph.{graph_counts}
 use Rattle.hdt_build.specs.Built.{Builds}
 use Rattle.hdt_build.specs.Options.{AreValidOptions, IsBlockSize}
 use Rattle.hdt_build.specs.Reading.{IsBuildFaultOf as IsFaultOfBuild}
-use Rattle.hdt_build.specs.Rewritten.{IsRewritten}
+use Rattle.hdt_build.specs.Built.{IsRewritten}
 use Rattle.hdt_build.specs.declared.fault.BuildFault.{BuildFault}
 use Rattle.hdt_build.specs.declared.fault.BuildFault.TheVariants as building
 use Rattle.hdt_build.specs.declared.options.Options.{Options}
@@ -24,15 +24,13 @@ use Rattle.hdt_tool.specs.declared.fault.ToolFault.TheVariants.{File, Input, NoT
 use Rattle.hdt_tool.specs.declared.request.Action.{Action}
 use Rattle.hdt_tool.specs.declared.request.Request.{Request}
 use Rattle.hdt_tool.specs.declared.request.Action.TheVariants.{Head, Verify, VerifyTight, VerifyTerms, Strings, ListStrings, Nth, Number, Find, Search, SkipNonTerms, Exists, Count, Answer, Build, Rewrite, Info, Lint, Split}
-use Rattle.hdt_tool.specs.BuiltText.{built_line, rewritten_line}
-use Rattle.hdt_tool.specs.HeadText.{head_text}
+use Rattle.hdt_tool.specs.PrintedReports.{built_line, rewritten_line, head_text, verdict}
 use Rattle.hdt_tool.specs.ErrorLines.{fault_status}
 use Rattle.hdt_tool.specs.Info.{PrintsInfo}
-use Rattle.hdt_tool.specs.Verdict.{verdict}
 use Rattle.hdt_tool.specs.StringsText.{string_lines, PrintsString, PrintsNumber}
 use Rattle.hdt_tool.specs.ListedStrings.{HasUnlistedTerm, PrintsListed}
 use Rattle.hdt_tool.specs.TermCounts.{IsCountFault, PrintsCounts}
-use Rattle.hdt_tool.specs.TermReports.{PrintsKept, PrintsTermVerdict, kept_format}
+use Rattle.hdt_tool.specs.NonTermText.{PrintsKept, PrintsTermVerdict, kept_format}
 use Rattle.hdt_tool.specs.TriplesText.{HasMatch, HasNonTermIn, LacksMatch, PrintsFound, find_format}
 use Rattle.hdt_dict.specs.Dictionary.{role_strings}
 
@@ -66,10 +64,11 @@ CountsNonTerms (VerifyTerms tight) = Unit {0}
 CountsNonTerms action = ⊥
 
 -- The text is the output of such a command for these input bytes, and n is this number.
-abbrev pub Reports : Action → List ℕ → List ℕ → ℕ → Type 0
-Reports (SkipNonTerms given count most) bytes text n = IsLayoutWith bytes (λ graph. PrintsKept graph given (kept_format count) most text n)
-Reports (VerifyTerms tight) bytes text n = PrintsTermVerdict tight bytes text n
-Reports action bytes text n = ⊥
+abbrev pub PrintsCountingNonTerms : Action → List ℕ → List ℕ → ℕ → Type 0
+PrintsCountingNonTerms (SkipNonTerms given count most) bytes text n =
+    IsLayoutWith bytes (λ graph. PrintsKept graph given (kept_format count) most text n)
+PrintsCountingNonTerms (VerifyTerms tight) bytes text n = PrintsTermVerdict tight bytes text n
+PrintsCountingNonTerms action bytes text n = ⊥
 
 -- The text is the output of a command for these input bytes, if it writes no file and has one output: `lint` has two.
 abbrev pub Prints : Action → List ℕ → List ℕ → Type 0
@@ -78,13 +77,16 @@ Prints Verify bytes text = IsLayoutWith bytes (λ graph. text ≡ verdict (graph
 Prints VerifyTight bytes text = PrintsTightVerdict bytes text
 Prints (Info json) bytes text = PrintsInfo json bytes text
 Prints (Strings role) bytes text = HasRoleStringsWith bytes role (λ strings. text ≡ string_lines 1 strings)
-Prints (ListStrings role prefix terms) bytes text = HasRoleStringsWith bytes role (λ strings. PrintsListed strings prefix.items terms text)
+Prints (ListStrings role prefix terms) bytes text =
+    HasRoleStringsWith bytes role (λ strings. PrintsListed strings prefix.items terms text)
 Prints (Nth role n) bytes text = HasRoleStringsWith bytes role (λ strings. PrintsString strings n text)
 Prints (Number role x) bytes text = HasRoleStringsWith bytes role (λ strings. PrintsNumber strings x.items text)
-Prints (Find given numbers) bytes text = IsLayoutWith bytes (λ graph. PrintsFound graph given (find_format numbers) None text)
+Prints (Find given numbers) bytes text =
+    IsLayoutWith bytes (λ graph. PrintsFound graph given (find_format numbers) None text)
 Prints (Search given format most) bytes text = IsLayoutWith bytes (λ graph. PrintsFound graph given format most text)
-Prints (SkipNonTerms given count most) bytes text = (n : ℕ) × Reports (SkipNonTerms given count most) bytes text n
-Prints (VerifyTerms tight) bytes text = (n : ℕ) × Reports (VerifyTerms tight) bytes text n
+Prints (SkipNonTerms given count most) bytes text = (n : ℕ)
+    × PrintsCountingNonTerms (SkipNonTerms given count most) bytes text n
+Prints (VerifyTerms tight) bytes text = (n : ℕ) × PrintsCountingNonTerms (VerifyTerms tight) bytes text n
 Prints (Exists given) bytes text = IsLayoutWith bytes (λ graph. HasMatch graph given × (text ≡ []))
 Prints (Count role top raw) bytes text = IsLayoutWith bytes (λ graph. PrintsCounts graph role top raw text)
 Prints (Answer options) bytes text = IsLayoutWith bytes (λ graph. text ≡ [])
@@ -99,9 +101,20 @@ IsReadOnly (Build options) = ⊥
 IsReadOnly (Rewrite b) = ⊥
 IsReadOnly action = Unit {0}
 
--- The command prints one complete text and writes no file: `strings` prints in pieces.
+-- The text is the output of a command that writes no file, for these input bytes, and n is what it counts: 0 if it
+-- counts
+-- nothing.
+abbrev pub PrintsWithCount : Action → List ℕ → List ℕ → ℕ → Type 0
+PrintsWithCount (SkipNonTerms given count most) bytes text n =
+    PrintsCountingNonTerms (SkipNonTerms given count most) bytes text n
+PrintsWithCount (VerifyTerms tight) bytes text n = PrintsCountingNonTerms (VerifyTerms tight) bytes text n
+PrintsWithCount action bytes text n = Prints action bytes text × (n ≡ 0)
+
+-- The command prints one complete text, counts nothing, and writes no file: `strings` prints in pieces.
 abbrev pub PrintsText : Action → Type 0
 PrintsText (Strings role) = ⊥
+PrintsText (SkipNonTerms given count most) = ⊥
+PrintsText (VerifyTerms tight) = ⊥
 PrintsText action = IsReadOnly action
 
 -- The command writes a file: `build` or `rewrite`.
@@ -133,7 +146,8 @@ LacksNumber action bytes = ⊥
 
 -- The role has no ID for the string to look up.
 abbrev pub LacksTerm : Action → List ℕ → Type 0
-LacksTerm (Number role x) bytes = HasRoleStringsWith bytes role (λ strings. (n : ℕ) → string_at_id strings n ≢ Some x.items)
+LacksTerm (Number role x) bytes =
+    HasRoleStringsWith bytes role (λ strings. (n : ℕ) → string_at_id strings n ≢ Some x.items)
 LacksTerm action bytes = ⊥
 
 -- No triple has the strings to look for.
@@ -141,13 +155,18 @@ abbrev pub LacksAnyMatch : Action → List ℕ → Type 0
 LacksAnyMatch (Exists given) bytes = IsLayoutWith bytes (λ graph. LacksMatch graph given)
 LacksAnyMatch action bytes = ⊥
 
--- The output format is N-Triples, or `count` or `strings` prints terms, and the first string to print that is not a term
+-- The output format is N-Triples, or `count` or `strings` prints terms, and the first string to print that is not a
+-- term
 -- has this role and ID.
 abbrev pub HasNonTerm : Action → List ℕ → Role → ℕ → Type 0
-HasNonTerm (Find given numbers) bytes role n = IsLayoutWith bytes (λ graph. HasNonTermIn graph given (find_format numbers) None role n)
-HasNonTerm (Search given format most) bytes role n = IsLayoutWith bytes (λ graph. HasNonTermIn graph given format most role n)
-HasNonTerm (Count role top raw) bytes other n = IsLayoutWith bytes (λ graph. IsCountFault graph role top raw (NotATerm other n))
-HasNonTerm (ListStrings role prefix terms) bytes other n = (other ≡ role) × HasRoleStringsWith bytes role (λ strings. HasUnlistedTerm strings prefix.items terms n)
+HasNonTerm (Find given numbers) bytes role n =
+    IsLayoutWith bytes (λ graph. HasNonTermIn graph given (find_format numbers) None role n)
+HasNonTerm (Search given format most) bytes role n =
+    IsLayoutWith bytes (λ graph. HasNonTermIn graph given format most role n)
+HasNonTerm (Count role top raw) bytes other n =
+    IsLayoutWith bytes (λ graph. IsCountFault graph role top raw (NotATerm other n))
+HasNonTerm (ListStrings role prefix terms) bytes other n = (other ≡ role)
+    × HasRoleStringsWith bytes role (λ strings. HasUnlistedTerm strings prefix.items terms n)
 HasNonTerm action bytes role n = ⊥
 
 -- The bytes are valid, but the block size for `rewrite` is not.
@@ -220,7 +239,8 @@ HasBadOptions action before after = ⊥
 -- The error is one that the command may return for the input: the first one of a file or a document, a look-up without
 -- a result, or the first string to print that is not a term. Errors of reading, writing and memory may always occur.
 abbrev pub IsFaultOfInput : Action → Option (List ℕ) → Option (List ℕ) → ToolFault → Type 0
-IsFaultOfInput action before after (Input fault) = IsFaultOfDocument action before after (building.Line fault) × (fault.reason ≢ reasons.Read)
+IsFaultOfInput action before after (Input fault) = IsFaultOfDocument action before after (building.Line fault)
+    × (fault.reason ≢ reasons.Read)
 IsFaultOfInput action before after NoTriples = IsFaultOfDocument action before after building.NoTriples
 IsFaultOfInput action before after BadOptions = HasBadOptions action before after
 IsFaultOfInput action before after Read = Unit {0}
@@ -229,19 +249,22 @@ IsFaultOfInput action before after OutOfMemory = Unit {0}
 IsFaultOfInput action before after fault = ReadsWith before after (λ bytes. IsFaultOfBytes action bytes fault)
 
 -- The text is the command's output for the input, and the new file has been appended to `made`.
-pub record YieldsAppended (action : Action) (before after : Option (List ℕ)) (text made_before made_after : List ℕ) : Type 0 where
+pub record YieldsAppended (action : Action) (before after : Option (List ℕ))
+    (text made_before made_after : List ℕ) : Type 0 where
   pub built : List ℕ
   pub yields : Yields action before after text built
   pub made : made_after ≡ made_before ++ built
 
 -- The run succeeded: the writer has gained the command's output for the input, and `made` the new file.
-pub record Completes (action : Action) (before after written_before written_after : Option (List ℕ)) (made_before made_after : List ℕ) : Type 0 where
+pub record Completes (action : Action) (before after written_before written_after : Option (List ℕ))
+    (made_before made_after : List ℕ) : Type 0 where
   pub text : List ℕ
   pub makes : YieldsAppended action before after text made_before made_after
   pub written : Appends written_before written_after text
 
 -- The writer has gained exactly the first n bytes of the command's output for the input, which is longer.
-pub record WritesOutputPrefix (action : Action) (before after written_before written_after : Option (List ℕ)) (n : ℕ) : Type 0 where
+pub record WritesOutputPrefix (action : Action) (before after written_before written_after : Option (List ℕ))
+    (n : ℕ) : Type 0 where
   pub text : List ℕ
   pub built : List ℕ
   pub yields : Yields action before after text built
@@ -250,11 +273,17 @@ pub record WritesOutputPrefix (action : Action) (before after written_before wri
 
 -- ---- commands that count what has no form in N-Triples
 
--- The writer has gained the command's output for the input, and n is its number.
-pub record WritesReport (action : Action) (before after written_before written_after : Option (List ℕ)) (n : ℕ) : Type 0 where
+-- The writer has gained the command's output for the input, and n is what the command counts.
+pub record WritesWithCount (action : Action) (before after written_before written_after : Option (List ℕ))
+    (n : ℕ) : Type 0 where
   pub text : List ℕ
-  pub reports : ReadsWith before after (λ bytes. Reports action bytes text n)
+  pub prints : ReadsWith before after (λ bytes. PrintsWithCount action bytes text n)
   pub written : Appends written_before written_after text
+
+-- The same, and the command counts something.
+abbrev pub WritesAndCounts : Action → Option (List ℕ) → Option (List ℕ) → Option (List ℕ) → Option (List ℕ) → Type 0
+WritesAndCounts action before after written_before written_after = (n : ℕ) × (n ≢ 0)
+    × WritesWithCount action before after written_before written_after n
 
 -- The message on standard error with the number of triples that were skipped.
 abbrev pub skipped_line : ℕ → List ℕ
@@ -276,7 +305,8 @@ IsReplaceFault built fault = ⊥
 -- ---- incomplete output
 
 -- The writer failed once, after exactly the first n bytes of the text.
-pub record FailsAfter (n : ℕ) (text : List ℕ) (written_before written_after : Option (List ℕ)) (failed_before failed_after : ℕ) : Type 0 where
+pub record FailsAfter (n : ℕ) (text : List ℕ) (written_before written_after : Option (List ℕ))
+    (failed_before failed_after : ℕ) : Type 0 where
   pub failed : failed_after ≡ failed_before + 1
   pub within : n < length text
   pub written : Appends written_before written_after (take n text)
@@ -287,12 +317,15 @@ AppendsPrefix written_before written_after text = (n : ℕ) × Appends written_b
 
 -- Writing the text in pieces failed: the writer failed, or memory ran out after a prefix of the text.
 abbrev pub IsCutShort : ToolFault → List ℕ → Option (List ℕ) → Option (List ℕ) → ℕ → ℕ → Type 0
-IsCutShort (Write n) text written_before written_after failed_before failed_after = FailsAfter n text written_before written_after failed_before failed_after
-IsCutShort OutOfMemory text written_before written_after failed_before failed_after = (failed_after ≡ failed_before) × AppendsPrefix written_before written_after text
+IsCutShort (Write n) text written_before written_after failed_before failed_after =
+    FailsAfter n text written_before written_after failed_before failed_after
+IsCutShort OutOfMemory text written_before written_after failed_before failed_after = (failed_after ≡ failed_before)
+    × AppendsPrefix written_before written_after text
 IsCutShort fault text written_before written_after failed_before failed_after = ⊥
 
 -- `strings` ran out of memory: the writer has gained a prefix of its output for the input, and did not fail.
-pub record InterruptsStrings (action : Action) (before after written_before written_after : Option (List ℕ)) (failed_before failed_after : ℕ) : Type 0 where
+pub record InterruptsStrings (action : Action) (before after written_before written_after : Option (List ℕ))
+    (failed_before failed_after : ℕ) : Type 0 where
   pub role : Role
   pub asked : action ≡ Strings role
   pub text : List ℕ
@@ -300,11 +333,10 @@ pub record InterruptsStrings (action : Action) (before after written_before writ
   pub well : failed_after ≡ failed_before
   pub written : AppendsPrefix written_before written_after text
 
--- ---- errors of a run that takes ownership of its reader, so that `after` is only known to exist
+-- ---- errors of status 1
 
 -- The command has an error of status 1 for the input.
-pub record HasInputFault (action : Action) (before : Option (List ℕ)) : Type 0 where
+pub record HasInputFault (action : Action) (before after : Option (List ℕ)) : Type 0 where
   pub fault : ToolFault
   pub status : fault_status fault ≡ 1
-  pub after : Option (List ℕ)
   pub is_fault : IsFaultOfInput action before after fault

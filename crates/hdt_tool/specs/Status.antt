@@ -23,31 +23,33 @@ IsBuild action = ⊥
 abbrev pub IsActionStatus : Action → ℕ → Type 0
 IsActionStatus action status = IsCommandStatus status ⊎ (IsBuild action × (status ≡ 2))
 
--- The status of complete answers: 0, or 1 if one of them is an error; or if they leave out triples 1, or 4 if there is no
+-- The status of complete answers: 0, or 1 if one of them is an error; or if they leave out triples 1, or 4 if there is
+-- no
 -- memory for the message.
 abbrev pub IsReportStatus : AnswerReport → ℕ → Type 0
-IsReportStatus report status = (report.skipped ≡ 0 → status ≡ (if report.has_errors then 1 else 0)) × (report.skipped ≢ 0 → (status ≡ 1) ⊎ (status ≡ 4))
+IsReportStatus report status = (report.skipped ≡ 0 → status ≡ (if report.has_errors then 1 else 0))
+    × (report.skipped ≢ 0 → (status ≡ 1) ⊎ (status ≡ 4))
 
 -- Help has status 0, or 3 if it cannot be printed. A usage error has status 2, or 4 if there is no memory for its
 -- message.
 abbrev pub IsRefusalStatus : UsageFault → ℕ → Type 0
 IsRefusalStatus (usage.Help text) status = (status ≡ 0) ⊎ (status ≡ 3)
 IsRefusalStatus (usage.Usage text) status = (status ≡ 2) ⊎ (status ≡ 4)
-IsRefusalStatus (usage.InvalidTerm word fault) status = (status ≡ 2) ⊎ (status ≡ 4)
+IsRefusalStatus (usage.InvalidTerm argument fault) status = (status ≡ 2) ⊎ (status ≡ 4)
 IsRefusalStatus usage.OutOfMemory status = status ≡ 4
 
 -- The command line gives a request, and the status is one of its command.
-pub record EndsCommand (words : List Text) (status : ℕ) : Type 0 where
+pub record ExitsFromCommand (words : List Text) (status : ℕ) : Type 0 where
   pub request : Request
   pub wanted : ParsesToRequest words request
   pub ends : IsActionStatus request.action status
 
 -- The command line is refused, and the status is one of its error.
-pub record EndsRefusal (words : List Text) (status : ℕ) : Type 0 where
+pub record ExitsRefused (words : List Text) (status : ℕ) : Type 0 where
   pub fault : UsageFault
   pub refused : IsRefused words fault
   pub ends : IsRefusalStatus fault status
 
 -- The program may end with this status for this command line.
-abbrev pub Ends : List Text → ℕ → Type 0
-Ends words status = EndsCommand words status ⊎ EndsRefusal words status
+abbrev pub ExitsWith : List Text → ℕ → Type 0
+ExitsWith words status = ExitsFromCommand words status ⊎ ExitsRefused words status

@@ -78,7 +78,8 @@ PrintsTriples Numbers g found text = text ≡ numbers_lines found
 PrintsTriples Count g found text = text ≡ match_count_line found
 
 -- The text of the triples was appended.
-pub record AppendsTriples (format : OutputFormat) (g : GraphParts) (found : List Triple) (old new : List ℕ) : Type 0 where
+pub record AppendsTriples (format : OutputFormat) (g : GraphParts) (found : List Triple)
+    (old new : List ℕ) : Type 0 where
   pub text : List ℕ
   pub prints : PrintsTriples format g found text
   pub appended : new ≡ old ++ text
@@ -95,7 +96,8 @@ PrintsFound g given format most text = FindsWith g given (λ found. PrintsTriple
 
 -- The output format is N-Triples, and the first string of these triples that is not a term has this role and ID.
 abbrev pub HasNonTermIn : GraphParts → GivenStrings → OutputFormat → Option ℕ → Role → ℕ → Type 0
-HasNonTermIn g given format most role n = (format ≡ NTriples) × FindsWith g given (λ found. IsFirstNonTerm g (limited most found) role n)
+HasNonTermIn g given format most role n = (format ≡ NTriples)
+    × FindsWith g given (λ found. IsFirstNonTerm g (limited most found) role n)
 
 -- The error is one that `find` may return for a valid file.
 abbrev pub IsFindFault : GraphParts → GivenStrings → OutputFormat → Option ℕ → ToolFault → Type 0

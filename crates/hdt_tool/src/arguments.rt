@@ -3,7 +3,7 @@ ghost use Rattle.std.specs.Prelude.{◌≡◌, ◌≢◌, ℕ, false, IfOk, IfEr
 ghost use Rattle.clap.specs.Words.{first_of, one_of, found_of, rows_of};
 ghost use Rattle.hdt_build.specs.declared.options.Options.{Options};
 ghost use Rattle.hdt_wire.specs.declared.role.Role.{Role};
-ghost use Rattle.hdt_tool.specs.CommandLine.{IsFileAction, Refutes, RefutesOrInvalidTerm, IsFaultOfArgument, IsInvalidTerm, IsInvalidPart, IsStringOfText, IsFindAction, HasInvalidTerm, ParsesAsFlag, ParsesAsFormat, ParsesAsProgress, ParsesAsNumber, ParsesAsNumberOrNone, ParsesAsOptions, ParsesAsString, ParsesAsPart, IsFaultOfTerm, ParsesAsPrefix};
+ghost use Rattle.hdt_tool.specs.CommandLine.{IsQueryAction, Refutes, RefutesOrInvalidTerm, IsFaultOfArgument, IsInvalidTerm, IsInvalidPatternTerm, IsStringOfText, IsFindAction, HasInvalidTerm, ParsesAsFlag, ParsesAsFormat, ParsesAsProgress, ParsesAsNumber, ParsesAsNumberOrNone, ParsesAsBuildOptions, ParsesAsString, ParsesAsPatternTerm, IsFaultOfTerm, ParsesAsPrefix};
 ghost use Rattle.hdt_tool.specs.ErrorLines.{argument_name};
 ghost use Rattle.hdt_usage.specs.CommandTable.{role_name};
 
@@ -74,8 +74,10 @@ pub(crate) fn required_text<'m>(
 
 /// The role that the argument ROLE names.
 pub(crate) fn required_role<'m>(alloc: Global, matches: &ArgMatches<'m>) -> Result<Role, UsageFault>
-    ensures ok { IfOk result (λ role. first_of (codes "ROLE") (rows_of (found_of matches.now)) ≡ Some (role_name role)) }
-    ensures refused { IfErr result (Refutes ((role : Role) × (first_of (codes "ROLE") (rows_of (found_of matches.now)) ≡ Some (role_name role)))) }
+    ensures ok { IfOk result (λ role. first_of (codes "ROLE") (rows_of (found_of matches.now))
+        ≡ Some (role_name role)) }
+    ensures refused { IfErr result
+        (Refutes ((role : Role) × (first_of (codes "ROLE") (rows_of (found_of matches.now)) ≡ Some (role_name role)))) }
 {
     match argument_text(matches, "ROLE") {
         Some("subject") => Ok(Role::Subject),
@@ -88,7 +90,8 @@ pub(crate) fn required_role<'m>(alloc: Global, matches: &ArgMatches<'m>) -> Resu
 /// The ID in the argument N.
 pub(crate) fn required_id<'m>(alloc: Global, matches: &ArgMatches<'m>) -> Result<u64, UsageFault>
     ensures ok { IfOk result (λ n. ParsesAsNumber 64 (one_of (codes "N") (rows_of (found_of matches.now))) n) }
-    ensures refused { IfErr result (Refutes ((n : ℕ) × ParsesAsNumber 64 (one_of (codes "N") (rows_of (found_of matches.now))) n)) }
+    ensures refused { IfErr result
+        (Refutes ((n : ℕ) × ParsesAsNumber 64 (one_of (codes "N") (rows_of (found_of matches.now))) n)) }
 {
     match optional_number(matches, "N") {
         Some(number) => Ok(number),
@@ -99,7 +102,8 @@ pub(crate) fn required_id<'m>(alloc: Global, matches: &ArgMatches<'m>) -> Result
 /// The value of a required option, a decimal u32.
 fn required_u32<'m>(alloc: Global, matches: &ArgMatches<'m>, id: &str) -> Result<u32, UsageFault>
     ensures ok { IfOk result (λ n. ParsesAsNumber 32 (one_of id.now (rows_of (found_of matches.now))) n) }
-    ensures refused { IfErr result (Refutes ((n : ℕ) × ParsesAsNumber 32 (one_of id.now (rows_of (found_of matches.now))) n)) }
+    ensures refused { IfErr result
+        (Refutes ((n : ℕ) × ParsesAsNumber 32 (one_of id.now (rows_of (found_of matches.now))) n)) }
 {
     match optional_number(matches, id) {
         Some(number) if number < 1 << 32 => Ok(number as u32),
@@ -114,7 +118,8 @@ pub(crate) fn required_block_size<'m>(
     matches: &ArgMatches<'m>,
 ) -> Result<u32, UsageFault>
     ensures ok { IfOk result (λ n. ParsesAsNumber 32 (one_of (codes "block-size") (rows_of (found_of matches.now))) n) }
-    ensures refused { IfErr result (Refutes ((n : ℕ) × ParsesAsNumber 32 (one_of (codes "block-size") (rows_of (found_of matches.now))) n)) }
+    ensures refused { IfErr result
+        (Refutes ((n : ℕ) × ParsesAsNumber 32 (one_of (codes "block-size") (rows_of (found_of matches.now))) n)) }
 {
     required_u32(alloc, matches, "block-size")
 }
@@ -124,8 +129,9 @@ pub(crate) fn build_options<'m>(
     alloc: Global,
     matches: &ArgMatches<'m>,
 ) -> Result<Options, UsageFault>
-    ensures ok { IfOk result (λ options. ParsesAsOptions (rows_of (found_of matches.now)) options) }
-    ensures refused { IfErr result (Refutes ((options : Options) × ParsesAsOptions (rows_of (found_of matches.now)) options)) }
+    ensures ok { IfOk result (λ options. ParsesAsBuildOptions (rows_of (found_of matches.now)) options) }
+    ensures refused { IfErr result
+        (Refutes ((options : Options) × ParsesAsBuildOptions (rows_of (found_of matches.now)) options)) }
 {
     let base = required_text(alloc, matches, "base")?;
     Ok(Options {
@@ -136,7 +142,7 @@ pub(crate) fn build_options<'m>(
 
 /// The action of `verify`, with or without `--tight` and `--terms`.
 pub(crate) fn verify_action<'m>(matches: &ArgMatches<'m>) -> Action
-    ensures { IsFileAction (codes "verify") (rows_of (found_of matches.now)) result }
+    ensures { IsQueryAction (codes "verify") (rows_of (found_of matches.now)) result }
 {
     let tight = has_flag(matches, "tight");
     if has_flag(matches, "terms") {
@@ -150,7 +156,7 @@ pub(crate) fn verify_action<'m>(matches: &ArgMatches<'m>) -> Action
 
 /// The action of `info`.
 pub(crate) fn info_action<'m>(matches: &ArgMatches<'m>) -> Action
-    ensures { IsFileAction (codes "info") (rows_of (found_of matches.now)) result }
+    ensures { IsQueryAction (codes "info") (rows_of (found_of matches.now)) result }
 {
     Action::Info {
         json: has_flag(matches, "json"),
@@ -158,24 +164,24 @@ pub(crate) fn info_action<'m>(matches: &ArgMatches<'m>) -> Action
 }
 
 /// The error for an argument that is not a valid term.
-fn term_fault(word: TermArgument, fault: TermFault) -> UsageFault
-    ensures { IsFaultOfTerm word fault result }
+fn term_fault(argument: TermArgument, fault: TermFault) -> UsageFault
+    ensures { IsFaultOfTerm argument fault result }
 {
     match fault.reason {
         LineReason::OutOfMemory => UsageFault::OutOfMemory,
-        _ => UsageFault::InvalidTerm { word, fault },
+        _ => UsageFault::InvalidTerm { argument, fault },
     }
 }
 
 /// The dictionary string for a text: the text itself if `raw`, else the string of the N-Triples term that it spells.
 fn dictionary_string(
     alloc: Global,
-    word: TermArgument,
+    argument: TermArgument,
     text: &[u8],
     raw: bool,
 ) -> Result<Vec<u8>, UsageFault>
     ensures ok { IfOk result (λ x. IsStringOfText raw text.now x.items) }
-    ensures refused { IfErr result (RefutesOrInvalidTerm (Unit {0}) (IsFaultOfArgument word raw text.now)) }
+    ensures refused { IfErr result (RefutesOrInvalidTerm (Unit {0}) (IsFaultOfArgument argument raw text.now)) }
 {
     if raw {
         return Ok(text.to_vec(alloc)?);
@@ -183,7 +189,7 @@ fn dictionary_string(
     let mut string = Vec::new(alloc);
     match parse_string(text, &mut string) {
         Ok(()) => Ok(string),
-        Err(fault) => Err(term_fault(word, fault)),
+        Err(fault) => Err(term_fault(argument, fault)),
     }
 }
 
@@ -194,8 +200,10 @@ pub(crate) fn required_term<'m>(
 ) -> Result<Vec<u8>, UsageFault>
     ensures ok { IfOk result (λ x. ParsesAsString (one_of (codes "raw") (rows_of (found_of matches.now)))
         (first_of (codes "TERM") (rows_of (found_of matches.now))) x.items) }
-    ensures refused { IfErr result (RefutesOrInvalidTerm (IsSome (first_of (codes "TERM") (rows_of (found_of matches.now))))
-        (λ word fault. (word ≡ TermArgument.Term) × IsInvalidTerm (rows_of (found_of matches.now)) TermArgument.Term fault)) }
+    ensures refused { IfErr result
+        (RefutesOrInvalidTerm (IsSome (first_of (codes "TERM") (rows_of (found_of matches.now))))
+        (λ argument fault. (argument ≡ TermArgument.Term)
+        × IsInvalidTerm (rows_of (found_of matches.now)) TermArgument.Term fault)) }
 {
     let raw = has_flag(matches, "raw");
     match argument_text(matches, "TERM") {
@@ -207,32 +215,36 @@ pub(crate) fn required_term<'m>(
 /// The dictionary string for a text, or `None` if it is `?`.
 fn string_or_any(
     alloc: Global,
-    word: TermArgument,
+    argument: TermArgument,
     text: &str,
     raw: bool,
 ) -> Result<Option<Vec<u8>>, UsageFault>
-    ensures ok { IfOk result (λ part. MatchOption part (text.now ≡ codes "?") (λ x. (text.now ≢ codes "?") × IsStringOfText raw text.now x.items)) }
-    ensures refused { IfErr result (RefutesOrInvalidTerm (Unit {0}) (λ other fault. (text.now ≢ codes "?") × IsFaultOfArgument word raw text.now other fault)) }
+    ensures ok { IfOk result (λ part. MatchOption part (text.now ≡ codes "?") (λ x. (text.now ≢ codes "?")
+        × IsStringOfText raw text.now x.items)) }
+    ensures refused { IfErr result
+        (RefutesOrInvalidTerm (Unit {0}) (λ other fault. (text.now ≢ codes "?")
+        × IsFaultOfArgument argument raw text.now other fault)) }
 {
     if text == "?" {
         return Ok(None);
     }
-    Ok(Some(dictionary_string(alloc, word, text.as_bytes(), raw)?))
+    Ok(Some(dictionary_string(alloc, argument, text.as_bytes(), raw)?))
 }
 
 /// The dictionary string for the argument S, P or O, or `None` if it is `?`.
 fn pattern_argument<'m>(
     alloc: Global,
     matches: &ArgMatches<'m>,
-    word: TermArgument,
+    argument: TermArgument,
 ) -> Result<Option<Vec<u8>>, UsageFault>
-    ensures ok { IfOk result (ParsesAsPart (rows_of (found_of matches.now)) word) }
-    ensures refused { IfErr result (RefutesOrInvalidTerm (IsSome (first_of (argument_name word) (rows_of (found_of matches.now))))
-        (λ other fault. (other ≡ word) × IsInvalidPart (rows_of (found_of matches.now)) word fault)) }
+    ensures ok { IfOk result (ParsesAsPatternTerm (rows_of (found_of matches.now)) argument) }
+    ensures refused { IfErr result
+        (RefutesOrInvalidTerm (IsSome (first_of (argument_name argument) (rows_of (found_of matches.now))))
+        (λ other fault. (other ≡ argument) × IsInvalidPatternTerm (rows_of (found_of matches.now)) argument fault)) }
 {
     let raw = has_flag(matches, "raw");
-    match argument_text(matches, word.name()) {
-        Some(text) => string_or_any(alloc, word, text, raw),
+    match argument_text(matches, argument.name()) {
+        Some(text) => string_or_any(alloc, argument, text, raw),
         None => Err(missing(alloc)),
     }
 }
@@ -288,8 +300,9 @@ fn find_or_search(
 
 /// The action of `find`. S, P and O are checked in this order.
 pub(crate) fn find_action<'m>(alloc: Global, matches: &ArgMatches<'m>) -> Result<Action, UsageFault>
-    ensures ok { IfOk result (IsFileAction (codes "find") (rows_of (found_of matches.now))) }
-    ensures refused { IfErr result (RefutesOrInvalidTerm ((action : Action) × IsFileAction (codes "find") (rows_of (found_of matches.now)) action)
+    ensures ok { IfOk result (IsQueryAction (codes "find") (rows_of (found_of matches.now))) }
+    ensures refused { IfErr result
+        (RefutesOrInvalidTerm ((action : Action) × IsQueryAction (codes "find") (rows_of (found_of matches.now)) action)
         (HasInvalidTerm (codes "find") (rows_of (found_of matches.now)))) }
 {
     let subject = pattern_argument(alloc, matches, TermArgument::Subject)?;
@@ -306,7 +319,7 @@ pub(crate) fn find_action<'m>(alloc: Global, matches: &ArgMatches<'m>) -> Result
 
 /// The action of `dump`, with or without `--skip-non-terms`.
 pub(crate) fn dump_action<'m>(matches: &ArgMatches<'m>) -> Action
-    ensures { IsFileAction (codes "dump") (rows_of (found_of matches.now)) result }
+    ensures { IsQueryAction (codes "dump") (rows_of (found_of matches.now)) result }
 {
     let given = [None, None, None];
     if has_flag(matches, "skip-non-terms") {
@@ -337,8 +350,9 @@ pub(crate) fn strings_action<'m>(
     alloc: Global,
     matches: &ArgMatches<'m>,
 ) -> Result<Action, UsageFault>
-    ensures ok { IfOk result (IsFileAction (codes "strings") (rows_of (found_of matches.now))) }
-    ensures refused { IfErr result (Refutes ((role : Role) × (first_of (codes "ROLE") (rows_of (found_of matches.now)) ≡ Some (role_name role)))) }
+    ensures ok { IfOk result (IsQueryAction (codes "strings") (rows_of (found_of matches.now))) }
+    ensures refused { IfErr result
+        (Refutes ((role : Role) × (first_of (codes "ROLE") (rows_of (found_of matches.now)) ≡ Some (role_name role)))) }
 {
     let role = required_role(alloc, matches)?;
     let terms = has_flag(matches, "terms");
@@ -359,8 +373,9 @@ pub(crate) fn count_action<'m>(
     alloc: Global,
     matches: &ArgMatches<'m>,
 ) -> Result<Action, UsageFault>
-    ensures ok { IfOk result (IsFileAction (codes "count") (rows_of (found_of matches.now))) }
-    ensures refused { IfErr result (Refutes ((role : Role) × (first_of (codes "ROLE") (rows_of (found_of matches.now)) ≡ Some (role_name role)))) }
+    ensures ok { IfOk result (IsQueryAction (codes "count") (rows_of (found_of matches.now))) }
+    ensures refused { IfErr result
+        (Refutes ((role : Role) × (first_of (codes "ROLE") (rows_of (found_of matches.now)) ≡ Some (role_name role)))) }
 {
     let role = required_role(alloc, matches)?;
     let (top, raw) = (optional_number(matches, "top"), has_flag(matches, "raw"));
@@ -372,8 +387,9 @@ pub(crate) fn answer_action<'m>(
     alloc: Global,
     matches: &ArgMatches<'m>,
 ) -> Result<Action, UsageFault>
-    ensures ok { IfOk result (IsFileAction (codes "answer") (rows_of (found_of matches.now))) }
-    ensures refused { IfErr result (Refutes ((n : ℕ) × ParsesAsNumber 32 (one_of (codes "longest-request") (rows_of (found_of matches.now))) n)) }
+    ensures ok { IfOk result (IsQueryAction (codes "answer") (rows_of (found_of matches.now))) }
+    ensures refused { IfErr result
+        (Refutes ((n : ℕ) × ParsesAsNumber 32 (one_of (codes "longest-request") (rows_of (found_of matches.now))) n)) }
 {
     Ok(Action::Answer(AnswerOptions {
         format: format_option(matches),
@@ -386,7 +402,7 @@ pub(crate) fn answer_action<'m>(
 
 /// The action of `lint`.
 pub(crate) fn lint_action<'m>(matches: &ArgMatches<'m>) -> Action
-    ensures { IsFileAction (codes "lint") (rows_of (found_of matches.now)) result }
+    ensures { IsQueryAction (codes "lint") (rows_of (found_of matches.now)) result }
 {
     Action::Lint {
         keep: has_flag(matches, "keep"),

@@ -16,8 +16,8 @@ use std::path::PathBuf;
 use std::random::RandomSource;
 use std::time::{SystemTime, UNIX_EPOCH};
 
-/// The number of random names to try for a new file.
-const NAME_ATTEMPTS: u64 = 1000;
+/// The number of random names to try for a new file or folder.
+pub(crate) const NAME_ATTEMPTS: u64 = 1000;
 
 /// The mode of the new file while it is written: access for its owner only.
 const PRIVATE_MODE: u32 = 0o600;
@@ -33,9 +33,9 @@ fn linked_path<R: Files>(files: &R, alloc: Global, path: &str) -> io::Result<Opt
     }
 }
 
-/// The path to rename a new file to, if there is a regular file, also through a link, or nothing. `None` for anything
-/// else, such as a device, a pipe, a folder or a dangling link. (Contracts cannot describe the file system;
-/// tests/test_filesystem.py checks this.)
+/// The path that a new file is renamed to: the regular file that `path` leads to, or `path` itself if nothing is there.
+/// `None` for anything else, such as a device, a pipe, a folder or a dangling link. (Contracts cannot describe the file
+/// system; tests/test_filesystem.py checks this.)
 pub(crate) fn replaceable_path<R: Files>(
     files: &R,
     alloc: Global,
@@ -96,7 +96,7 @@ fn permissions_of(rt: &HostRuntime, name: &str) -> io::Result<Option<Permissions
 
 /// The permissions of the file with this name, or those that a new file gets in this folder, which are found by
 /// creating and removing an empty one.
-fn default_permissions(rt: &HostRuntime, name: &str) -> io::Result<Permissions> {
+fn wanted_permissions(rt: &HostRuntime, name: &str) -> io::Result<Permissions> {
     if let Some(permissions) = permissions_of(rt, name)? {
         return Ok(permissions);
     }
@@ -106,14 +106,14 @@ fn default_permissions(rt: &HostRuntime, name: &str) -> io::Result<Permissions> 
     Ok(metadata?.permissions())
 }
 
-/// Gives the new file the permissions of the existing file with this name, or `usual` if there is none.
+/// Gives the new file the permissions of the existing file with this name, or `fallback` if there is none.
 fn apply_permissions(
     rt: &HostRuntime,
     file: &File,
     name: &str,
-    usual: Permissions,
+    fallback: Permissions,
 ) -> io::Result<()> {
-    let permissions = permissions_of(rt, name)?.unwrap_or(usual);
+    let permissions = permissions_of(rt, name)?.unwrap_or(fallback);
     if file.metadata()?.permissions() == permissions {
         return Ok(());
     }
@@ -133,7 +133,7 @@ fn write_and_sync<F: Write + OpenFile + Drop>(
     let mut file = Counted::new(session.watch_file(file));
     file.write_all(built).map_err(ToolFault::Write)?;
     let whole = file.into_inner().into_inner();
-    match session.note(whole.sync_all()) {
+    match session.note_error(whole.sync_all()) {
         Ok(()) => Ok(whole),
         Err(_) => Err(ToolFault::Write(built.len() as u64)),
     }
@@ -147,17 +147,17 @@ fn write_and_rename(
     file: File,
     new: &str,
     name: &str,
-    usual: Permissions,
+    fallback: Permissions,
     built: &[u8],
 ) -> Result<(), ToolFault>
     ensures fault { IfErr result (IsReplaceFault built.now) }
 {
-    let moved = session.note(move_off_std_streams(file));
+    let moved = session.note_error(move_off_std_streams(file));
     let file = moved.map_err(|error| file_fault(&error, ToolFault::Write(0)))?;
     let whole = write_and_sync(session, file, built)?;
-    let permitted = session.note(apply_permissions(rt, &whole, name, usual));
+    let permitted = session.note_error(apply_permissions(rt, &whole, name, fallback));
     permitted.map_err(|error| file_fault(&error, ToolFault::Write(built.len() as u64)))?;
-    let renamed = session.note(fs::rename(rt, new, name));
+    let renamed = session.note_error(fs::rename(rt, new, name));
     renamed.map_err(|_| ToolFault::Write(built.len() as u64))
 }
 
@@ -170,17 +170,17 @@ fn split_path(path: &str) -> (&str, &str) {
     }
 }
 
-/// Changes into the folder and creates the new file there. Returns the permissions for it if no old file exists, the
-/// file, and its name.
+/// Changes into the folder and creates the new file there. Returns the permissions that it gets if the old file is gone
+/// by then, the file, and its name.
 fn begin_replacement(
     rt: &HostRuntime,
     folder: &str,
     name: &str,
 ) -> io::Result<(Permissions, File, String)> {
     env::set_current_dir(rt, folder)?;
-    let usual = default_permissions(rt, name)?;
+    let fallback = wanted_permissions(rt, name)?;
     let (file, new) = create_new(rt, PRIVATE_MODE)?;
-    Ok((usual, file, new))
+    Ok((fallback, file, new))
 }
 
 /// Atomically replaces the regular file at a path, or creates it. The new file has the permissions of the old one. On
@@ -197,9 +197,9 @@ pub(crate) fn replace_file(
     ensures fault { IfErr result (IsReplaceFault built.now) }
 {
     let (folder, name) = split_path(path.as_str());
-    let begun = session.note(begin_replacement(rt, folder, name));
-    let (usual, file, new) = begun.map_err(|error| file_fault(&error, ToolFault::Write(0)))?;
-    let outcome = write_and_rename(rt, session, file, new.as_str(), name, usual, built);
+    let begun = session.note_error(begin_replacement(rt, folder, name));
+    let (fallback, file, new) = begun.map_err(|error| file_fault(&error, ToolFault::Write(0)))?;
+    let outcome = write_and_rename(rt, session, file, new.as_str(), name, fallback, built);
     if outcome.is_err() {
         let _ = fs::remove_file(rt, new.as_str());
     }

@@ -2,7 +2,7 @@
 ghost use Rattle.std.specs.Prelude.{IfOk, IfErr, codes, map};
 ghost use Rattle.clap.specs.Words.{found_of, one_of, rows_of, kind_of};
 ghost use Rattle.hdt_tool.specs.Outcomes.{HasOut};
-ghost use Rattle.hdt_tool.specs.CommandLine.{IsFileAction, IsRequestOf, IsFileRequest, IsMakeRequest, IsMakeAction, Refutes, RefutesOrInvalidTerm, IsRefused, HasInvalidTerm, IsExplanation, IsFaultOfCommand, ParsesAsFlag, ParsesAsProgress, IsFaultOfKind, ParsesToRequest, ParsesToInvocation};
+ghost use Rattle.hdt_tool.specs.CommandLine.{IsQueryAction, IsRequestOf, IsQueryRequest, IsOutputRequest, IsOutputAction, Refutes, RefutesOrInvalidTerm, IsRefused, HasInvalidTerm, IsExplanation, IsFaultOfCommand, ParsesAsFlag, ParsesAsProgress, IsFaultOfKind, ParsesToRequest, ParsesToInvocation};
 ghost use Rattle.hdt_usage.specs.CommandTable.{AreRoles};
 ghost use Rattle.hdt_tool.specs.declared.request.Action.{Action};
 ghost use Rattle.hdt_tool.specs.declared.request.Request.{Request};
@@ -41,13 +41,14 @@ fn usage_fault(alloc: Global, error: &Error) -> UsageFault
 }
 
 /// The action of a command that writes no file.
-fn file_action<'m>(
+fn query_action<'m>(
     alloc: Global,
     name: &str,
     matches: &ArgMatches<'m>,
 ) -> Result<Action, UsageFault>
-    ensures ok { IfOk result (IsFileAction name.now (rows_of (found_of matches.now))) }
-    ensures refused { IfErr result (RefutesOrInvalidTerm ((action : Action) × IsFileAction name.now (rows_of (found_of matches.now)) action)
+    ensures ok { IfOk result (IsQueryAction name.now (rows_of (found_of matches.now))) }
+    ensures refused { IfErr result
+        (RefutesOrInvalidTerm ((action : Action) × IsQueryAction name.now (rows_of (found_of matches.now)) action)
         (HasInvalidTerm name.now (rows_of (found_of matches.now)))) }
 {
     match name {
@@ -71,30 +72,32 @@ fn file_action<'m>(
 }
 
 /// The request of a command that reads FILE and writes no file.
-fn file_request<'m>(
+fn query_request<'m>(
     alloc: Global,
     name: &str,
     matches: &ArgMatches<'m>,
 ) -> Result<Request, UsageFault>
-    ensures ok { IfOk result (λ request. IsFileRequest name.now (rows_of (found_of matches.now)) request) }
-    ensures refused { IfErr result (RefutesOrInvalidTerm ((request : Request) × IsFileRequest name.now (rows_of (found_of matches.now)) request)
+    ensures ok { IfOk result (λ request. IsQueryRequest name.now (rows_of (found_of matches.now)) request) }
+    ensures refused { IfErr result
+        (RefutesOrInvalidTerm ((request : Request) × IsQueryRequest name.now (rows_of (found_of matches.now)) request)
         (HasInvalidTerm name.now (rows_of (found_of matches.now)))) }
 {
     Ok(Request {
-        action: file_action(alloc, name, matches)?,
+        action: query_action(alloc, name, matches)?,
         file: required_text(alloc, matches, "FILE")?,
         out: None,
     })
 }
 
 /// The action of a command that writes OUT.
-fn make_action<'m>(
+fn output_action<'m>(
     alloc: Global,
     name: &str,
     matches: &ArgMatches<'m>,
 ) -> Result<Action, UsageFault>
-    ensures ok { IfOk result (IsMakeAction name.now (rows_of (found_of matches.now))) }
-    ensures refused { IfErr result (Refutes ((action : Action) × IsMakeAction name.now (rows_of (found_of matches.now)) action)) }
+    ensures ok { IfOk result (IsOutputAction name.now (rows_of (found_of matches.now))) }
+    ensures refused { IfErr result
+        (Refutes ((action : Action) × IsOutputAction name.now (rows_of (found_of matches.now)) action)) }
 {
     match name {
         "build" => Ok(Action::Build(build_options(alloc, matches)?)),
@@ -104,16 +107,17 @@ fn make_action<'m>(
 }
 
 /// The request of a command that writes OUT.
-fn make_request<'m>(
+fn output_request<'m>(
     alloc: Global,
     name: &str,
     matches: &ArgMatches<'m>,
 ) -> Result<Request, UsageFault>
-    ensures ok { IfOk result (IsMakeRequest name.now (rows_of (found_of matches.now))) }
-    ensures refused { IfErr result (Refutes ((request : Request) × IsMakeRequest name.now (rows_of (found_of matches.now)) request)) }
+    ensures ok { IfOk result (IsOutputRequest name.now (rows_of (found_of matches.now))) }
+    ensures refused { IfErr result
+        (Refutes ((request : Request) × IsOutputRequest name.now (rows_of (found_of matches.now)) request)) }
 {
     Ok(Request {
-        action: make_action(alloc, name, matches)?,
+        action: output_action(alloc, name, matches)?,
         file: required_text(alloc, matches, "IN")?,
         out: Some(required_text(alloc, matches, "OUT")?),
     })
@@ -126,12 +130,13 @@ fn request_of<'m>(
     matches: &ArgMatches<'m>,
 ) -> Result<Request, UsageFault>
     ensures ok { IfOk result (λ request. IsRequestOf name.now (rows_of (found_of matches.now)) request) }
-    ensures refused { IfErr result (RefutesOrInvalidTerm ((request : Request) × IsRequestOf name.now (rows_of (found_of matches.now)) request)
+    ensures refused { IfErr result
+        (RefutesOrInvalidTerm ((request : Request) × IsRequestOf name.now (rows_of (found_of matches.now)) request)
         (HasInvalidTerm name.now (rows_of (found_of matches.now)))) }
 {
     match name {
-        "build" | "rewrite" => make_request(alloc, name, matches),
-        _ => file_request(alloc, name, matches),
+        "build" | "rewrite" => output_request(alloc, name, matches),
+        _ => query_request(alloc, name, matches),
     }
 }
 
@@ -143,8 +148,10 @@ fn invocation_of<'m>(
 ) -> Result<Invocation, UsageFault>
     ensures ok { IfOk result (λ invocation. IsRequestOf name.now (rows_of (found_of matches.now)) invocation.request) }
     ensures progress { IfOk result (λ invocation. ParsesAsProgress (rows_of (found_of matches.now)) invocation.progress) }
-    ensures verbose { IfOk result (λ invocation. ParsesAsFlag (one_of (codes "verbose") (rows_of (found_of matches.now))) invocation.verbose) }
-    ensures refused { IfErr result (RefutesOrInvalidTerm ((request : Request) × IsRequestOf name.now (rows_of (found_of matches.now)) request)
+    ensures verbose { IfOk result
+        (λ invocation. ParsesAsFlag (one_of (codes "verbose") (rows_of (found_of matches.now))) invocation.verbose) }
+    ensures refused { IfErr result
+        (RefutesOrInvalidTerm ((request : Request) × IsRequestOf name.now (rows_of (found_of matches.now)) request)
         (HasInvalidTerm name.now (rows_of (found_of matches.now)))) }
 {
     Ok(Invocation {
@@ -161,10 +168,10 @@ const NO_SUCH_REASON: &str =
 fn explanation<'m>(alloc: Global, matches: &ArgMatches<'m>) -> UsageFault
     ensures { IsExplanation (rows_of (found_of matches.now)) result }
 {
-    let Some(word) = argument_text(matches, "REASON") else {
+    let Some(reason) = argument_text(matches, "REASON") else {
         return missing(alloc);
     };
-    match explain(alloc, word) {
+    match explain(alloc, reason) {
         Ok(Some(text)) => UsageFault::Help(text),
         Ok(None) => UsageFault::text(alloc, NO_SUCH_REASON),
         Err(AllocError) => UsageFault::OutOfMemory,
@@ -179,7 +186,8 @@ fn invocation_or_explanation<'m>(
 ) -> Result<Invocation, UsageFault>
     ensures ok { IfOk result (λ invocation. IsRequestOf name.now (rows_of (found_of matches.now)) invocation.request) }
     ensures progress { IfOk result (λ invocation. ParsesAsProgress (rows_of (found_of matches.now)) invocation.progress) }
-    ensures verbose { IfOk result (λ invocation. ParsesAsFlag (one_of (codes "verbose") (rows_of (found_of matches.now))) invocation.verbose) }
+    ensures verbose { IfOk result
+        (λ invocation. ParsesAsFlag (one_of (codes "verbose") (rows_of (found_of matches.now))) invocation.verbose) }
     ensures refused { IfErr result (IsFaultOfCommand name.now (rows_of (found_of matches.now))) }
 {
     match name {
@@ -230,7 +238,8 @@ pub fn parse_words<'a>(alloc: Global, words: &'a [&'a str]) -> Result<Request, U
 
 /// Parses a command line as [`parse_words`] does, and also `--progress`, `--no-progress` and `--verbose`.
 pub fn parse_invocation<'a>(alloc: Global, words: &'a [&'a str]) -> Result<Invocation, UsageFault>
-    // The request is that of `parse_words`; `progress` is what these options say, and `verbose` is true exactly if it is
+    // The request is that of `parse_words`; `progress` is what these options say, and `verbose` is true exactly if it
+    // is
     // given.
     ensures ok { IfOk result (ParsesToInvocation (map (λ word. word.now) words.now)) }
     ensures out { IfOk result (λ invocation. HasOut invocation.request) }
@@ -244,7 +253,7 @@ pub fn parse_invocation<'a>(alloc: Global, words: &'a [&'a str]) -> Result<Invoc
 pub(crate) fn term_given<'a>(
     alloc: Global,
     words: &'a [&'a str],
-    word: TermArgument,
+    argument: TermArgument,
 ) -> Result<Option<(String, bool)>, AllocError> {
     let command = make_command_table(alloc, &ROLES)?;
     let Ok(matches) = command.try_get_matches_from(words) else {
@@ -253,7 +262,7 @@ pub(crate) fn term_given<'a>(
     let Some((_, entries)) = matches.subcommand() else {
         return Ok(None);
     };
-    match argument_text(entries, word.name()) {
+    match argument_text(entries, argument.name()) {
         Some(text) => Ok(Some((String::from_str(alloc, text)?, has_flag(entries, "verbose")))),
         None => Ok(None),
     }

@@ -5,12 +5,13 @@ ghost use Rattle.std.specs.Io.KnownBytes.{Appends};
 ghost use Rattle.hdt_wire.specs.Counted.{inner, failures};
 ghost use Rattle.hdt_build.specs.Options.{AreValidOptions};
 ghost use Rattle.hdt_tool.specs.Dialogue.{AnswersOverFile, AnswersOverFileUntilFault};
-ghost use Rattle.hdt_tool.specs.BuiltText.{counts_line};
-ghost use Rattle.hdt_tool.specs.Outcomes.{ReadsAll, ReadsWith, Prints, IsFaultOfInput, IsFaultOfBytes, YieldsAppended, Completes, WritesOutputPrefix, InterruptsStrings, IfBuild, IsReadOnly, RewritesFile, FailsAfter};
+ghost use Rattle.hdt_tool.specs.PrintedReports.{counts_line};
+ghost use Rattle.hdt_tool.specs.Outcomes.{ReadsAll, ReadsWith, Prints, IsFaultOfInput, IsFaultOfBytes, YieldsAppended, Completes, WritesOutputPrefix, WritesWithCount, InterruptsStrings, IfBuild, IsReadOnly, MakesFile, RewritesFile, FailsAfter};
 ghost use Rattle.hdt_tool.specs.declared.request.Action.TheVariants as Action;
 
 use crate::dialogue::answer_requests;
 use crate::fault::ToolFault;
+use crate::non_term_text::text_and_count;
 use crate::printed_reports::counts_line;
 use crate::queries::{file_text, print_file_strings};
 use crate::request::{Action, AnswerOptions, AnswerReport, Request};
@@ -29,10 +30,11 @@ pub(crate) fn read_all<R: Read>(
     input: &mut Counted<R>,
     capacity: usize,
 ) -> Result<Vec<u8>, ToolFault>
-    ensures ok { IfOk result (λ bytes. ReadsAll (R.remaining (inner input.old)) (R.remaining (inner input.new)) bytes.items) }
+    ensures ok { IfOk result (λ bytes. ReadsAll (R.remaining (inner input.old))
+        (R.remaining (inner input.new)) bytes.items) }
     ensures read { IsErrOf result ToolFault.Read → failures input.new ≡ failures input.old + 1 }
     ensures others { IfErr result (λ e. e ≢ ToolFault.Read → e ≡ ToolFault.OutOfMemory) }
-    ensures well { OnOk result (failures input.new ≡ failures input.old) }
+    ensures unfailed { OnOk result (failures input.new ≡ failures input.old) }
     ensures refused { IsErrOf result ToolFault.OutOfMemory → failures input.new ≡ failures input.old }
 {
     let mut bytes = Vec::with_capacity(alloc, capacity)?;
@@ -46,20 +48,20 @@ pub(crate) fn read_all<R: Read>(
     }
 }
 
-/// Appends a new file to `made`, and returns the line with its counts. If `made` is empty, the file takes its place and no
-/// byte is copied.
+/// Appends a new file to `made`, and returns the line with its counts. If `made` is empty, the file takes its place and
+/// no byte is copied.
 fn append_file(
     alloc: Global,
-    word: &str,
+    verb: &str,
     file: Vec<u8>,
     report: &Report,
     made: &mut Vec<u8>,
 ) -> Result<Vec<u8>, AllocError>
-    ensures line { IfOk result (λ line. line.items ≡ counts_line word.now report.now) }
+    ensures line { IfOk result (λ line. line.items ≡ counts_line verb.now report.now) }
     ensures items { OnOk result (made.new.items ≡ made.old.items ++ file.items) }
-    ensures kept { OnErr result (made.new.items ≡ made.old.items) }
+    ensures unchanged { OnErr result (made.new.items ≡ made.old.items) }
 {
-    let line = counts_line(alloc, word, report)?;
+    let line = counts_line(alloc, verb, report)?;
     if made.is_empty() {
         *made = file;
         return Ok(line);
@@ -70,22 +72,24 @@ fn append_file(
 }
 
 /// The output of `build`; appends the new file to `made`.
-pub(crate) fn build_file<R: Read>(
+fn build_file<R: Read>(
     alloc: Global,
     options: &Options,
     input: &mut Counted<R>,
     made: &mut Vec<u8>,
 ) -> Result<Vec<u8>, ToolFault>
-    ensures ok { IfOk result (λ text. YieldsAppended (Action.Build options.now) (R.remaining (inner input.old)) (R.remaining (inner input.new))
+    ensures ok { IfOk result (λ text. YieldsAppended (Action.Build options.now) (R.remaining (inner input.old))
+        (R.remaining (inner input.new))
         text.items made.old.items made.new.items) }
-    ensures told { IfErr result (IsFaultOfInput (Action.Build options.now) (R.remaining (inner input.old)) (R.remaining (inner input.new))) }
+    ensures reported { IfErr result
+        (IsFaultOfInput (Action.Build options.now) (R.remaining (inner input.old)) (R.remaining (inner input.new))) }
     ensures read { IsErrOf result ToolFault.Read → failures input.new ≡ failures input.old + 1 }
-    ensures reader_well { OnOk result (failures input.new ≡ failures input.old) }
-    ensures reader_told { IfErr result (λ e. e ≢ ToolFault.Read → failures input.new ≡ failures input.old) }
+    ensures reader_unfailed { OnOk result (failures input.new ≡ failures input.old) }
+    ensures reader_reported { IfErr result (λ e. e ≢ ToolFault.Read → failures input.new ≡ failures input.old) }
     ensures bad { IsErrOf result ToolFault.BadOptions ↔ (AreValidOptions options.now → ⊥) }
     ensures unread { IsErrOf result ToolFault.BadOptions → input.new ≡ input.old }
     ensures others { IfErr result (λ e. (n : ℕ) → e ≢ ToolFault.Write n) }
-    ensures kept { OnErr result (made.new.items ≡ made.old.items) }
+    ensures unchanged { OnErr result (made.new.items ≡ made.old.items) }
 {
     let (file, report) = build_bytes(alloc, input, options)?;
     let text = append_file(alloc, "built", file, &report, made)?;
@@ -93,15 +97,16 @@ pub(crate) fn build_file<R: Read>(
 }
 
 /// The output of `rewrite` for the bytes of a file; appends the new file to `made`.
-pub(crate) fn rewrite_file(
+fn rewrite_file(
     alloc: Global,
     block_size: u32,
     bytes: &[u8],
     made: &mut Vec<u8>,
 ) -> Result<Vec<u8>, ToolFault>
-    ensures ok { IfOk result (λ text. (file : List ℕ) × RewritesFile block_size bytes.now text.items file × (made.new.items ≡ made.old.items ++ file)) }
-    ensures told { IfErr result (IsFaultOfBytes (Action.Rewrite block_size) bytes.now) }
-    ensures kept { OnErr result (made.new.items ≡ made.old.items) }
+    ensures ok { IfOk result (λ text. (file : List ℕ) × RewritesFile block_size bytes.now text.items file
+        × (made.new.items ≡ made.old.items ++ file)) }
+    ensures reported { IfErr result (IsFaultOfBytes (Action.Rewrite block_size) bytes.now) }
+    ensures unchanged { OnErr result (made.new.items ≡ made.old.items) }
 {
     let graph = open(alloc, bytes)?;
     let options = Options {
@@ -113,19 +118,98 @@ pub(crate) fn rewrite_file(
     Ok(text)
 }
 
+/// The output of `build` or `rewrite`; appends the new file to `made`. `rewrite` reads its input into a buffer of this
+/// initial capacity.
+pub(crate) fn make_file<R: Read>(
+    alloc: Global,
+    action: &Action,
+    input: &mut Counted<R>,
+    capacity: usize,
+    made: &mut Vec<u8>,
+) -> Result<Vec<u8>, ToolFault>
+    requires { MakesFile action.now }
+    ensures ok { IfOk result (λ text. YieldsAppended action.now (R.remaining (inner input.old))
+        (R.remaining (inner input.new))
+        text.items made.old.items made.new.items) }
+    ensures reported { IfErr result
+        (IsFaultOfInput action.now (R.remaining (inner input.old)) (R.remaining (inner input.new))) }
+    ensures bad { IfBuild action.now (λ options. IsErrOf result ToolFault.BadOptions ↔ (AreValidOptions options → ⊥)) }
+    ensures unread { IfBuild action.now (λ options. IsErrOf result ToolFault.BadOptions → input.new ≡ input.old) }
+    ensures read { IsErrOf result ToolFault.Read → failures input.new ≡ failures input.old + 1 }
+    ensures reader_unfailed { OnOk result (failures input.new ≡ failures input.old) }
+    ensures reader_reported { IfErr result (λ e. e ≢ ToolFault.Read → failures input.new ≡ failures input.old) }
+    ensures others { IfErr result (λ e. (n : ℕ) → e ≢ ToolFault.Write n) }
+    ensures unchanged { OnErr result (made.new.items ≡ made.old.items) }
+{
+    match action {
+        Action::Build(options) => build_file(alloc, options, input, made),
+        Action::Rewrite(block_size) => {
+            let bytes = read_all(alloc, input, capacity)?;
+            rewrite_file(alloc, *block_size, &bytes, made)
+        }
+        _ => unreachable!(),
+    }
+}
+
 /// Writes a text.
 pub(crate) fn write_text<W: Write>(text: &[u8], out: &mut Counted<W>) -> Result<(), ToolFault>
     ensures ok { OnOk result (Appends (W.contents (inner out.old)) (W.contents (inner out.new)) text.now) }
-    ensures well { OnOk result (failures out.new ≡ failures out.old) }
+    ensures unfailed { OnOk result (failures out.new ≡ failures out.old) }
     ensures failed { IfErr result (λ e. (n : ℕ) × (e ≡ ToolFault.Write n) × FailsAfter n text.now
         (W.contents (inner out.old)) (W.contents (inner out.new)) (failures out.old) (failures out.new)) }
 {
     out.write_all(text).map_err(ToolFault::Write)
 }
 
-/// Runs a command that writes no file, as [`run`] does: reads `input` to its end, into a buffer of this initial capacity,
-/// and writes the command's output. Only `strings` writes in pieces; `answer`, `lint` and `split` write nothing here.
-/// Memory and time: those of [`run`].
+/// Runs a command that writes no file, as [`print_output`] does, and returns what it counts: the triples that
+/// `--skip-non-terms` leaves out, or the strings that `verify --terms` prints; 0 for other commands.
+pub(crate) fn print_and_count<R: Read, W: Write>(
+    alloc: Global,
+    action: &Action,
+    input: &mut Counted<R>,
+    capacity: usize,
+    out: &mut Counted<W>,
+) -> Result<u64, ToolFault>
+    requires { IsReadOnly action.now }
+    // `out` has gained the command's output for the complete input, and the number belongs to it.
+    ensures ok { IfOk result (WritesWithCount action.now (R.remaining (inner input.old)) (R.remaining (inner input.new))
+        (W.contents (inner out.old)) (W.contents (inner out.new))) }
+    ensures reported { IfErr result
+        (IsFaultOfInput action.now (R.remaining (inner input.old)) (R.remaining (inner input.new))) }
+    ensures read { IsErrOf result ToolFault.Read → failures input.new ≡ failures input.old + 1 }
+    ensures reader_unfailed { OnOk result (failures input.new ≡ failures input.old) }
+    ensures reader_reported { IfErr result (λ e. e ≢ ToolFault.Read → failures input.new ≡ failures input.old) }
+    ensures write { IfErr result (λ e. (n : ℕ) → e ≡ ToolFault.Write n → (failures out.new ≡ failures out.old + 1)
+        × WritesOutputPrefix action.now (R.remaining (inner input.old)) (R.remaining (inner input.new))
+        (W.contents (inner out.old)) (W.contents (inner out.new)) n) }
+    ensures writer_unfailed { OnOk result (failures out.new ≡ failures out.old) }
+    ensures unwritten { IfErr result (λ e. ((n : ℕ) → e ≢ ToolFault.Write n) → (out.new ≡ out.old)
+        ⊎ ((e ≡ ToolFault.OutOfMemory)
+        × InterruptsStrings action.now (R.remaining (inner input.old)) (R.remaining (inner input.new))
+        (W.contents (inner out.old)) (W.contents (inner out.new)) (failures out.old) (failures out.new))) }
+{
+    let bytes = read_all(alloc, input, capacity)?;
+    match action {
+        Action::Strings(role) => {
+            print_file_strings(alloc, &bytes, *role, out)?;
+            Ok(0)
+        }
+        Action::SkipNonTerms { .. } | Action::VerifyTerms { .. } => {
+            let (text, count) = text_and_count(alloc, action, &bytes)?;
+            write_text(&text, out)?;
+            Ok(count)
+        }
+        action => {
+            let text = file_text(alloc, action, &bytes)?;
+            write_text(&text, out)?;
+            Ok(0)
+        }
+    }
+}
+
+/// Runs a command that writes no file, as [`run`] does: reads `input` to its end, into a buffer of this initial
+/// capacity, and writes the command's output. Only `strings` writes in pieces; `answer`, `lint` and `split` write
+/// nothing here. Memory and time: those of [`run`].
 ///
 /// # Errors
 ///
@@ -138,33 +222,31 @@ pub fn print_output<R: Read, W: Write>(
     out: &mut Counted<W>,
 ) -> Result<(), ToolFault>
     requires { IsReadOnly action.now }
-    ensures ok { OnOk result ((text : List ℕ) × ReadsWith (R.remaining (inner input.old)) (R.remaining (inner input.new))
-        (λ bytes. Prints action.now bytes text) × Appends (W.contents (inner out.old)) (W.contents (inner out.new)) text) }
-    ensures told { IfErr result (IsFaultOfInput action.now (R.remaining (inner input.old)) (R.remaining (inner input.new))) }
+    ensures ok { OnOk result ((text : List ℕ)
+        × ReadsWith (R.remaining (inner input.old)) (R.remaining (inner input.new))
+        (λ bytes. Prints action.now bytes text)
+        × Appends (W.contents (inner out.old)) (W.contents (inner out.new)) text) }
+    ensures reported { IfErr result
+        (IsFaultOfInput action.now (R.remaining (inner input.old)) (R.remaining (inner input.new))) }
     ensures read { IsErrOf result ToolFault.Read → failures input.new ≡ failures input.old + 1 }
-    ensures reader_well { OnOk result (failures input.new ≡ failures input.old) }
-    ensures reader_told { IfErr result (λ e. e ≢ ToolFault.Read → failures input.new ≡ failures input.old) }
+    ensures reader_unfailed { OnOk result (failures input.new ≡ failures input.old) }
+    ensures reader_reported { IfErr result (λ e. e ≢ ToolFault.Read → failures input.new ≡ failures input.old) }
     ensures write { IfErr result (λ e. (n : ℕ) → e ≡ ToolFault.Write n → (failures out.new ≡ failures out.old + 1)
         × WritesOutputPrefix action.now (R.remaining (inner input.old)) (R.remaining (inner input.new))
         (W.contents (inner out.old)) (W.contents (inner out.new)) n) }
-    ensures writer_well { OnOk result (failures out.new ≡ failures out.old) }
-    ensures unwritten { IfErr result (λ e. ((n : ℕ) → e ≢ ToolFault.Write n) → (out.new ≡ out.old) ⊎ ((e ≡ ToolFault.OutOfMemory)
+    ensures writer_unfailed { OnOk result (failures out.new ≡ failures out.old) }
+    ensures unwritten { IfErr result (λ e. ((n : ℕ) → e ≢ ToolFault.Write n) → (out.new ≡ out.old)
+        ⊎ ((e ≡ ToolFault.OutOfMemory)
         × InterruptsStrings action.now (R.remaining (inner input.old)) (R.remaining (inner input.new))
         (W.contents (inner out.old)) (W.contents (inner out.new)) (failures out.old) (failures out.new))) }
 {
-    let bytes = read_all(alloc, input, capacity)?;
-    match action {
-        Action::Strings(role) => print_file_strings(alloc, &bytes, *role, out),
-        action => {
-            let text = file_text(alloc, action, &bytes)?;
-            write_text(&text, out)
-        }
-    }
+    print_and_count(alloc, action, input, capacity, out)?;
+    Ok(())
 }
 
 /// Runs a request: reads `input` to its end and writes the command's output to `out`. `build` and `rewrite` append the
 /// new file to `made`; other commands leave it unchanged. `run` opens no file: `input` is the content of
-/// `request.file`. The program itself calls [`print_output`], with the size of the file.
+/// `request.file`.
 ///
 /// Memory: the input and the complete output (`strings` writes in pieces). Time: that of the library call, such as
 /// [`verify`](hdt_file::verify), [`graph_text`](hdt_file::graph_text) or [`build`](hdt_build::build).
@@ -180,49 +262,49 @@ pub fn run<R: Read, W: Write>(
     made: &mut Vec<u8>,
 ) -> Result<(), ToolFault>
     // `out` has gained the command's output for the complete input, and `made` the new file.
-    ensures ok { OnOk result (Completes request.now.action (R.remaining (inner input.old)) (R.remaining (inner input.new))
+    ensures ok { OnOk result (Completes request.now.action (R.remaining (inner input.old))
+        (R.remaining (inner input.new))
         (W.contents (inner out.old)) (W.contents (inner out.new)) made.old.items made.new.items) }
     // An error of a file or a document is the first one of the input. `NoSuchTerm` and `NoSuchNumber` mean that the
     // role has no such string or ID. `NotATerm` is the first string to print that is not a term. `BadOptions` is
     // returned only by `build`, and by `rewrite` if the input is valid and the block size is not.
-    ensures told { IfErr result (IsFaultOfInput request.now.action (R.remaining (inner input.old)) (R.remaining (inner input.new))) }
+    ensures reported { IfErr result
+        (IsFaultOfInput request.now.action (R.remaining (inner input.old)) (R.remaining (inner input.new))) }
     // `build` returns it exactly if its options are not valid, and then it has read nothing.
-    ensures bad { IfBuild request.now.action (λ options. IsErrOf result ToolFault.BadOptions ↔ (AreValidOptions options → ⊥)) }
-    ensures unread { IfBuild request.now.action (λ options. IsErrOf result ToolFault.BadOptions → input.new ≡ input.old) }
+    ensures bad { IfBuild request.now.action (λ options. IsErrOf result ToolFault.BadOptions
+        ↔ (AreValidOptions options → ⊥)) }
+    ensures unread { IfBuild request.now.action (λ options. IsErrOf result ToolFault.BadOptions
+        → input.new ≡ input.old) }
     // `Read`: the reader failed once in this call. With any other result it did not fail.
     ensures read { IsErrOf result ToolFault.Read → failures input.new ≡ failures input.old + 1 }
-    ensures reader_well { OnOk result (failures input.new ≡ failures input.old) }
-    ensures reader_told { IfErr result (λ e. e ≢ ToolFault.Read → failures input.new ≡ failures input.old) }
+    ensures reader_unfailed { OnOk result (failures input.new ≡ failures input.old) }
+    ensures reader_reported { IfErr result (λ e. e ≢ ToolFault.Read → failures input.new ≡ failures input.old) }
     // `Write(n)`: the writer failed once in this call, after exactly the first n bytes of the output.
     ensures write { IfErr result (λ e. (n : ℕ) → e ≡ ToolFault.Write n → (failures out.new ≡ failures out.old + 1)
         × WritesOutputPrefix request.now.action (R.remaining (inner input.old)) (R.remaining (inner input.new))
         (W.contents (inner out.old)) (W.contents (inner out.new)) n) }
     // With any other result the writer did not fail. With any other error nothing was written, except that `strings`
     // may have written a prefix of its output before it ran out of memory.
-    ensures writer_well { OnOk result (failures out.new ≡ failures out.old) }
-    ensures unwritten { IfErr result (λ e. ((n : ℕ) → e ≢ ToolFault.Write n) → (out.new ≡ out.old) ⊎ ((e ≡ ToolFault.OutOfMemory)
+    ensures writer_unfailed { OnOk result (failures out.new ≡ failures out.old) }
+    ensures unwritten { IfErr result (λ e. ((n : ℕ) → e ≢ ToolFault.Write n) → (out.new ≡ out.old)
+        ⊎ ((e ≡ ToolFault.OutOfMemory)
         × InterruptsStrings request.now.action (R.remaining (inner input.old)) (R.remaining (inner input.new))
         (W.contents (inner out.old)) (W.contents (inner out.new)) (failures out.old) (failures out.new))) }
-    ensures kept { OnErr result (made.new.items ≡ made.old.items) }
+    ensures unchanged { OnErr result (made.new.items ≡ made.old.items) }
 {
     match &request.action {
-        Action::Build(options) => {
+        Action::Build(_) | Action::Rewrite(_) => {
             let start = made.len();
-            let line = build_file(alloc, options, input, made)?;
-            truncate_on_error(write_text(&line, out), start, made)
-        }
-        Action::Rewrite(block_size) => {
-            let start = made.len();
-            let bytes = read_all(alloc, input, 0)?;
-            let line = rewrite_file(alloc, *block_size, &bytes, made)?;
+            let line = make_file(alloc, &request.action, input, 0, made)?;
             truncate_on_error(write_text(&line, out), start, made)
         }
         action => print_output(alloc, action, input, 0, out),
     }
 }
 
-/// Reads and opens a file, and answers the requests of another reader over it, as [`answer_requests`] does.
-/// Memory: the file and its rank/select and inverted indexes. Time: that of opening it and of [`answer_requests`].
+/// Reads and opens a file, and answers the requests of another reader over it, as [`answer_requests`] does. `capacity`
+/// is the initial capacity of the buffer for the file, in bytes. Memory: the file and its rank/select and inverted
+/// indexes. Time: that of opening it and of [`answer_requests`].
 ///
 /// # Errors
 ///
@@ -236,19 +318,26 @@ pub fn answer_file<F: Read, R: Read, W: Write>(
     out: &mut Counted<W>,
 ) -> Result<AnswerReport, ToolFault>
     // The file is valid, and `out` has gained the answers to all requests over its graph.
-    ensures ok { IfOk result (AnswersOverFile options (F.remaining (inner file.old)) (F.remaining (inner file.new)) (R.remaining (inner input.old))
+    ensures ok { IfOk result (AnswersOverFile options (F.remaining (inner file.old)) (F.remaining (inner file.new))
+        (R.remaining (inner input.old))
         (W.contents (inner out.old)) (W.contents (inner out.new))) }
     ensures writer_well { OnOk result (failures out.new ≡ failures out.old) }
     // `Read`: one of the two readers failed once in this call.
-    ensures read { IsErrOf result ToolFault.Read → failures file.new + failures input.new ≡ failures file.old + failures input.old + 1 }
+    ensures read { IsErrOf result ToolFault.Read
+        → failures file.new + failures input.new ≡ failures file.old + failures input.old + 1 }
     // Either the file is not valid or was not read, and no request was read and nothing written; or the error occurred
     // while answering.
-    ensures stopped { IfErr result (λ e. (IsFaultOfInput (Action.Answer options) (F.remaining (inner file.old)) (F.remaining (inner file.new)) e × (input.new ≡ input.old) × (out.new ≡ out.old))
-        ⊎ AnswersOverFileUntilFault options (F.remaining (inner file.old)) (F.remaining (inner file.new)) (R.remaining (inner input.old)) (R.remaining (inner input.new))
+    ensures stopped { IfErr result
+        (λ e. (IsFaultOfInput (Action.Answer options) (F.remaining (inner file.old)) (F.remaining (inner file.new)) e
+        × (input.new ≡ input.old) × (out.new ≡ out.old))
+        ⊎ AnswersOverFileUntilFault options (F.remaining (inner file.old)) (F.remaining (inner file.new))
+        (R.remaining (inner input.old)) (R.remaining (inner input.new))
         (W.contents (inner out.old)) (W.contents (inner out.new)) (failures out.old) (failures out.new) e) }
     // `Write(n)` occurs only while answering: the writer failed once, after exactly the first n bytes of the answers.
-    ensures write { IfErr result (λ e. (n : ℕ) → e ≡ ToolFault.Write n → AnswersOverFileUntilFault options (F.remaining (inner file.old)) (F.remaining (inner file.new))
-        (R.remaining (inner input.old)) (R.remaining (inner input.new)) (W.contents (inner out.old)) (W.contents (inner out.new)) (failures out.old) (failures out.new) e) }
+    ensures write { IfErr result (λ e. (n : ℕ) → e ≡ ToolFault.Write n
+        → AnswersOverFileUntilFault options (F.remaining (inner file.old)) (F.remaining (inner file.new))
+        (R.remaining (inner input.old)) (R.remaining (inner input.new)) (W.contents (inner out.old))
+        (W.contents (inner out.new)) (failures out.old) (failures out.new) e) }
 {
     let bytes = read_all(alloc, file, capacity)?;
     let graph = open(alloc, &bytes)?;

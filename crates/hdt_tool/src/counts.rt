@@ -1,11 +1,12 @@
 //! The output of `count`.
-ghost use Rattle.std.specs.Prelude.{◌≡◌, ◌++◌, ◌≢◌, ◌⊎◌, ◌<◌, List, ℕ, None, Some, OnOk, IfOk, IfErr, false};
+ghost use Rattle.std.specs.Prelude.{◌≡◌, ◌++◌, ◌⊎◌, ◌<◌, ◌^◌, List, ℕ, None, Some, OnOk, IfOk, IfErr, false};
 ghost use Rattle.hdt_dict.specs.Ids.{string_at_id};
 ghost use Rattle.hdt_dict.specs.Dictionary.{role_strings};
-ghost use Rattle.hdt_file.specs.GraphView.{graph_view};
-ghost use Rattle.hdt_terms.specs.declared.triple.Term.{Term};
-ghost use Rattle.hdt_terms.specs.Terms.{IsDictionaryTerm, dictionary_string};
-ghost use Rattle.hdt_tool.specs.TermCounts.{AreFrequencyKeys, HasNoTermString, IsCountFault, IsCountLine, IsShown, PrintsCounts, role_pattern, use_count};
+ghost use Rattle.hdt_file.specs.Graph.{graph_view};
+ghost use Rattle.hdt_terms.specs.Strings.{IsTermOfString};
+ghost use Rattle.hdt_tool.specs.Inside.FrequencyKeys.{AreFrequencyKeys};
+ghost use Rattle.hdt_tool.specs.StringsText.{IsIdOfNonTerm};
+ghost use Rattle.hdt_tool.specs.TermCounts.{IsCountFault, IsCountLine, IsStringOrTerm, PrintsCounts, role_pattern, use_count};
 
 use crate::fault::ToolFault;
 use crate::printed_reports::put_escaped;
@@ -32,15 +33,21 @@ fn role_pattern(role: Role, number: u64) -> Pattern
 
 /// The number of triples with this ID in a role.
 fn use_count(graph: &Graph<'_>, role: Role, number: u64) -> u64
-    ensures { result ≡ use_count (graph_view graph.now) role number }
+    ensures count { result ≡ use_count (graph_view graph.now) role number }
+    ensures fits { use_count (graph_view graph.now) role number < 2 ^ 64 }
 {
     graph.matching(role_pattern(role, number), &mut Steps::new())
 }
 
 /// Appends a string as it is printed: escaped if `raw`, else as its N-Triples term. An error may leave a prefix.
-pub(crate) fn put_shown(raw: bool, string: &[u8], out: &mut Vec<u8>) -> Result<(), StringFault>
-    ensures ok { OnOk result ((shown : List ℕ) × IsShown raw string.now shown × (out.new.items ≡ out.old.items ++ shown)) }
-    ensures err { IfErr result (λ e. (e ≡ StringFault.OutOfMemory) ⊎ ((raw ≡ false) × ((term : Term) → IsDictionaryTerm term → dictionary_string term ≢ string.now))) }
+pub(crate) fn put_string_or_term(
+    raw: bool,
+    string: &[u8],
+    out: &mut Vec<u8>,
+) -> Result<(), StringFault>
+    ensures ok { OnOk result ((shown : List ℕ) × IsStringOrTerm raw string.now shown
+        × (out.new.items ≡ out.old.items ++ shown)) }
+    ensures err { IfErr result (λ e. (e ≡ StringFault.OutOfMemory) ⊎ ((raw ≡ false) × IsTermOfString string.now None)) }
 {
     if raw {
         return Ok(put_escaped(string, out)?);
@@ -59,12 +66,15 @@ fn put_count_line(
     out: &mut Vec<u8>,
 ) -> Result<(), ToolFault>
     requires { string_at_id (role_strings (graph_view graph.now).dictionary role) number ≡ Some string.now }
-    ensures ok { OnOk result ((line : List ℕ) × IsCountLine (graph_view graph.now) role raw number line × (out.new.items ≡ out.old.items ++ line)) }
-    ensures err { IfErr result (λ e. (e ≡ ToolFault.OutOfMemory) ⊎ ((e ≡ ToolFault.NotATerm role number) × (raw ≡ false) × HasNoTermString (graph_view graph.now) role number)) }
+    ensures ok { OnOk result ((line : List ℕ) × IsCountLine (graph_view graph.now) role raw number line
+        × (out.new.items ≡ out.old.items ++ line)) }
+    ensures err { IfErr result (λ e. (e ≡ ToolFault.OutOfMemory)
+        ⊎ ((e ≡ ToolFault.NotATerm role number) × (raw ≡ false)
+        × IsIdOfNonTerm (role_strings (graph_view graph.now).dictionary role) number)) }
 {
     put_decimal(use_count(graph, role, number), out)?;
     out.extend_from_slice(b"\t")?;
-    match put_shown(raw, string, out) {
+    match put_string_or_term(raw, string, out) {
         Ok(()) => Ok(out.extend_from_slice(b"\n")?),
         Err(StringFault::NotATerm) => Err(ToolFault::NotATerm(role, number)),
         Err(StringFault::OutOfMemory) => Err(ToolFault::OutOfMemory),
@@ -79,7 +89,7 @@ fn all_lines(alloc: Global, graph: &Graph<'_>, role: Role, raw: bool) -> Result<
     let mut text = Vec::new(alloc);
     let mut strings = graph.strings(alloc, role);
     'strings: while let Some(number) = strings.next()? {
-        put_count_line(graph, role, number, raw, strings.last(), &mut text)?;
+        put_count_line(graph, role, number, raw, strings.string(), &mut text)?;
     }
     Ok(text)
 }
@@ -130,13 +140,13 @@ fn top_lines(
 /// `raw` its escaped string. With `top`, the most frequent IDs only, the most frequent first, and of those with as many
 /// triples the lesser ID first; else all, in the order of IDs.
 ///
-/// Time: for each ID that of [`Graph::matching`], which for all IDs of a role is linear in its lists up to a logarithm;
-/// with `top`, sorting the IDs, and decoding a block for each line. Memory: the text; with `top`, 16 bytes for each ID.
+/// Time: one [`Graph::matching`] per ID, over all IDs of a role linear in its triples up to a logarithm; with `top`
+/// also a sort of the IDs and a block decoded per line. Memory: the text; with `top` also 16 bytes per ID.
 ///
 /// # Errors
 ///
 /// [`ToolFault::NotATerm`] without `raw` if no term has a string; [`ToolFault::OutOfMemory`].
-pub fn count_lines(
+pub(crate) fn count_lines(
     alloc: Global,
     graph: &Graph<'_>,
     role: Role,

@@ -20,7 +20,7 @@ use std::io::{self, BufRead, BufReader, IsTerminal, Read, Write};
 
 /// What an error message is about.
 #[derive(Clone, Copy)]
-pub(crate) struct Subject<'a> {
+pub(crate) struct ErrorSource<'a> {
     /// The command.
     action: &'a Action,
     /// The path of the input.
@@ -31,10 +31,10 @@ pub(crate) struct Subject<'a> {
     pub(crate) session: &'a Session<'a>,
 }
 
-impl<'a> Subject<'a> {
+impl<'a> ErrorSource<'a> {
     /// The files of an invocation, and its session.
-    pub(crate) fn of(invocation: &'a Invocation, session: &'a Session<'a>) -> Subject<'a> {
-        Subject {
+    pub(crate) fn of(invocation: &'a Invocation, session: &'a Session<'a>) -> ErrorSource<'a> {
+        ErrorSource {
             action: &invocation.request.action,
             input: invocation.request.file.as_str(),
             output: match &invocation.request.out {
@@ -46,18 +46,18 @@ impl<'a> Subject<'a> {
     }
 }
 
-impl<'a> Subject<'a> {
+impl<'a> ErrorSource<'a> {
     /// The same with another input.
-    pub(crate) fn of_input(self, path: &'a str) -> Subject<'a> {
-        Subject {
+    pub(crate) fn with_input(self, path: &'a str) -> ErrorSource<'a> {
+        ErrorSource {
             input: path,
             ..self
         }
     }
 
     /// The same with another output.
-    pub(crate) fn of_output(self, path: &'a str) -> Subject<'a> {
-        Subject {
+    pub(crate) fn with_output(self, path: &'a str) -> ErrorSource<'a> {
+        ErrorSource {
             output: path,
             ..self
         }
@@ -74,7 +74,7 @@ pub(crate) fn is_terminal(rt: &HostRuntime) -> bool {
 const USUAL_WIDTH: usize = 80;
 
 /// A hint needs at most this number of bytes.
-const FRONT: usize = 16;
+const HINT_BYTES: usize = 16;
 
 /// The width of the terminal in columns, if COLUMNS has it.
 pub(crate) fn width(rt: &HostRuntime) -> usize {
@@ -96,11 +96,11 @@ pub(crate) fn reopen(rt: &HostRuntime, path: &str) -> io::Result<Option<File>> {
     Ok(None)
 }
 
-/// The first bytes of a regular file, at most [`FRONT`]; none of another file.
-fn front(rt: &HostRuntime, path: &str) -> io::Result<Vec<u8>> {
+/// The first bytes of a regular file, at most [`HINT_BYTES`]; none of another file.
+fn first_bytes(rt: &HostRuntime, path: &str) -> io::Result<Vec<u8>> {
     let mut bytes = Vec::new(rt.alloc());
     if let Some(mut file) = reopen(rt, path)? {
-        let mut buffer = [0; FRONT];
+        let mut buffer = [0; HINT_BYTES];
         let count = file.read(&mut buffer)?;
         if let Some(read) = buffer.get(..count) {
             bytes.extend_from_slice(read)?;
@@ -110,19 +110,19 @@ fn front(rt: &HostRuntime, path: &str) -> io::Result<Vec<u8>> {
 }
 
 /// The line of the input with a number, from 1, without its line end: of a regular file, or of what is kept of another
-/// one. Empty if there is none, or if a line before it ends with a carriage return alone.
-fn line_at(rt: &HostRuntime, subject: Subject<'_>, number: u64) -> io::Result<Vec<u8>> {
-    if let Some(line) = subject.session.kept_line(number) {
+/// one. Empty if there is none, or if a line before it ends with a lone carriage return.
+fn line_at(rt: &HostRuntime, source: ErrorSource<'_>, number: u64) -> io::Result<Vec<u8>> {
+    if let Some(line) = source.session.kept_line(number) {
         return Ok(line);
     }
-    match reopen(rt, subject.input)? {
+    match reopen(rt, source.input)? {
         Some(file) => nth_line(rt.alloc(), BufReader::new(rt.alloc(), file)?, number),
         None => Ok(Vec::new(rt.alloc())),
     }
 }
 
-/// The line with a number, from 1, of a reader, without its line end. Empty if there is none, or if a line before it ends
-/// with a carriage return alone.
+/// The line with a number, from 1, of a reader, without its line end. Empty if there is none, or if a line before it
+/// ends with a lone carriage return.
 pub(crate) fn nth_line<R: BufRead + Drop>(
     alloc: Global,
     reader: R,
@@ -237,23 +237,23 @@ fn put_marked_line(
     Ok(out.extend_from_slice(&marked)?)
 }
 
-/// Appends the place of an error in a document, its line with a mark, the error's meaning, and a hint.
+/// Appends the line and column of an error in a document, the line with a `^`, the error's meaning, and a hint.
 fn put_line_error(
     rt: &HostRuntime,
-    subject: Subject<'_>,
+    source: ErrorSource<'_>,
     fault: LineFault,
     out: &mut Vec<u8>,
 ) -> io::Result<()> {
-    put_path(subject.input, out)?;
+    put_path(source.input, out)?;
     out.push(b':')?;
     put_decimal(fault.line, out)?;
     out.push(b':')?;
     put_decimal(fault.column, out)?;
     out.push(b'\n')?;
-    let line = line_at(rt, subject, fault.line)?;
+    let line = line_at(rt, source, fault.line)?;
     put_marked_line(rt, &line, fault.column, out)?;
     put_explanation(rt.alloc(), fault.reason.name(), text_explanations(), out)?;
-    let hint = hint_in(&front(rt, subject.input)?, DOCUMENT_HINTS);
+    let hint = hint_in(&first_bytes(rt, source.input)?, DOCUMENT_HINTS);
     put_text(
         if hint.is_empty() {
             hint_in(&line, DOCUMENT_HINTS)
@@ -264,7 +264,7 @@ fn put_line_error(
     )
 }
 
-/// Appends the place of an error in a file, the error's meaning, and a hint.
+/// Appends the byte offset of an error in a file, the error's meaning, and a hint.
 fn put_file_error(rt: &HostRuntime, path: &str, fault: Fault, out: &mut Vec<u8>) -> io::Result<()> {
     put_path(path, out)?;
     out.extend_from_slice(b": byte ")?;
@@ -274,7 +274,7 @@ fn put_file_error(rt: &HostRuntime, path: &str, fault: Fault, out: &mut Vec<u8>)
         put_unused_string(rt, path, fault.place, out)?;
     }
     put_explanation(rt.alloc(), fault.reason.name(), file_explanations(), out)?;
-    put_text(hint_in(&front(rt, path)?, FILE_HINTS), out)
+    put_text(hint_in(&first_bytes(rt, path)?, FILE_HINTS), out)
 }
 
 /// The option that helps if a string is not a term; empty if none does.
@@ -292,28 +292,28 @@ const NO_TRIPLES: &str = "The input is empty, or has only blank lines and commen
 /// Appends the lines for an error.
 fn put_context(
     rt: &HostRuntime,
-    subject: Subject<'_>,
+    source: ErrorSource<'_>,
     fault: &ToolFault,
     out: &mut Vec<u8>,
 ) -> io::Result<()> {
     match fault {
-        ToolFault::Read => put_system_error(rt, subject.session, subject.input, out),
-        ToolFault::Write(_) => put_system_error(rt, subject.session, subject.output, out),
-        ToolFault::Input(fault) => put_line_error(rt, subject, *fault, out),
-        ToolFault::File(fault) => put_file_error(rt, subject.input, *fault, out),
+        ToolFault::Read => put_system_error(rt, source.session, source.input, out),
+        ToolFault::Write(_) => put_system_error(rt, source.session, source.output, out),
+        ToolFault::Input(fault) => put_line_error(rt, source, *fault, out),
+        ToolFault::File(fault) => put_file_error(rt, source.input, *fault, out),
         ToolFault::NotATerm(role, number) => {
-            put_path_line(subject.input, out)?;
-            put_term_string(rt, subject.input, *role, *number, out)?;
+            put_path_line(source.input, out)?;
+            put_term_string(rt, source.input, *role, *number, out)?;
             let role = role_name(*role);
             let text = format!(in rt.alloc(); "hdt string FILE {role} {number} prints the string")?;
             put_text(text.as_str(), out)?;
-            put_text(non_term_remedy(subject.action), out)
+            put_text(non_term_remedy(source.action), out)
         }
         ToolFault::NoTriples => {
-            put_path_line(subject.input, out)?;
+            put_path_line(source.input, out)?;
             put_text(NO_TRIPLES, out)
         }
-        ToolFault::NoSuchTerm | ToolFault::NoSuchNumber => { put_path_line(subject.input, out) }
+        ToolFault::NoSuchTerm | ToolFault::NoSuchNumber => { put_path_line(source.input, out) }
         ToolFault::OutOfMemory | ToolFault::BadOptions | ToolFault::NoMatch => Ok(()),
     }
 }
@@ -330,7 +330,7 @@ fn put_term_error(
     put_text(term_hint(term), out)
 }
 
-/// Whether a word is among these.
+/// Whether an argument is among these.
 fn has_word(words: &[&str], wanted: &str) -> bool {
     'words: for word in words {
         if *word == wanted {
@@ -344,13 +344,13 @@ fn has_word(words: &[&str], wanted: &str) -> bool {
 pub(crate) fn print_term_context(
     rt: &HostRuntime,
     words: &[&str],
-    word: TermArgument,
+    argument: TermArgument,
     fault: TermFault,
 ) {
     if !is_terminal(rt) && !has_word(words, "--verbose") {
-        return; // (and the words are not parsed again)
+        return; // (the arguments are not parsed again)
     }
-    let Ok(Some((term, verbose))) = term_given(rt.alloc(), words, word) else {
+    let Ok(Some((term, verbose))) = term_given(rt.alloc(), words, argument) else {
         return;
     };
     if !verbose && !is_terminal(rt) {
@@ -363,28 +363,28 @@ pub(crate) fn print_term_context(
 }
 
 /// Prints the lines for an error to standard error, if they are wanted.
-pub(crate) fn print_context(rt: &HostRuntime, subject: Subject<'_>, fault: &ToolFault) {
-    if !subject.session.is_verbose() {
+pub(crate) fn print_context(rt: &HostRuntime, source: ErrorSource<'_>, fault: &ToolFault) {
+    if !source.session.is_verbose() {
         return;
     }
     let mut text = Vec::new(rt.alloc());
-    let _ = put_context(rt, subject, fault, &mut text);
+    let _ = put_context(rt, source, fault, &mut text);
     let mut errors = rt.stderr();
     let _ = errors.write_all(&text);
 }
 
-/// Prints a hint to standard error, if `strings --prefix` printed nothing and the prefix looks like a term's, and if hints
-/// are wanted.
+/// Prints a hint to standard error, if `strings --prefix` printed nothing and the prefix looks like a term's, and if
+/// hints are wanted.
 pub(crate) fn print_prefix_hint(
     rt: &HostRuntime,
-    subject: Subject<'_>,
+    source: ErrorSource<'_>,
     request: &Request,
     status: u8,
 ) {
     let Action::ListStrings { prefix, .. } = &request.action else {
         return;
     };
-    if status != 0 || subject.session.has_output() || !subject.session.is_verbose() {
+    if status != 0 || source.session.has_output() || !source.session.is_verbose() {
         return;
     }
     let mut text = Vec::new(rt.alloc());

@@ -55,16 +55,16 @@ fn string_line(alloc: Global, role: Role, number: u64) -> Result<String, AllocEr
 /// The message for an argument that is not a term.
 fn invalid_term_line(
     alloc: Global,
-    word: TermArgument,
+    argument: TermArgument,
     fault: TermFault,
 ) -> Result<String, AllocError>
-    ensures { IfOk result (λ line. string_bytes line ≡ invalid_term_line word fault) }
+    ensures { IfOk result (λ line. string_bytes line ≡ invalid_term_line argument fault) }
 {
-    let word = word.name();
+    let argument = argument.name();
     let column = fault.column;
     let number = fault.reason.number();
     let name = fault.reason.name();
-    format!(in alloc; "hdt: {word} column {column}: {number} {name}")
+    format!(in alloc; "hdt: {argument} column {column}: {number} {name}")
 }
 
 /// The exit status and the message for a command's error, without a line feed.
@@ -95,9 +95,9 @@ pub fn usage_line(alloc: Global, fault: &UsageFault) -> Result<(u8, String), All
     match fault {
         UsageFault::Usage(text) => Ok((2, text.clone()?)),
         UsageFault::Help(text) => Ok((0, text.clone()?)),
-        UsageFault::InvalidTerm { word, fault } => Ok((
+        UsageFault::InvalidTerm { argument, fault } => Ok((
             2,
-            invalid_term_line(alloc, *word, *fault)?,
+            invalid_term_line(alloc, *argument, *fault)?,
         )),
         UsageFault::OutOfMemory => fault_line(alloc, &ToolFault::OutOfMemory),
     }

@@ -1,6 +1,6 @@
 //! The string that an error is about.
 ghost use Rattle.std.specs.Prelude.{◌<◌, ◌≤◌, length};
-ghost use Rattle.hdt_dict.specs.Dictionary.{section_by_index};
+ghost use Rattle.hdt_dict.specs.Dictionary.{section_by_id, section_id};
 ghost use Rattle.hdt_dict.specs.Views.{dictionary_of};
 
 use crate::error_context::{reopen, width};
@@ -24,7 +24,7 @@ fn content(rt: &HostRuntime, path: &str) -> io::Result<Vec<u8>> {
 /// The ID in its section, from 1, of the string at a byte offset of the file. Binary search.
 fn section_id_at(dictionary: &Dictionary<'_>, section: usize, len: u64, place: u64) -> Option<u64>
     requires section { section < 4 }
-    requires within { len ≤ length (section_by_index (dictionary_of dictionary.now) section).strings }
+    requires within { len ≤ length (section_by_id (dictionary_of dictionary.now) (section_id section)).strings }
 {
     let mut low = 0;
     let mut high = len;
@@ -60,7 +60,7 @@ fn id_at(dictionary: &Dictionary<'_>, place: u64) -> Option<(Role, u64)> {
 }
 
 /// Appends a line with a role, an ID and its string, cut to the width of the terminal.
-fn put_string_line(
+fn put_labelled_string(
     rt: &HostRuntime,
     dictionary: &Dictionary<'_>,
     role: Role,
@@ -96,7 +96,7 @@ pub(crate) fn put_unused_string(
         return Ok(());
     };
     match id_at(&dictionary, place) {
-        Some((role, id)) => put_string_line(rt, &dictionary, role, id, out),
+        Some((role, id)) => put_labelled_string(rt, &dictionary, role, id, out),
         None => Ok(()),
     }
 }
@@ -111,7 +111,7 @@ pub(crate) fn put_term_string(
 ) -> io::Result<()> {
     let bytes = content(rt, path)?;
     match read_dictionary(rt.alloc(), &bytes) {
-        Ok((_, dictionary, _)) => put_string_line(rt, &dictionary, role, id, out),
+        Ok((_, dictionary, _)) => put_labelled_string(rt, &dictionary, role, id, out),
         Err(_) => Ok(()),
     }
 }

@@ -4,7 +4,6 @@ ghost use Rattle.std.specs.IoError.{error_kind};
 ghost use Rattle.hdt_tool.specs.declared.fault.UsageFault.TheVariants.{OutOfMemory as usage_memory};
 ghost use Rattle.hdt_tool.specs.declared.fault.ToolFault.TheVariants.{OutOfMemory, File};
 ghost use Rattle.hdt_tool.specs.Faults.{line_fault_of};
-ghost use Rattle.hdt_tool.specs.Dialogue.{IsFaultOfLine};
 
 use hdt_build::{BuildFault, RewriteFault};
 use hdt_dict::Role;
@@ -54,7 +53,7 @@ pub enum UsageFault {
     /// An argument is not an N-Triples term.
     InvalidTerm {
         /// Which argument.
-        word: TermArgument,
+        argument: TermArgument,
         /// What is wrong with it, and at which column; never `OutOfMemory`.
         fault: TermFault,
     },
@@ -137,8 +136,7 @@ pub(crate) fn file_fault(error: &io::Error, other: ToolFault) -> ToolFault
 
 /// The error for a line that could not be read.
 pub(crate) fn line_fault(fault: LineFault) -> ToolFault
-    ensures value { result ≡ line_fault_of fault }
-    ensures stop { IsFaultOfLine fault result }
+    ensures { result ≡ line_fault_of fault }
 {
     match fault.reason {
         LineReason::Read => ToolFault::Read,

@@ -94,17 +94,9 @@ pub(crate) fn open_input<'a>(
     path: &str,
     session: &'a Session<'a>,
 ) -> io::Result<ProgressReader<'a, Source>> {
-    let source = session.note(Source::open(rt, path))?;
+    let source = session.note_error(Source::open(rt, path))?;
     let size = source.size(rt);
     Ok(ProgressReader::new(source, session, size))
-}
-
-/// The length of the input in bytes, as the initial capacity of a buffer; 0 if it is unknown.
-pub(crate) fn known_size(input: &io::Result<ProgressReader<'_, Source>>) -> usize {
-    match input {
-        Ok(input) => input.size().unwrap_or(0) as usize,
-        Err(_) => 0,
-    }
 }
 
 /// The identity of a file on this system.

@@ -1,7 +1,7 @@
 //! What `info` finds out about a file.
 ghost use Rattle.std.specs.Prelude.{◌≡◌, ◌↔◌, Bool, IfErr, IfOk, IsTrue};
 ghost use Rattle.hdt_file.specs.File.{GraphParts, IsLayout};
-ghost use Rattle.hdt_file.specs.GraphView.{graph_view};
+ghost use Rattle.hdt_file.specs.Graph.{graph_view};
 ghost use Rattle.hdt_tool.specs.Info.{IsTightFile, IsRewrittenAs, PrintsInfo};
 ghost use Rattle.hdt_tool.specs.Outcomes.{IsFaultOfBytes};
 ghost use Rattle.hdt_tool.specs.declared.request.Action.TheVariants as Action;

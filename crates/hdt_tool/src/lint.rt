@@ -1,19 +1,18 @@
 //! The command `lint`: reports every faulty line of a document.
 ghost use Rattle.std.specs.Prelude.{◌≡◌, ◌≢◌, ◌⊎◌, ◌+◌, ℕ, List, Option, false, true, if◌then◌else◌, IfOk, IfErr, IsErrOf, MatchResult, OnOk};
-ghost use Rattle.std.specs.IoError.{error_kind};
 ghost use Rattle.hdt_wire.specs.Counted.{inner, failures};
 ghost use Rattle.hdt_tool.specs.ErrorLines.{fault_status};
 ghost use Rattle.hdt_tool.specs.Linting.{IsAny, Lints, LintsUntilError, most_faulty};
 ghost use Rattle.hdt_tool.specs.Status.{IsCommandStatus};
 
-use crate::error_context::Subject;
-use crate::fault::{ToolFault, file_fault, line_fault};
+use crate::error_context::ErrorSource;
+use crate::fault::{ToolFault, line_fault};
 use crate::files::{STDOUT_PATH, open_input, would_overwrite};
-use crate::status::{done, print_error_line};
+use crate::status::{command_status, open_failed, print_error_line};
 use hdt_terms::{LintFault, lint_document};
 use hdt_wire::Counted;
 use std::alloc::Global;
-use std::io::{self, ErrorKind, Read, Write};
+use std::io::{self, Read, Write};
 
 const SAME_FILE_MESSAGE: &str = "error: IN and standard output are the same file
 
@@ -47,15 +46,15 @@ fn is_any(count: u64) -> bool
     count > 0
 }
 
-/// Checks every line of a document and reports each faulty one to `reported`, as [`lint_document`] does. Returns whether
-/// there are any. With `keep`, writes the lines without an error to `kept`. Stops after `most` faulty lines, if that is
-/// given.
+/// Checks every line of a document and reports each faulty one to `reported`, as [`lint_document`] does. Returns
+/// whether there are any. With `keep`, writes the lines without an error to `kept`. Stops after `most` faulty lines, if
+/// that is given.
 ///
 /// # Errors
 ///
-/// [`ToolFault::Read`] if the reader failed, [`ToolFault::Write`] if a writer did, [`ToolFault::Input`] if the input has
-/// 2^63 bytes or more, and [`ToolFault::OutOfMemory`].
-pub fn lint_input<R: Read, K: Write, T: Write>(
+/// [`ToolFault::Read`] if the reader failed, [`ToolFault::Write`] if a writer did, [`ToolFault::Input`] if the input
+/// has 2^63 bytes or more, and [`ToolFault::OutOfMemory`].
+pub(crate) fn lint_input<R: Read, K: Write, T: Write>(
     alloc: Global,
     keep: bool,
     most: Option<u64>,
@@ -64,16 +63,20 @@ pub fn lint_input<R: Read, K: Write, T: Write>(
     reported: &mut Counted<T>,
 ) -> Result<bool, ToolFault>
     // All lines were checked, or those up to the last of `most` faulty ones; the result is whether any is faulty.
-    ensures ok { IfOk result (Lints keep most (R.remaining (inner input.old)) (K.contents (inner kept.old)) (K.contents (inner kept.new))
+    ensures ok { IfOk result (Lints keep most (R.remaining (inner input.old)) (K.contents (inner kept.old))
+        (K.contents (inner kept.new))
         (T.contents (inner reported.old)) (T.contents (inner reported.new))) }
-    ensures writers_well { OnOk result ((failures kept.new ≡ failures kept.old) × (failures reported.new ≡ failures reported.old)) }
+    ensures writers_unfailed { OnOk result ((failures kept.new ≡ failures kept.old)
+        × (failures reported.new ≡ failures reported.old)) }
     // The writers have gained a prefix of the output for some first lines; all lines before one that cannot be read.
-    ensures stopped { IfErr result (LintsUntilError keep (R.remaining (inner input.old)) (R.remaining (inner input.new)) (K.contents (inner kept.old))
+    ensures stopped { IfErr result
+        (LintsUntilError keep (R.remaining (inner input.old)) (R.remaining (inner input.new))
+        (K.contents (inner kept.old))
         (K.contents (inner kept.new)) (T.contents (inner reported.old)) (T.contents (inner reported.new))) }
     // `Read`: the reader failed once in this call. With any other result it did not fail.
     ensures read { IsErrOf result ToolFault.Read → failures input.new ≡ failures input.old + 1 }
-    ensures reader_well { OnOk result (failures input.new ≡ failures input.old) }
-    ensures reader_told { IfErr result (λ e. e ≢ ToolFault.Read → failures input.new ≡ failures input.old) }
+    ensures reader_unfailed { OnOk result (failures input.new ≡ failures input.old) }
+    ensures reader_reported { IfErr result (λ e. e ≢ ToolFault.Read → failures input.new ≡ failures input.old) }
 {
     let count = lint_document(alloc, keep, most_faulty(most), input, kept, reported)?;
     Ok(is_any(count))
@@ -81,62 +84,58 @@ pub fn lint_input<R: Read, K: Write, T: Write>(
 
 /// The status of `lint`: 1 if any line is faulty. Removes the line of progress, and prints the message of an error that
 /// ended it.
-fn lint_status(rt: &HostRuntime, subject: Subject<'_>, outcome: Result<bool, ToolFault>) -> u8
-    ensures { MatchResult outcome (λ faulty. result ≡ (if faulty then 1 else 0)) (λ fault. (result ≡ fault_status fault) ⊎ (result ≡ 4)) }
+fn lint_status(rt: &HostRuntime, source: ErrorSource<'_>, outcome: Result<bool, ToolFault>) -> u8
+    ensures { MatchResult outcome (λ faulty. result ≡ (if faulty then 1 else 0)) (λ fault. (result ≡ fault_status fault)
+        ⊎ (result ≡ 4)) }
 {
     match outcome {
         Ok(faulty) => {
-            subject.session.clear();
+            source.session.clear();
             u8::from(faulty)
         }
-        Err(fault) => done(rt, subject, Err(fault)),
+        Err(fault) => command_status(rt, source, Err(fault)),
     }
 }
 
-/// Lints the result of opening a document, and returns the status.
-fn run_lint<R: Read + Drop, K: Write, T: Write>(
+/// Lints a document, and returns the status.
+fn run_lint<R: Read, K: Write, T: Write>(
     rt: &HostRuntime,
-    subject: Subject<'_>,
+    source: ErrorSource<'_>,
     keep: bool,
     most: Option<u64>,
-    file: io::Result<R>,
+    input: &mut Counted<R>,
     kept: &mut Counted<K>,
     reported: &mut Counted<T>,
 ) -> u8
     ensures statuses { IsCommandStatus result }
     // 0: no line that was checked is faulty, and `kept` has gained the lines if `keep`.
-    ensures done { result ≡ 0 → MatchResult file (λ input. Lints keep most (R.remaining input) (K.contents (inner kept.old)) (K.contents (inner kept.new))
-        (T.contents (inner reported.old)) (T.contents (inner reported.new)) false) (λ _. ⊥) }
-    ensures well { result ≡ 0 → (failures kept.new ≡ failures kept.old) × (failures reported.new ≡ failures reported.old) }
-    // If the document could not be opened: 4 if its error is `OutOfMemory`, else 3; or 4 if there is no memory for the
-    // message.
-    ensures memory { IfErr file (λ e. error_kind e ≡ ErrorKind.OutOfMemory → result ≡ 4) }
-    ensures unopened { IfErr file (λ e. error_kind e ≢ ErrorKind.OutOfMemory → (result ≡ 3) ⊎ (result ≡ 4)) }
-    // Otherwise nothing was written; or the status is 1, some of the lines that were checked are faulty, and the writers
-    // have gained the reports of exactly these and the other lines; or an error with this status, or lack of memory for
-    // its message, ended the run.
-    ensures stopped { result ≢ 0 → ((kept.new ≡ kept.old) × (reported.new ≡ reported.old))
-        ⊎ ((result ≡ 1) × MatchResult file (λ input. Lints keep most (R.remaining input) (K.contents (inner kept.old)) (K.contents (inner kept.new))
-        (T.contents (inner reported.old)) (T.contents (inner reported.new)) true) (λ _. ⊥))
-        ⊎ ((e : ToolFault) × ((result ≡ fault_status e) ⊎ (result ≡ 4)) × MatchResult file (λ input. (given : Option (List ℕ)) × LintsUntilError keep (R.remaining input) given
-        (K.contents (inner kept.old)) (K.contents (inner kept.new)) (T.contents (inner reported.old)) (T.contents (inner reported.new)) e) (λ _. ⊥)) }
+    ensures done { result ≡ 0
+        → Lints keep most (R.remaining (inner input.old)) (K.contents (inner kept.old)) (K.contents (inner kept.new))
+        (T.contents (inner reported.old)) (T.contents (inner reported.new)) false }
+    ensures unfailed { result ≡ 0 → (failures kept.new ≡ failures kept.old)
+        × (failures reported.new ≡ failures reported.old) }
+    // Otherwise the status is 1, some of the lines that were checked are faulty, and the writers have gained the
+    // reports of
+    // exactly these and the other lines; or an error with this status, or lack of memory for its message, ended the
+    // run.
+    ensures stopped { result ≢ 0
+        → ((result ≡ 1) × Lints keep most (R.remaining (inner input.old)) (K.contents (inner kept.old))
+        (K.contents (inner kept.new))
+        (T.contents (inner reported.old)) (T.contents (inner reported.new)) true)
+        ⊎ ((e : ToolFault) × ((result ≡ fault_status e) ⊎ (result ≡ 4))
+        × LintsUntilError keep (R.remaining (inner input.old)) (R.remaining (inner input.new))
+        (K.contents (inner kept.old)) (K.contents (inner kept.new)) (T.contents (inner reported.old))
+        (T.contents (inner reported.new)) e) }
 {
-    let mut input = match file {
-        Ok(input) => Counted::new(input),
-        Err(why) => return done(rt, subject, Err(file_fault(&why, ToolFault::Read))),
-    };
-    lint_status(
-        rt,
-        subject,
-        lint_input(rt.alloc(), keep, most, &mut input, kept, reported),
-    )
+    let outcome = lint_input(rt.alloc(), keep, most, input, kept, reported);
+    lint_status(rt, source, outcome)
 }
 
 /// Lints the document at a path, and returns the status. The reports go to standard output; with `keep`, to standard
 /// error, and the lines without an error to standard output.
 pub(crate) fn lint_path(
     rt: &HostRuntime,
-    subject: Subject<'_>,
+    source: ErrorSource<'_>,
     path: &str,
     keep: bool,
     most: Option<u64>,
@@ -146,12 +145,15 @@ pub(crate) fn lint_path(
     if would_overwrite(rt, STDOUT_PATH, path) {
         return print_error_line(rt, 2, SAME_FILE_MESSAGE);
     }
-    let session = subject.session;
-    let file = open_input(rt, path, session);
+    let session = source.session;
+    let mut input = match open_input(rt, path, session) {
+        Ok(input) => Counted::new(input),
+        Err(error) => return open_failed(rt, source, &error),
+    };
     let mut out = Counted::new(session.watch(io::writer(rt)));
     let mut errors = Counted::new(session.watch(rt.stderr()));
     if keep {
-        return run_lint(rt, subject, true, most, file, &mut out, &mut errors);
+        return run_lint(rt, source, true, most, &mut input, &mut out, &mut errors);
     }
-    run_lint(rt, subject, false, most, file, &mut errors, &mut out)
+    run_lint(rt, source, false, most, &mut input, &mut errors, &mut out)
 }

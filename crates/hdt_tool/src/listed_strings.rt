@@ -1,11 +1,12 @@
 //! The output of `strings` with `--prefix` or `--terms`.
-ghost use Rattle.std.specs.Prelude.{◌≡◌, ◌++◌, ◌-◌, ◌⊎◌, ◌≤◌, ℕ, List, true, OnOk, IfOk, IfErr};
+ghost use Rattle.std.specs.Prelude.{◌≡◌, ◌++◌, ◌-◌, ◌⊎◌, ◌≤◌, ℕ, List, true, None, OnOk, IfOk, IfErr};
 ghost use Rattle.std.specs.List.{range_with_len};
+ghost use Rattle.hdt_terms.specs.Strings.{IsTermOfString};
 ghost use Rattle.hdt_dict.specs.Dictionary.{role_strings};
-ghost use Rattle.hdt_file.specs.LayoutView.{layout_view};
-ghost use Rattle.hdt_tool.specs.ListedStrings.{AreAscendingIds, AreLinesOfIds, ArePrefixIds, IsLineFault, IsListedLine, IsListFault, IsNoTermString, PrintsListed};
+ghost use Rattle.hdt_file.specs.Graph.{layout_view};
+ghost use Rattle.hdt_tool.specs.ListedStrings.{AreAscendingIds, AreLinesOfIds, ArePrefixIds, IsLineFault, IsListedLine, IsListFault, PrintsListed};
 
-use crate::counts::put_shown;
+use crate::counts::put_string_or_term;
 use crate::fault::ToolFault;
 use crate::printed_strings::put_string_line;
 use hdt_dict::Role;
@@ -18,7 +19,8 @@ use std::ops::Range;
 /// Appends the numbers of a range.
 fn push_range(range: &Range<u64>, numbers: &mut Vec<u64>) -> Result<(), AllocError>
     requires { range.now.start ≤ range.now.end }
-    ensures { OnOk result (numbers.new.items ≡ numbers.old.items ++ range_with_len range.now.start (range.now.end - range.now.start)) }
+    ensures { OnOk result (numbers.new.items ≡ numbers.old.items
+        ++ range_with_len range.now.start (range.now.end - range.now.start)) }
 {
     let start = range.start;
     let count = range.end - start;
@@ -29,13 +31,15 @@ fn push_range(range: &Range<u64>, numbers: &mut Vec<u64>) -> Result<(), AllocErr
 }
 
 /// The IDs of the strings of a role that begin with a prefix, by a search.
+#[tactic(auto, using(crate::proofs::ListedLines::prefix_ids_are))]
 fn prefix_ids(
     alloc: Global,
     layout: &Layout<'_>,
     role: Role,
     prefix: &[u8],
 ) -> Result<Vec<u64>, AllocError>
-    ensures { IfOk result (λ ids. ArePrefixIds (role_strings (layout_view layout.now).dictionary role) prefix.now ids.items) }
+    ensures { IfOk result (λ ids. ArePrefixIds (role_strings (layout_view layout.now).dictionary role) prefix.now
+        ids.items) }
 {
     let ranges = layout.ids_with_prefix(role, prefix, &mut Steps::new());
     let mut ids = Vec::new(alloc);
@@ -53,13 +57,15 @@ fn put_listed_line(
     string: &[u8],
     out: &mut Vec<u8>,
 ) -> Result<(), ToolFault>
-    ensures ok { OnOk result ((line : List ℕ) × IsListedLine terms number string.now line × (out.new.items ≡ out.old.items ++ line)) }
-    ensures err { IfErr result (λ e. (e ≡ ToolFault.OutOfMemory) ⊎ ((e ≡ ToolFault.NotATerm role number) × (terms ≡ true) × IsNoTermString string.now)) }
+    ensures ok { OnOk result ((line : List ℕ) × IsListedLine terms number string.now line
+        × (out.new.items ≡ out.old.items ++ line)) }
+    ensures err { IfErr result (λ e. (e ≡ ToolFault.OutOfMemory)
+        ⊎ ((e ≡ ToolFault.NotATerm role number) × (terms ≡ true) × IsTermOfString string.now None)) }
 {
     if !terms {
         return Ok(put_string_line(number, string, out)?);
     }
-    match put_shown(false, string, out) {
+    match put_string_or_term(false, string, out) {
         Ok(()) => Ok(out.extend_from_slice(b"\n")?),
         Err(StringFault::NotATerm) => Err(ToolFault::NotATerm(role, number)),
         Err(StringFault::OutOfMemory) => Err(ToolFault::OutOfMemory),
@@ -75,7 +81,8 @@ fn look_up_lines(
     ids: &[u64],
 ) -> Result<Vec<u8>, ToolFault>
     requires { AreAscendingIds (role_strings (layout_view layout.now).dictionary role) ids.now }
-    ensures ok { IfOk result (λ text. AreLinesOfIds (role_strings (layout_view layout.now).dictionary role) terms ids.now text.items) }
+    ensures ok { IfOk result (λ text. AreLinesOfIds
+        (role_strings (layout_view layout.now).dictionary role) terms ids.now text.items) }
     ensures err { IfErr result (IsLineFault (role_strings (layout_view layout.now).dictionary role) ids.now role terms) }
 {
     let mut text = Vec::new(alloc);
@@ -90,7 +97,7 @@ fn look_up_lines(
 }
 
 /// The lines of many IDs. Decodes each string of the role up to the last ID once.
-fn walk_lines(
+fn scan_lines(
     alloc: Global,
     layout: &Layout<'_>,
     role: Role,
@@ -98,7 +105,8 @@ fn walk_lines(
     ids: &[u64],
 ) -> Result<Vec<u8>, ToolFault>
     requires { AreAscendingIds (role_strings (layout_view layout.now).dictionary role) ids.now }
-    ensures ok { IfOk result (λ text. AreLinesOfIds (role_strings (layout_view layout.now).dictionary role) terms ids.now text.items) }
+    ensures ok { IfOk result (λ text. AreLinesOfIds
+        (role_strings (layout_view layout.now).dictionary role) terms ids.now text.items) }
     ensures err { IfErr result (IsLineFault (role_strings (layout_view layout.now).dictionary role) ids.now role terms) }
 {
     let mut text = Vec::new(alloc);
@@ -111,20 +119,20 @@ fn walk_lines(
         if number != ids[at] {
             continue;
         }
-        put_listed_line(role, number, terms, strings.last(), &mut text)?;
+        put_listed_line(role, number, terms, strings.string(), &mut text)?;
         at += 1;
     }
     Ok(text)
 }
 
-/// Up to this many strings are decoded by themselves. So they cost little in any file, whatever its block size.
-const FEW: usize = 64;
+/// Up to this many strings are looked up one by one; above it the role is scanned.
+const MAX_LOOKUPS: usize = 64;
 
 /// The lines of the strings of a role that begin with a prefix, in the order of their IDs: with `terms` the terms, else
 /// each ID, a tab and the escaped string.
 ///
-/// Time: a binary search for the IDs, and decoding a block for each line, or from 65 lines on each string of the role up
-/// to the last line's. Memory: the text, and 8 bytes for each line.
+/// Time: a binary search for the IDs, and decoding a block for each line, or from 65 lines on each string of the role
+/// up to the last line's. Memory: the text, and 8 bytes for each line.
 ///
 /// # Errors
 ///
@@ -136,12 +144,14 @@ pub(crate) fn listed_text(
     prefix: &[u8],
     terms: bool,
 ) -> Result<Vec<u8>, ToolFault>
-    ensures ok { IfOk result (λ text. PrintsListed (role_strings (layout_view layout.now).dictionary role) prefix.now terms text.items) }
-    ensures err { IfErr result (IsListFault (role_strings (layout_view layout.now).dictionary role) prefix.now role terms) }
+    ensures ok { IfOk result (λ text. PrintsListed (role_strings (layout_view layout.now).dictionary role) prefix.now
+        terms text.items) }
+    ensures err { IfErr result
+        (IsListFault (role_strings (layout_view layout.now).dictionary role) prefix.now role terms) }
 {
     let ids = prefix_ids(alloc, layout, role, prefix)?;
-    if ids.len() <= FEW {
+    if ids.len() <= MAX_LOOKUPS {
         return look_up_lines(alloc, layout, role, terms, &ids);
     }
-    walk_lines(alloc, layout, role, terms, &ids)
+    scan_lines(alloc, layout, role, terms, &ids)
 }

@@ -1,51 +1,18 @@
 //! Writing a new file to OUT.
-ghost use Rattle.std.specs.Prelude.{◌≡◌, ◌≢◌, ◌⊎◌, ◌+◌, ℕ, List, Option, [], Ok, Err, Some, IfOk, IfErr, OnOk, MatchResult};
+ghost use Rattle.std.specs.Prelude.{◌≡◌, ◌≢◌, ◌⊎◌, ℕ, Ok, Err, IfOk, IfErr, OnOk};
 ghost use Rattle.std.specs.Io.KnownBytes.{Appends};
 ghost use Rattle.std.specs.IoError.{error_kind};
 ghost use Rattle.hdt_wire.specs.Counted.{inner, failures};
-ghost use Rattle.hdt_tool.specs.Outcomes.{Completes, FailsAfter, IsFaultOfInput, MakesFile};
+ghost use Rattle.hdt_tool.specs.Outcomes.{FailsAfter, MakesFile};
 
 use crate::atomic_replace::{replace_file, replaceable_path};
-use crate::commands::{build_file, read_all, rewrite_file, write_text};
+use crate::commands::{make_file, write_text};
 use crate::fault::{ToolFault, file_fault};
-use crate::files::{STDERR_PATH, STDOUT_PATH, create, is_same_file, known_size, open_input};
-use crate::request::{Action, Request};
+use crate::files::{STDERR_PATH, STDOUT_PATH, create, is_same_file, open_input};
+use crate::request::Request;
 use crate::session::{Phase, Session};
 use hdt_wire::Counted;
-use std::alloc::Global;
-use std::io::{self, ErrorKind, Read, Write};
-
-/// Builds the new file of `build` or `rewrite` from the result of opening its input: appends it to `built`, and returns
-/// the output line.
-fn make_file<R: Read + Drop>(
-    alloc: Global,
-    request: &Request,
-    file: io::Result<R>,
-    capacity: usize,
-    built: &mut Vec<u8>,
-) -> Result<Vec<u8>, ToolFault>
-    requires { MakesFile request.now.action }
-    // The result is the command's output for the input, and `built` has gained the new file.
-    ensures ok { IfOk result (λ line. MatchResult file (λ input. (after : Option (List ℕ)) × Completes request.now.action (R.remaining input) after
-        (Some []) (Some line.items) built.old.items built.new.items) (λ _. ⊥)) }
-    ensures told { IfErr result (λ e. IfOk file (λ input. (after : Option (List ℕ)) × IsFaultOfInput request.now.action (R.remaining input) after e)) }
-    ensures memory { IfErr file (λ e. error_kind e ≡ ErrorKind.OutOfMemory → result ≡ Err ToolFault.OutOfMemory) }
-    ensures unopened { IfErr file (λ e. error_kind e ≢ ErrorKind.OutOfMemory → result ≡ Err ToolFault.Read) }
-    ensures others { IfErr result (λ e. (n : ℕ) → e ≢ ToolFault.Write n) }
-{
-    let mut input = match file {
-        Ok(input) => Counted::new(input),
-        Err(error) => return Err(file_fault(&error, ToolFault::Read)),
-    };
-    match &request.action {
-        Action::Build(options) => build_file(alloc, options, &mut input, built),
-        Action::Rewrite(block_size) => {
-            let bytes = read_all(alloc, &mut input, capacity)?;
-            rewrite_file(alloc, *block_size, &bytes, built)
-        }
-        _ => unreachable!(),
-    }
-}
+use std::io::{self, ErrorKind, Write};
 
 /// The result of creating the output file, with its error as a [`ToolFault`].
 fn check_created<F: Write>(file: io::Result<F>) -> Result<Counted<F>, ToolFault>
@@ -67,13 +34,15 @@ fn write_file_and_line<F: Write, W: Write>(
     // The file has gained the bytes, and the writer the line.
     ensures file { OnOk result (Appends (F.contents (inner file.old)) (F.contents (inner file.new)) built.now) }
     ensures line { OnOk result (Appends (W.contents (inner out.old)) (W.contents (inner out.new)) line.now) }
-    ensures well { OnOk result ((failures file.new ≡ failures file.old) × (failures out.new ≡ failures out.old)) }
+    ensures unfailed { OnOk result ((failures file.new ≡ failures file.old) × (failures out.new ≡ failures out.old)) }
     // `Write(n)`: either the file failed after exactly n bytes, and `out` is unchanged; or the writer failed after
     // exactly n bytes of the line, and the file is complete.
     ensures failed { IfErr result (λ e. (n : ℕ) × (e ≡ ToolFault.Write n) × (
-        (FailsAfter n built.now (F.contents (inner file.old)) (F.contents (inner file.new)) (failures file.old) (failures file.new)
+        (FailsAfter n built.now (F.contents (inner file.old)) (F.contents (inner file.new)) (failures file.old)
+        (failures file.new)
         × (out.new ≡ out.old))
-        ⊎ (FailsAfter n line.now (W.contents (inner out.old)) (W.contents (inner out.new)) (failures out.old) (failures out.new)
+        ⊎ (FailsAfter n line.now (W.contents (inner out.old)) (W.contents (inner out.new)) (failures out.old)
+        (failures out.new)
         × Appends (F.contents (inner file.old)) (F.contents (inner file.new)) built.now
         × (failures file.new ≡ failures file.old)))) }
 {
@@ -108,12 +77,12 @@ fn write_to_path(
     line: &[u8],
 ) -> Result<(), ToolFault> {
     let mut out = Counted::new(session.watch(io::writer(rt)));
-    let replaced = session.note(replaceable_path(rt, rt.alloc(), path));
+    let replaced = session.note_error(replaceable_path(rt, rt.alloc(), path));
     if let Some(path) = replaced.map_err(|error| file_fault(&error, ToolFault::Write(0)))? {
         replace_file(rt, session, &path, built)?;
         return write_text(line, &mut out);
     }
-    let created = session.note(create(rt, path));
+    let created = session.note_error(create(rt, path));
     let mut file = check_created(created.map(|file| session.watch(file)))?;
     write_file_and_line(&mut file, built, &mut out, line)
 }
@@ -128,10 +97,23 @@ pub(crate) fn make_file_at(
 ) -> Result<(), ToolFault>
     requires { MakesFile request.now.action }
 {
-    let input = open_input(rt, request.file.as_str(), session);
     let mut built = Vec::new(rt.alloc());
-    let capacity = known_size(&input);
-    let line = make_file(rt.alloc(), request, input, capacity, &mut built)?;
+    // The input is closed before OUT is opened, so one descriptor is enough.
+    let line = {
+        let input = open_input(rt, request.file.as_str(), session).map_err(|error| file_fault(
+            &error,
+            ToolFault::Read,
+        ))?;
+        let capacity = input.capacity();
+        let mut input = Counted::new(input);
+        make_file(
+            rt.alloc(),
+            &request.action,
+            &mut input,
+            capacity,
+            &mut built,
+        )?
+    };
     session.show_phase(Phase::Writing, built.len() as u64);
     if is_same_file(rt, path, STDOUT_PATH) {
         return print_built(rt, session, &built, &line);

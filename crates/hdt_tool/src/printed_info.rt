@@ -186,8 +186,8 @@ fn closing(json: bool) -> &'static str
     if json { "}\n" } else { "\n" }
 }
 
-/// The output of `info`: a line for each value, with its name, a tab and the value; with `json` one object with the same
-/// names and values.
+/// The output of `info`: a line for each value, with its name, a tab and the value; with `json` one object with the
+/// same names and values.
 #[tactic(auto, using(std::proofs::Common::append_assoc), unfolding(crate::specs::InfoText::info_text))]
 pub(crate) fn info_text(
     alloc: Global,

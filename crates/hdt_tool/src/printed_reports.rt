@@ -1,11 +1,8 @@
-//! The output of `head`.
+//! The outputs of `head`, `verify`, `build` and `rewrite`, and the escaping of strings.
 ghost use Rattle.std.specs.Prelude.{◌≡◌, ◌++◌, OnOk, IfOk};
-ghost use Rattle.hdt_wire.specs.Control.{control_info_of};
+ghost use Rattle.hdt_wire.specs.Control.{control_view};
 ghost use Rattle.hdt_file.specs.Head.{head_parts};
-ghost use Rattle.hdt_tool.specs.HeadText.{labelled_line, block_lines, head_text};
-ghost use Rattle.hdt_tool.specs.Escaping.{escaped_byte, escaped};
-ghost use Rattle.hdt_tool.specs.Verdict.{verdict};
-ghost use Rattle.hdt_tool.specs.BuiltText.{counts_line};
+ghost use Rattle.hdt_tool.specs.PrintedReports.{labelled_line, block_lines, head_text, escaped_byte, escaped, verdict, counts_line};
 
 use hdt_build::Report;
 use hdt_file::Head;
@@ -24,14 +21,14 @@ fn put_line(label: &str, text: &[u8], out: &mut Vec<u8>) -> Result<(), AllocErro
 
 /// Appends two lines for control information: its name and format, and its properties.
 fn put_block(name: &str, block: &Control<'_>, out: &mut Vec<u8>) -> Result<(), AllocError>
-    ensures { OnOk result (out.new.items ≡ out.old.items ++ block_lines name.now (control_info_of block.now)) }
+    ensures { OnOk result (out.new.items ≡ out.old.items ++ block_lines name.now (control_view block.now)) }
 {
     put_line(name, block.format(), out)?;
     put_line("properties", block.properties(), out)
 }
 
 /// The output of `head`: five lines, and then the header body, unescaped.
-#[tactic(auto, using(std::proofs::Common::append_assoc), unfolding(crate::specs::HeadText::head_text))]
+#[tactic(auto, using(std::proofs::Common::append_assoc), unfolding(crate::specs::PrintedReports::head_text))]
 pub(crate) fn head_text(alloc: Global, head: &Head<'_>) -> Result<Vec<u8>, AllocError>
     ensures { IfOk result (λ text. text.items ≡ head_text (head_parts head.now)) }
 {
@@ -75,13 +72,13 @@ pub(crate) fn verdict(alloc: Global, lens: [u64; 5]) -> Result<Vec<u8>, AllocErr
     Ok(line.into_bytes())
 }
 
-/// The output of `build` or `rewrite`: a word and six counts, of triples, of the strings of the shared, subjects,
+/// The output of `build` or `rewrite`: a verb and six counts, of triples, of the strings of the shared, subjects,
 /// predicates and objects sections, and of the bytes of the file.
-pub(crate) fn counts_line(alloc: Global, word: &str, report: &Report) -> Result<Vec<u8>, AllocError>
-    ensures { IfOk result (λ text. text.items ≡ counts_line word.now report.now) }
+pub(crate) fn counts_line(alloc: Global, verb: &str, report: &Report) -> Result<Vec<u8>, AllocError>
+    ensures { IfOk result (λ text. text.items ≡ counts_line verb.now report.now) }
 {
     let line = format!(in alloc;
-        "{word} {} {} {} {} {} {}\n",
+        "{verb} {} {} {} {} {} {}\n",
         report.triples,
         report.shared,
         report.subjects,

@@ -1,16 +1,17 @@
 //! The output of `strings`, `string` and `number`.
-ghost use Rattle.std.specs.Prelude.{◌≡◌, ◌+◌, ◌∷◌, ◌++◌, ◌≢◌, ◌⊎◌, ℕ, List, [], OnOk, IfOk, IfErr, None, Some, length};
+ghost use Rattle.std.specs.Prelude.{◌≡◌, ◌∷◌, ◌++◌, ◌≢◌, ◌⊎◌, ℕ, [], OnOk, IfOk, IfErr, None, Some};
 ghost use Rattle.std.specs.Fmt.{decimal};
 ghost use Rattle.std.specs.Io.KnownBytes.{Appends};
 ghost use Rattle.hdt_wire.specs.Counted.{inner, failures};
 ghost use Rattle.hdt_dict.specs.Ids.{string_at_id};
-ghost use Rattle.hdt_file.specs.LayoutView.{layout_view};
+ghost use Rattle.hdt_file.specs.Graph.{layout_view};
 ghost use Rattle.hdt_dict.specs.Dictionary.{role_strings};
-ghost use Rattle.hdt_tool.specs.Outcomes.{FailsAfter, IsCutShort};
-ghost use Rattle.hdt_tool.specs.Escaping.{escaped};
+ghost use Rattle.hdt_tool.specs.Outcomes.{IsCutShort};
+ghost use Rattle.hdt_tool.specs.PrintedReports.{escaped};
 ghost use Rattle.hdt_tool.specs.StringsText.{string_line, string_lines, PrintsString, PrintsNumber};
 
 use crate::fault::ToolFault;
+use crate::pending_output::{FLUSH_BYTES, PendingOutput};
 use crate::printed_reports::put_escaped;
 use hdt_dict::Role;
 use hdt_file::Layout;
@@ -33,53 +34,7 @@ pub(crate) fn put_string_line(
     Ok(out.push(b'\n')?)
 }
 
-/// Pending lines are written once they have this many bytes.
-const PIECE: usize = 65_536;
-
-/// Writes a piece of a text of which `written` bytes have been written, and returns the new total. Fails with
-/// `OutOfMemory` if the total overflows 64 bits.
-pub(crate) fn write_piece<W: Write>(
-    piece: &[u8],
-    written: u64,
-    out: &mut Counted<W>,
-) -> Result<u64, ToolFault>
-    ensures count { IfOk result (λ n. n ≡ written + length piece.now) }
-    ensures ok { OnOk result (Appends (W.contents (inner out.old)) (W.contents (inner out.new)) piece.now) }
-    ensures well { OnOk result (failures out.new ≡ failures out.old) }
-    ensures err { IfErr result (λ e. ((e ≡ ToolFault.OutOfMemory) × (out.new ≡ out.old)) ⊎ ((m : ℕ) × (e ≡ ToolFault.Write (written + m))
-        × FailsAfter m piece.now (W.contents (inner out.old)) (W.contents (inner out.new)) (failures out.old) (failures out.new))) }
-{
-    let Some(end) = written.checked_add(piece.len() as u64) else {
-        return Err(ToolFault::OutOfMemory);
-    };
-    match out.write_all(piece) {
-        Ok(()) => Ok(end),
-        Err(count) => Err(ToolFault::Write(written + count)),
-    }
-}
-
-/// Writes the pending lines if they fill a piece, and returns the new total of written bytes.
-fn write_if_full<W: Write>(
-    text: &mut Vec<u8>,
-    written: u64,
-    out: &mut Counted<W>,
-) -> Result<u64, ToolFault>
-    // What was written is a prefix of the pending lines.
-    ensures ok { IfOk result (λ n. (part : List ℕ) × (n ≡ written + length part) × (text.old.items ≡ part ++ text.new.items)
-        × Appends (W.contents (inner out.old)) (W.contents (inner out.new)) part) }
-    ensures well { OnOk result (failures out.new ≡ failures out.old) }
-    ensures err { IfErr result (λ e. ((e ≡ ToolFault.OutOfMemory) × (out.new ≡ out.old)) ⊎ ((m : ℕ) × (e ≡ ToolFault.Write (written + m))
-        × FailsAfter m text.old.items (W.contents (inner out.old)) (W.contents (inner out.new)) (failures out.old) (failures out.new))) }
-{
-    if text.len() < PIECE {
-        return Ok(written);
-    }
-    let written = write_piece(text, written, out)?;
-    text.clear();
-    Ok(written)
-}
-
-/// Writes the lines of all strings of a role, in pieces. Memory: one piece and the line of one string.
+/// Writes the lines of all strings of a role, in pieces. Memory: 64 KiB and the line of one string.
 pub(crate) fn print_strings<W: Write>(
     alloc: Global,
     layout: &Layout<'_>,
@@ -90,18 +45,18 @@ pub(crate) fn print_strings<W: Write>(
         (string_lines 1 (role_strings (layout_view layout.now).dictionary role))) }
     ensures well { OnOk result (failures out.new ≡ failures out.old) }
     // The writer failed or memory ran out, after a prefix of the lines.
-    ensures cut { IfErr result (λ e. IsCutShort e (string_lines 1 (role_strings (layout_view layout.now).dictionary role))
+    ensures cut { IfErr result
+        (λ e. IsCutShort e (string_lines 1 (role_strings (layout_view layout.now).dictionary role))
         (W.contents (inner out.old)) (W.contents (inner out.new)) (failures out.old) (failures out.new)) }
 {
-    let mut text = Vec::new(alloc);
-    let mut written = 0;
+    let mut pending = PendingOutput::new(alloc);
     let mut strings = layout.strings(alloc, role);
     'strings: while let Some(number) = strings.next()? {
-        put_string_line(number, strings.last(), &mut text)?;
-        written = write_if_full(&mut text, written, out)?;
+        let start = pending.bytes.len();
+        put_string_line(number, strings.string(), &mut pending.bytes)?;
+        pending.accept(start, true, FLUSH_BYTES - 1, out)?;
     }
-    write_piece(&text, written, out)?;
-    Ok(())
+    pending.flush(out)
 }
 
 /// The line of the string with this ID in a role.
@@ -111,9 +66,11 @@ pub(crate) fn string_text(
     role: Role,
     number: u64,
 ) -> Result<Vec<u8>, ToolFault>
-    ensures ok { IfOk result (λ text. PrintsString (role_strings (layout_view layout.now).dictionary role) number text.items) }
+    ensures ok { IfOk result (λ text. PrintsString
+        (role_strings (layout_view layout.now).dictionary role) number text.items) }
     ensures err { IfErr result (λ e. (e ≡ ToolFault.OutOfMemory)
-        ⊎ ((e ≡ ToolFault.NoSuchNumber) × (string_at_id (role_strings (layout_view layout.now).dictionary role) number ≡ None))) }
+        ⊎ ((e ≡ ToolFault.NoSuchNumber)
+        × (string_at_id (role_strings (layout_view layout.now).dictionary role) number ≡ None))) }
 {
     let mut string = Vec::new(alloc);
     if !layout.string_of(role, number, &mut string, &mut Steps::new())? {
@@ -139,9 +96,11 @@ pub(crate) fn number_text(
     role: Role,
     string: &[u8],
 ) -> Result<Vec<u8>, ToolFault>
-    ensures ok { IfOk result (λ text. PrintsNumber (role_strings (layout_view layout.now).dictionary role) string.now text.items) }
+    ensures ok { IfOk result (λ text. PrintsNumber (role_strings (layout_view layout.now).dictionary role) string.now
+        text.items) }
     ensures err { IfErr result (λ e. (e ≡ ToolFault.OutOfMemory)
-        ⊎ ((e ≡ ToolFault.NoSuchTerm) × ((n : ℕ) → string_at_id (role_strings (layout_view layout.now).dictionary role) n ≢ Some string.now))) }
+        ⊎ ((e ≡ ToolFault.NoSuchTerm)
+        × ((n : ℕ) → string_at_id (role_strings (layout_view layout.now).dictionary role) n ≢ Some string.now))) }
 {
     let Some(number) = layout.number_of(role, string, &mut Steps::new()) else {
         return Err(ToolFault::NoSuchTerm);

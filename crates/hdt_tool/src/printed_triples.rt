@@ -3,18 +3,17 @@ ghost use Rattle.std.specs.Prelude.{◌≡◌, ◌<◌, ◌^◌, ◌++◌, OnOk,
 ghost use Rattle.hdt_wire.specs.Control.{IsPrefixOf};
 ghost use Rattle.hdt_file.specs.TextWriting.{matches_if_given, limited};
 ghost use Rattle.hdt_file.specs.CachedTerms.{CachesTerms};
-ghost use Rattle.hdt_file.specs.SkippedLines.{HaveLines};
-ghost use Rattle.hdt_file.specs.LayoutView.{layout_view};
-ghost use Rattle.hdt_file.specs.GraphView.{graph_view};
+ghost use Rattle.hdt_file.specs.Writable.{AreWritableTriples};
+ghost use Rattle.hdt_file.specs.Graph.{layout_view, graph_view};
 ghost use Rattle.hdt_triples.specs.Remaining.{remaining_matches};
-ghost use Rattle.hdt_tool.specs.TermReports.{kept_format};
+ghost use Rattle.hdt_tool.specs.NonTermText.{kept_format};
 ghost use Rattle.hdt_tool.specs.TriplesText.{AppendsTriples, Finds, HasMatch, LacksMatch, PrintsFound, IsFindFault, PrintsTriples, IsTextFault, numbers_line, numbers_lines};
 
 use crate::fault::ToolFault;
 use crate::printed_strings::number_line;
 use crate::request::OutputFormat;
 use hdt_file::{
-    DumpFault, Graph, Layout, TermWriter, append_graph_text, append_kept_text, layout_text,
+    DumpFault, Graph, Layout, TermWriter, append_graph_text, append_triples_text, layout_text,
 };
 use hdt_seq::Steps;
 use hdt_triples::{Matches, Pattern};
@@ -43,7 +42,8 @@ fn append_numbers(
     out: &mut Vec<u8>,
 ) -> Result<(), AllocError>
     requires fits { length (remaining_matches found) < 2 ^ 64 }
-    ensures ok { OnOk result (out.new.items ≡ out.old.items ++ numbers_lines (limited most (remaining_matches found.entry))) }
+    ensures ok { OnOk result (out.new.items
+        ≡ out.old.items ++ numbers_lines (limited most (remaining_matches found.entry))) }
     ensures err { OnErr result (IsPrefixOf out.old.items out.new.items) }
 {
     let mut matches = found;
@@ -65,7 +65,8 @@ fn numbers_text(
     pattern: Option<Pattern>,
     most: Option<u64>,
 ) -> Result<Vec<u8>, AllocError>
-    ensures { IfOk result (λ text. text.items ≡ numbers_lines (limited most (matches_if_given (layout_view layout.now) pattern))) }
+    ensures { IfOk result (λ text. text.items
+        ≡ numbers_lines (limited most (matches_if_given (layout_view layout.now) pattern))) }
 {
     let mut text = Vec::new(alloc);
     if let Some(pattern) = pattern {
@@ -121,8 +122,10 @@ fn layout_triples_text(
     format: OutputFormat,
     most: Option<u64>,
 ) -> Result<Vec<u8>, DumpFault>
-    ensures ok { IfOk result (λ text. PrintsTriples format (layout_view layout.now) (limited most (matches_if_given (layout_view layout.now) pattern)) text.items) }
-    ensures err { IfErr result (IsTextFault format (layout_view layout.now) (limited most (matches_if_given (layout_view layout.now) pattern))) }
+    ensures ok { IfOk result (λ text. PrintsTriples format (layout_view layout.now)
+        (limited most (matches_if_given (layout_view layout.now) pattern)) text.items) }
+    ensures err { IfErr result
+        (IsTextFault format (layout_view layout.now) (limited most (matches_if_given (layout_view layout.now) pattern))) }
 {
     match format {
         OutputFormat::NTriples => layout_text(alloc, layout, pattern, most),
@@ -167,8 +170,9 @@ fn append_graph_numbers(
     most: Option<u64>,
     out: &mut Vec<u8>,
 ) -> Result<(), AllocError>
-    ensures ok { OnOk result (out.new.items ≡ out.old.items ++ numbers_lines (limited most (matches_if_given (graph_view graph.now) pattern))) }
-    ensures left { OnErr result (out.new.items ≡ out.old.items) }
+    ensures ok { OnOk result (out.new.items
+        ≡ out.old.items ++ numbers_lines (limited most (matches_if_given (graph_view graph.now) pattern))) }
+    ensures unchanged { OnErr result (out.new.items ≡ out.old.items) }
 {
     let Some(pattern) = pattern else {
         return Ok(());
@@ -190,10 +194,12 @@ pub(crate) fn append_graph_triples(
     out: &mut Vec<u8>,
 ) -> Result<(), DumpFault>
     requires { CachesTerms (graph_view graph.now) term_writer.old }
-    ensures kept { CachesTerms (graph_view graph.now) term_writer.new }
-    ensures ok { OnOk result (AppendsTriples format (graph_view graph.now) (limited most (matches_if_given (graph_view graph.now) pattern)) out.old.items out.new.items) }
-    ensures err { IfErr result (IsTextFault format (graph_view graph.now) (limited most (matches_if_given (graph_view graph.now) pattern))) }
-    ensures left { OnErr result (out.new.items ≡ out.old.items) }
+    ensures cached { CachesTerms (graph_view graph.now) term_writer.new }
+    ensures ok { OnOk result (AppendsTriples format (graph_view graph.now)
+        (limited most (matches_if_given (graph_view graph.now) pattern)) out.old.items out.new.items) }
+    ensures err { IfErr result
+        (IsTextFault format (graph_view graph.now) (limited most (matches_if_given (graph_view graph.now) pattern))) }
+    ensures unchanged { OnErr result (out.new.items ≡ out.old.items) }
 {
     match format {
         OutputFormat::NTriples => append_graph_text(alloc, graph, pattern, most, term_writer, out),
@@ -205,7 +211,8 @@ pub(crate) fn append_graph_triples(
     }
 }
 
-/// Appends the text of triples that have lines, or with `count` the line with their number. On error `out` is unchanged.
+/// Appends the text of triples that have lines, or with `count` the line with their number. On error `out` is
+/// unchanged.
 pub(crate) fn append_kept_triples(
     alloc: Global,
     graph: &Graph<'_>,
@@ -215,14 +222,15 @@ pub(crate) fn append_kept_triples(
     out: &mut Vec<u8>,
 ) -> Result<(), AllocError>
     requires cached { CachesTerms (graph_view graph.now) term_writer.old }
-    requires lines { HaveLines (graph_view graph.now) triples.now }
-    ensures kept { CachesTerms (graph_view graph.now) term_writer.new }
-    ensures ok { OnOk result (AppendsTriples (kept_format count) (graph_view graph.now) triples.now out.old.items out.new.items) }
-    ensures left { OnErr result (out.new.items ≡ out.old.items) }
+    requires lines { AreWritableTriples (graph_view graph.now) triples.now }
+    ensures cached { CachesTerms (graph_view graph.now) term_writer.new }
+    ensures ok { OnOk result (AppendsTriples (kept_format count)
+        (graph_view graph.now) triples.now out.old.items out.new.items) }
+    ensures unchanged { OnErr result (out.new.items ≡ out.old.items) }
 {
     if count {
         let line = number_line(alloc, triples.len() as u64)?;
         return out.extend_from_slice(&line);
     }
-    append_kept_text(alloc, &graph.layout(), triples, term_writer, out)
+    append_triples_text(alloc, &graph.layout(), triples, term_writer, out)
 }

@@ -1,11 +1,11 @@
 //! Reporting the progress of reading.
 ghost use Rattle.std.specs.Prelude.{◌≡◌};
 
-use crate::session::{STEP, Session};
+use crate::session::{REPORT_INTERVAL, Session};
 use std::io::{self, Read};
 
 /// The maximum number of reports if the size is known, not counting the last one.
-const REPORTS: u64 = 100;
+const MAX_REPORTS: u64 = 100;
 
 /// A reader that reports how many bytes it has read, at intervals and at the end. It also keeps what the lines after an
 /// error message need: the system's error, and the lines of a document that cannot be read again.
@@ -35,29 +35,27 @@ impl<'a, R: Read> ProgressReader<'a, R> {
             session,
             size,
             read: 0,
-            next: STEP,
+            next: REPORT_INTERVAL,
             has_ended: false,
         }
     }
 
-    /// The length of the input in bytes, if it is known.
-    pub(crate) fn size(&self) -> Option<u64>
-        ensures { result ≡ self.now.size }
-    {
-        self.size
+    /// The initial capacity of a buffer for the input: its length in bytes, or 0 if that is unknown.
+    pub(crate) fn capacity(&self) -> usize {
+        self.size.unwrap_or(0) as usize
     }
 
     /// Reports the bytes read, and determines when the next report is due.
     fn report(&mut self)
         ensures { self.new.input ≡ self.old.input }
     {
-        let step = self.size.unwrap_or(0) / REPORTS;
-        self.next = self.read.saturating_add(step.max(STEP));
+        let step = self.size.unwrap_or(0) / MAX_REPORTS;
+        self.next = self.read.saturating_add(step.max(REPORT_INTERVAL));
         self.session.show_reading(self.read, self.size);
     }
 
-    /// Counts bytes read into a buffer of `buffer_len` bytes, and reports them if that is due. Nothing is reported after
-    /// the end.
+    /// Counts bytes read into a buffer of `buffer_len` bytes, and reports them if that is due. Nothing is reported
+    /// after the end.
     fn count(&mut self, bytes: usize, buffer_len: usize)
         ensures { self.new.input ≡ self.old.input }
     {
@@ -86,9 +84,9 @@ impl<R: Read> Read for ProgressReader<'_, R> {
         ensures bytes { ReadConsumes (R.remaining self.old.input) (R.remaining self.new.input) result buf.new }
     {
         let session = self.session;
-        let outcome = session.note(self.input.read(buf));
+        let outcome = session.note_error(self.input.read(buf));
         if let Ok(count) = outcome {
-            session.keep(buf, count);
+            session.keep_input(buf, count);
             self.count(count, buf.len());
         }
         outcome

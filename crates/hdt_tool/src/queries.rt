@@ -15,7 +15,6 @@ use crate::printed_reports::{head_text, verdict};
 use crate::printed_strings::{number_text, print_strings, string_text};
 use crate::printed_triples::{check_match, triples_text};
 use crate::request::{Action, OutputFormat};
-use crate::term_reports::report_text;
 use hdt_dict::Role;
 use hdt_file::{Layout, open, read_head, verify, verify_tight};
 use hdt_wire::Counted;
@@ -29,10 +28,13 @@ pub(crate) fn print_file_strings<W: Write>(
     role: Role,
     out: &mut Counted<W>,
 ) -> Result<(), ToolFault>
-    ensures ok { OnOk result (HasRoleStringsWith bytes.now role (λ strings. Appends (W.contents (inner out.old)) (W.contents (inner out.new)) (string_lines 1 strings))) }
-    ensures well { OnOk result (failures out.new ≡ failures out.old) }
-    ensures err { IfErr result (λ e. (IsFaultOfBytes (Action.Strings role) bytes.now e × (out.new ≡ out.old)) ⊎ HasRoleStringsWith bytes.now role (λ strings.
-        IsCutShort e (string_lines 1 strings) (W.contents (inner out.old)) (W.contents (inner out.new)) (failures out.old) (failures out.new))) }
+    ensures ok { OnOk result (HasRoleStringsWith bytes.now role
+        (λ strings. Appends (W.contents (inner out.old)) (W.contents (inner out.new)) (string_lines 1 strings))) }
+    ensures unfailed { OnOk result (failures out.new ≡ failures out.old) }
+    ensures err { IfErr result (λ e. (IsFaultOfBytes (Action.Strings role) bytes.now e × (out.new ≡ out.old))
+        ⊎ HasRoleStringsWith bytes.now role (λ strings.
+        IsCutShort e (string_lines 1 strings) (W.contents (inner out.old)) (W.contents (inner out.new))
+        (failures out.old) (failures out.new))) }
 {
     let layout = Layout::read(alloc, bytes)?;
     print_strings(alloc, &layout, role, out)
@@ -49,8 +51,8 @@ fn find_format(numbers: bool) -> OutputFormat
     }
 }
 
-/// The output of a command that prints one complete text, for the bytes of a file. `answer` without requests prints
-/// nothing, and neither do `lint` and `split`, which have several outputs.
+/// The output of a command that prints one complete text and counts nothing, for the bytes of a file. `answer` without
+/// requests prints nothing, and neither do `lint` and `split`, which have several outputs.
 pub(crate) fn file_text(alloc: Global, action: &Action, bytes: &[u8]) -> Result<Vec<u8>, ToolFault>
     requires { PrintsText action.now }
     ensures ok { IfOk result (λ text. Prints action.now bytes.now text.items) }
@@ -60,10 +62,6 @@ pub(crate) fn file_text(alloc: Global, action: &Action, bytes: &[u8]) -> Result<
         Action::Head => Ok(head_text(alloc, &read_head(bytes)?)?),
         Action::Verify => Ok(verdict(alloc, verify(alloc, bytes)?)?),
         Action::VerifyTight => Ok(verdict(alloc, verify_tight(alloc, bytes)?)?),
-        Action::VerifyTerms { .. } | Action::SkipNonTerms { .. } => {
-            let (text, _count) = report_text(alloc, action, bytes)?;
-            Ok(text)
-        }
         Action::Info { json } => file_info_text(alloc, *json, bytes),
         Action::ListStrings {
             role,
@@ -98,6 +96,8 @@ pub(crate) fn file_text(alloc: Global, action: &Action, bytes: &[u8]) -> Result<
             Ok(Vec::new(alloc))
         }
         Action::Lint { .. } | Action::Split(_) => Ok(Vec::new(alloc)),
-        Action::Strings(_) | Action::Build(_) | Action::Rewrite(_) => unreachable!(),
+        Action::Strings(_) | Action::SkipNonTerms { .. } | Action::VerifyTerms { .. } =>
+            unreachable!(),
+        Action::Build(_) | Action::Rewrite(_) => unreachable!(),
     }
 }

@@ -1,12 +1,11 @@
-//! What a command shows on standard error beside its message: its progress on a terminal. And what the lines after a
-//! message need: the system's last error, and lines of a document that cannot be read again. Nothing is known of it to
-//! contracts; if it fails, or runs out of memory, less is shown.
+//! The state behind standard error: the progress line, the system's last error, and input lines that cannot be read
+//! again. Best effort: on failure or without memory less is shown; no contract mentions it.
 ghost use Rattle.std.specs.Prelude.{◌≡◌};
 
 use crate::error_context::is_terminal;
 use crate::files::{STDERR_PATH, is_same_file, is_stdin_path, output_path};
-use crate::kept_lines::KeptLines;
 use crate::progress_text::{phase_text, progress_line, reading_text};
+use crate::recent_lines::RecentLines;
 use crate::request::{Action, Invocation, Progress};
 use crate::watched::Watched;
 use std::alloc::AllocError;
@@ -15,9 +14,9 @@ use std::io::{self, Write};
 use std::{env, fs};
 
 /// The minimum number of bytes between two reports of progress. An input with fewer bytes has no line on a terminal.
-pub(crate) const STEP: u64 = 16 << 20;
+pub(crate) const REPORT_INTERVAL: u64 = 16 << 20;
 
-/// Removes the line of a terminal.
+/// Removes the progress line.
 const ERASED: &str = "\r\x1b[K";
 
 /// What a command does once it has read its input.
@@ -46,20 +45,20 @@ fn phase_name<'a>(phase: Phase) -> &'a str {
     }
 }
 
-/// What a command shows on standard error beside its message, and what the lines after a message need.
+/// The progress line of a command, and what the lines after an error message need.
 #[derive(Drop)]
 pub(crate) struct Session<'a> {
     rt: &'a HostRuntime,
     progress: Progress,
     /// What is done once the input has been read.
     phase: Phase,
-    /// Whether more lines are wanted than an error message.
+    /// Whether more lines follow an error message.
     is_verbose: bool,
     keeps_lines: bool,
     has_line: Cell<bool>,
     has_output: Cell<bool>,
     error: Cell<Option<io::Error>>,
-    kept: RefCell<KeptLines>,
+    kept: RefCell<RecentLines>,
 }
 
 /// What a command does once it has read its input.
@@ -72,7 +71,7 @@ fn phase_of(action: &Action) -> Phase {
     }
 }
 
-/// Whether the terminal knows the codes that `show` takes.
+/// Whether the terminal knows the escape codes that `show` prints.
 fn knows_codes(rt: &HostRuntime) -> bool {
     match env::var(rt, "TERM") {
         Ok(name) => !name.as_str().is_empty() && name.as_str() != "dumb",
@@ -80,7 +79,7 @@ fn knows_codes(rt: &HostRuntime) -> bool {
     }
 }
 
-/// How progress is reported: on a terminal only if standard error is one, and never in a file that is OUT.
+/// How progress is reported: automatically only on a terminal, and not at all if standard error is OUT.
 fn progress_of(rt: &HostRuntime, invocation: &Invocation) -> Progress {
     if let Some(path) = &invocation.request.out {
         if is_same_file(rt, output_path(path.as_str()), STDERR_PATH) {
@@ -109,7 +108,7 @@ fn is_read_once(rt: &HostRuntime, invocation: &Invocation) -> bool {
 }
 
 impl<'a> Session<'a> {
-    /// The session of an invocation. More lines than the message are wanted with `--verbose` and on a terminal.
+    /// The session of an invocation. More lines follow an error message with `--verbose` and on a terminal.
     pub(crate) fn new(rt: &'a HostRuntime, invocation: &Invocation) -> Session<'a> {
         let is_verbose = invocation.verbose || is_terminal(rt);
         Session {
@@ -121,11 +120,11 @@ impl<'a> Session<'a> {
             has_line: Cell::new(false),
             has_output: Cell::new(false),
             error: Cell::new(None),
-            kept: RefCell::new(KeptLines::new(rt.alloc())),
+            kept: RefCell::new(RecentLines::new(rt.alloc())),
         }
     }
 
-    /// Whether more lines are wanted than an error message.
+    /// Whether more lines follow an error message.
     pub(crate) fn is_verbose(&self) -> bool {
         self.is_verbose
     }
@@ -162,8 +161,8 @@ impl<'a> Session<'a> {
         Watched::new(inner, self, false)
     }
 
-    /// Notes the error of an operation, if it is one, and returns the outcome.
-    pub(crate) fn note<T>(&self, outcome: io::Result<T>) -> io::Result<T>
+    /// Remembers the error of an operation, if it failed, and returns the outcome.
+    pub(crate) fn note_error<T>(&self, outcome: io::Result<T>) -> io::Result<T>
         ensures { result ≡ outcome }
     {
         if let Err(error) = &outcome {
@@ -173,7 +172,7 @@ impl<'a> Session<'a> {
     }
 
     /// Keeps what was read of a document that cannot be read again: the first `count` bytes of a buffer.
-    pub(crate) fn keep(&self, buffer: &[u8], count: usize) {
+    pub(crate) fn keep_input(&self, buffer: &[u8], count: usize) {
         if !self.keeps_lines {
             return;
         }
@@ -193,7 +192,7 @@ impl<'a> Session<'a> {
         }
     }
 
-    /// Shows a text in place of the line of a terminal. It is not wrapped, so that it can be removed at any width.
+    /// Shows a text in place of the progress line. It is not wrapped, so that it can be removed at any width.
     fn show(&self, text: Result<String, AllocError>) {
         let Ok(text) = text else {
             return;
@@ -221,12 +220,12 @@ impl<'a> Session<'a> {
 
     /// Shows on a terminal what is done now with a number of bytes, unless they are few.
     pub(crate) fn show_phase(&self, phase: Phase, bytes: u64) {
-        if matches!(self.progress, Progress::Automatic) && bytes >= STEP {
+        if matches!(self.progress, Progress::Automatic) && bytes >= REPORT_INTERVAL {
             self.show(phase_text(self.rt.alloc(), phase_name(phase), bytes));
         }
     }
 
-    /// Removes the line of a terminal.
+    /// Removes the progress line.
     pub(crate) fn clear(&self) {
         if self.has_line.replace(false) {
             let mut errors = self.rt.stderr();
@@ -234,7 +233,7 @@ impl<'a> Session<'a> {
         }
     }
 
-    /// Removes the line of a terminal, since output follows.
+    /// Removes the progress line, since output follows.
     pub(crate) fn begin_output(&self) {
         self.clear();
         self.has_output.set(true);

@@ -1,7 +1,7 @@
 //! Reading the arguments of `split`.
 ghost use Rattle.std.specs.Prelude.{◌≡◌, ℕ, Option, None, Some, IfOk, IfErr, MatchOption, codes, map, string_bytes};
 ghost use Rattle.clap.specs.Words.{first_of, found_of, rows_of};
-ghost use Rattle.hdt_tool.specs.CommandLine.{IsDecimalOf, IsFileAction, IsPartOfParts, IsSplitCommand, ParsesAsBlankNodes, ParsesAsPartCount, Refutes, further_paths};
+ghost use Rattle.hdt_tool.specs.CommandLine.{IsDecimalOf, IsQueryAction, IsPartOfParts, ParsesAsSplitOptions, ParsesAsBlankNodes, ParsesAsPartCount, Refutes, further_paths};
 ghost use Rattle.hdt_tool.specs.declared.request.Action.{Action};
 ghost use Rattle.hdt_tool.specs.declared.request.BlankNodes.{BlankNodes};
 ghost use Rattle.hdt_tool.specs.declared.request.SplitOptions.{SplitOptions};
@@ -10,10 +10,8 @@ use crate::arguments::{argument_text, optional_number};
 use crate::fault::UsageFault;
 use crate::request::{Action, BlankNodes, SplitOptions, SplitOutput};
 use clap::ArgMatches;
+use hdt_terms::MAX_PARTS;
 use std::alloc::{AllocError, Global};
-
-/// The largest number of parts.
-const MOST_PARTS: u32 = 65_536;
 
 const BLANK_NODES_MESSAGE: &str = "error: the value of --blank-nodes is one or apart
 
@@ -39,7 +37,9 @@ fn blank_nodes_option<'m>(
     matches: &ArgMatches<'m>,
 ) -> Result<Option<BlankNodes>, UsageFault>
     ensures ok { IfOk result (ParsesAsBlankNodes (first_of (codes "blank-nodes") (rows_of (found_of matches.now)))) }
-    ensures refused { IfErr result (Refutes ((x : Option BlankNodes) × ParsesAsBlankNodes (first_of (codes "blank-nodes") (rows_of (found_of matches.now))) x)) }
+    ensures refused { IfErr result
+        (Refutes ((x : Option BlankNodes)
+        × ParsesAsBlankNodes (first_of (codes "blank-nodes") (rows_of (found_of matches.now))) x)) }
 {
     match argument_text(matches, "blank-nodes") {
         None => Ok(None),
@@ -62,7 +62,7 @@ fn parts_option<'m>(alloc: Global, matches: &ArgMatches<'m>) -> Result<u32, Usag
     ensures refused { IfErr result (Refutes ((n : ℕ) × ParsesAsPartCount (rows_of (found_of matches.now)) n)) }
 {
     match optional_number(matches, "parts") {
-        Some(parts) if 1 <= parts && parts <= u64::from(MOST_PARTS) => Ok(parts as u32),
+        Some(parts) if 1 <= parts && parts <= u64::from(MAX_PARTS) => Ok(parts as u32),
         Some(_) => Err(UsageFault::text(alloc, PARTS_MESSAGE)),
         None => Err(UsageFault::text(alloc, PARTS_MESSAGE)),
     }
@@ -77,7 +77,7 @@ fn part_of_parts(alloc: Global, text: &str) -> Result<(u32, u32), UsageFault>
         return Err(UsageFault::text(alloc, OF_MESSAGE));
     };
     match (decimal_number(part), decimal_number(parts)) {
-        (Some(part), Some(parts)) if part < parts && parts <= MOST_PARTS => Ok((part, parts)),
+        (Some(part), Some(parts)) if part < parts && parts <= MAX_PARTS => Ok((part, parts)),
         _ => Err(UsageFault::text(alloc, OF_MESSAGE)),
     }
 }
@@ -106,8 +106,9 @@ fn owned_paths<'m>(alloc: Global, matches: &ArgMatches<'m>) -> Result<Vec<String
 /// The options of `split` without `--of`.
 fn folder_options<'m>(alloc: Global, matches: &ArgMatches<'m>) -> Result<SplitOptions, UsageFault>
     requires { first_of (codes "of") (rows_of (found_of matches.now)) ≡ None }
-    ensures ok { IfOk result (λ options. IsSplitCommand (rows_of (found_of matches.now)) options) }
-    ensures refused { IfErr result (Refutes ((options : SplitOptions) × IsSplitCommand (rows_of (found_of matches.now)) options)) }
+    ensures ok { IfOk result (λ options. ParsesAsSplitOptions (rows_of (found_of matches.now)) options) }
+    ensures refused { IfErr result
+        (Refutes ((options : SplitOptions) × ParsesAsSplitOptions (rows_of (found_of matches.now)) options)) }
 {
     let parts = parts_option(alloc, matches)?;
     let blank_nodes = blank_nodes_option(alloc, matches)?;
@@ -130,8 +131,9 @@ fn part_options<'m>(
     of: &str,
 ) -> Result<SplitOptions, UsageFault>
     requires { first_of (codes "of") (rows_of (found_of matches.now)) ≡ Some of.now }
-    ensures ok { IfOk result (λ options. IsSplitCommand (rows_of (found_of matches.now)) options) }
-    ensures refused { IfErr result (Refutes ((options : SplitOptions) × IsSplitCommand (rows_of (found_of matches.now)) options)) }
+    ensures ok { IfOk result (λ options. ParsesAsSplitOptions (rows_of (found_of matches.now)) options) }
+    ensures refused { IfErr result
+        (Refutes ((options : SplitOptions) × ParsesAsSplitOptions (rows_of (found_of matches.now)) options)) }
 {
     if argument_text(matches, "parts").is_some() {
         return Err(UsageFault::text(alloc, PARTS_MESSAGE));
@@ -151,8 +153,9 @@ pub(crate) fn split_action<'m>(
     alloc: Global,
     matches: &ArgMatches<'m>,
 ) -> Result<Action, UsageFault>
-    ensures ok { IfOk result (IsFileAction (codes "split") (rows_of (found_of matches.now))) }
-    ensures refused { IfErr result (Refutes ((options : SplitOptions) × IsSplitCommand (rows_of (found_of matches.now)) options)) }
+    ensures ok { IfOk result (IsQueryAction (codes "split") (rows_of (found_of matches.now))) }
+    ensures refused { IfErr result
+        (Refutes ((options : SplitOptions) × ParsesAsSplitOptions (rows_of (found_of matches.now)) options)) }
 {
     let options = match argument_text(matches, "of") {
         Some(of) => part_options(alloc, matches, of)?,

@@ -3,24 +3,21 @@ ghost use Rattle.std.specs.Prelude.{◌≡◌, ◌⊎◌, ◌<◌, ◌^◌, IfOk
 ghost use Rattle.hdt_tool.specs.ErrorLines.{fault_status};
 ghost use Rattle.hdt_tool.specs.Status.{IsCommandStatus};
 
-use crate::atomic_replace::random_number;
-use crate::error_context::{Subject, print_context};
+use crate::atomic_replace::{NAME_ATTEMPTS, random_number};
+use crate::error_context::{ErrorSource, print_context};
 use crate::error_lines::{OUT_OF_MEMORY, fault_line};
 use crate::fault::{ToolFault, file_fault, line_fault};
 use crate::files::{Source, move_off_std_streams};
 use crate::request::{Request, SplitOptions, SplitOutput};
 use crate::session::Session;
-use crate::splitting::{SplitStop, split_inputs};
-use crate::status::{done, print_error_line};
+use crate::splitting::{SplitInputsFault, split_inputs};
+use crate::status::{command_status, print_error_line};
 use hdt_terms::SplitFault;
 use hdt_usage::put_shown;
 use hdt_wire::Counted;
 use std::alloc::{AllocError, Global};
 use std::fs::{self, OpenOptions};
 use std::io::{self, ErrorKind, Read, Write};
-
-/// The number of random names to try for a new folder.
-const NAME_ATTEMPTS: u64 = 1000;
 
 const BLANK_NODES_MESSAGE: &str =
     " have blank nodes: say by --blank-nodes whether a label is one node in \
@@ -45,7 +42,7 @@ struct LateInput<'a> {
 impl Read for LateInput<'_> {
     fn read(&mut self, buf: &mut [u8]) -> io::Result<usize> {
         if self.opened.is_none() {
-            self.opened = Some(self.session.note(Source::open(self.rt, self.path))?);
+            self.opened = Some(self.session.note_error(Source::open(self.rt, self.path))?);
         }
         match &mut self.opened {
             Some(source) => source.read(buf),
@@ -54,8 +51,8 @@ impl Read for LateInput<'_> {
     }
 }
 
-/// A file that is opened for each write, at its end, so that any number of parts needs one descriptor. It is made by the
-/// first write.
+/// A file that is opened for each write, at its end, so that any number of parts needs one descriptor. It is made by
+/// the first write.
 #[derive(Drop)]
 struct PartFile<'a> {
     rt: &'a HostRuntime,
@@ -102,7 +99,7 @@ impl<W: Write> Write for PrintedPart<W> {
     }
 }
 
-/// The paths of all inputs.
+/// The path of the input with this number, from 0.
 fn input_path<'a>(request: &'a Request, options: &'a SplitOptions, number: u64) -> &'a str {
     if number == 0 {
         return request.file.as_str();
@@ -173,10 +170,10 @@ fn printed_parts<W: Write + Drop>(
 }
 
 /// The status of an error. Prints its message.
-fn report(rt: &HostRuntime, subject: Subject<'_>, fault: ToolFault) -> u8
+fn print_fault(rt: &HostRuntime, source: ErrorSource<'_>, fault: ToolFault) -> u8
     ensures { IsCommandStatus result }
 {
-    done(rt, subject, Err(fault))
+    command_status(rt, source, Err(fault))
 }
 
 /// Prints an error with the path of the input.
@@ -193,7 +190,7 @@ fn print_input_line(rt: &HostRuntime, path: &str, line: &str) -> Result<(), Allo
 }
 
 /// The status of an error of the input at a path. Prints the message, and the lines that follow it.
-fn report_input(rt: &HostRuntime, subject: Subject<'_>, path: &str, fault: &ToolFault) -> u8
+fn print_input_fault(rt: &HostRuntime, source: ErrorSource<'_>, path: &str, fault: &ToolFault) -> u8
     ensures { (result ≡ fault_status fault.now) ⊎ (result ≡ 4) }
 {
     let Ok((status, line)) = fault_line(rt.alloc(), fault) else {
@@ -202,18 +199,18 @@ fn report_input(rt: &HostRuntime, subject: Subject<'_>, path: &str, fault: &Tool
     let Ok(()) = print_input_line(rt, path, line.as_str()) else {
         return print_error_line(rt, 4, OUT_OF_MEMORY);
     };
-    print_context(rt, subject, fault);
+    print_context(rt, source, fault);
     status
 }
 
 /// The status of an error in a line of the input at a path, or of reading it.
-fn report_line_fault(rt: &HostRuntime, subject: Subject<'_>, path: &str, fault: &ToolFault) -> u8
+fn print_line_fault(rt: &HostRuntime, source: ErrorSource<'_>, path: &str, fault: &ToolFault) -> u8
     ensures { IsCommandStatus result }
 {
     if *fault == ToolFault::OutOfMemory {
-        return report(rt, subject, *fault);
+        return print_fault(rt, source, *fault);
     }
-    report_input(rt, subject, path, fault)
+    print_input_fault(rt, source, path, fault)
 }
 
 /// Prints that two inputs have blank nodes, and what to do.
@@ -230,7 +227,7 @@ fn print_blank_nodes_line(rt: &HostRuntime, one: &str, other: &str) -> Result<()
 }
 
 /// The status for two inputs with blank nodes.
-fn report_blank_nodes(rt: &HostRuntime, one: &str, other: &str) -> u8
+fn print_blank_nodes_fault(rt: &HostRuntime, one: &str, other: &str) -> u8
     ensures { IsCommandStatus result }
 {
     match print_blank_nodes_line(rt, one, other) {
@@ -242,10 +239,10 @@ fn report_blank_nodes(rt: &HostRuntime, one: &str, other: &str) -> u8
 /// The status of a split. Prints the message of an error.
 fn split_status(
     rt: &HostRuntime,
-    subject: Subject<'_>,
+    source: ErrorSource<'_>,
     request: &Request,
     options: &SplitOptions,
-    outcome: Result<(), SplitStop>,
+    outcome: Result<(), SplitInputsFault>,
 ) -> u8
     ensures { IsCommandStatus result }
 {
@@ -254,16 +251,20 @@ fn split_status(
         Err(stop) => stop,
     };
     match stop {
-        SplitStop::Input(number, SplitFault::Line(fault)) => {
+        SplitInputsFault::Input(number, SplitFault::Line(fault)) => {
             let path = input_path(request, options, number);
-            report_line_fault(rt, subject.of_input(path), path, &line_fault(fault))
+            print_line_fault(rt, source.with_input(path), path, &line_fault(fault))
         }
-        SplitStop::Input(_, SplitFault::Write(_)) => report(rt, subject, ToolFault::Write(0)),
-        SplitStop::Input(_, SplitFault::OutOfMemory) => {
-            report(rt, subject, ToolFault::OutOfMemory)
+        SplitInputsFault::Input(_, SplitFault::Write(_)) => print_fault(
+            rt,
+            source,
+            ToolFault::Write(0),
+        ),
+        SplitInputsFault::Input(_, SplitFault::OutOfMemory) => {
+            print_fault(rt, source, ToolFault::OutOfMemory)
         }
-        SplitStop::OutOfMemory => report(rt, subject, ToolFault::OutOfMemory),
-        SplitStop::BlankNodes(one, other) => report_blank_nodes(
+        SplitInputsFault::OutOfMemory => print_fault(rt, source, ToolFault::OutOfMemory),
+        SplitInputsFault::BlankNodes(one, other) => print_blank_nodes_fault(
             rt,
             input_path(request, options, one),
             input_path(request, options, other),
@@ -274,7 +275,7 @@ fn split_status(
 /// Splits the inputs of a request to these writers, and returns the status.
 fn split_to<W: Write + Drop>(
     rt: &HostRuntime,
-    subject: Subject<'_>,
+    source: ErrorSource<'_>,
     request: &Request,
     options: &SplitOptions,
     outs: Result<Vec<Counted<W>>, AllocError>,
@@ -282,15 +283,15 @@ fn split_to<W: Write + Drop>(
     requires { IfOk outs (λ outs. length outs.items < 2 ^ 32) }
     ensures { IsCommandStatus result }
 {
-    let (Ok(mut outs), Ok(inputs)) = (outs, late_inputs(rt, subject.session, request, options))
+    let (Ok(mut outs), Ok(inputs)) = (outs, late_inputs(rt, source.session, request, options))
     else {
-        return report(rt, subject, ToolFault::OutOfMemory);
+        return print_fault(rt, source, ToolFault::OutOfMemory);
     };
     if outs.is_empty() {
-        return report(rt, subject, ToolFault::BadOptions);
+        return print_fault(rt, source, ToolFault::BadOptions);
     }
     let outcome = split_inputs(rt.alloc(), options.blank_nodes, inputs, outs.as_mut_slice());
-    split_status(rt, subject, request, options, outcome)
+    split_status(rt, source, request, options, outcome)
 }
 
 /// Makes a new folder beside a path, under a random name.
@@ -308,7 +309,13 @@ fn make_folder_beside(rt: &HostRuntime, path: &str) -> io::Result<String> {
 }
 
 /// Gives the folder its name if it is complete, or removes it. Returns the status.
-fn finish_folder(rt: &HostRuntime, subject: Subject<'_>, made: &str, path: &str, status: u8) -> u8
+fn finish_folder(
+    rt: &HostRuntime,
+    source: ErrorSource<'_>,
+    made: &str,
+    path: &str,
+    status: u8,
+) -> u8
     requires { IsCommandStatus status }
     ensures { IsCommandStatus result }
 {
@@ -316,7 +323,7 @@ fn finish_folder(rt: &HostRuntime, subject: Subject<'_>, made: &str, path: &str,
     if status == 0 {
         match fs::rename(rt, made, path) {
             Ok(()) => return 0,
-            Err(error) => status = report(rt, subject, file_fault(&error, ToolFault::Write(0))),
+            Err(error) => status = print_fault(rt, source, file_fault(&error, ToolFault::Write(0))),
         }
     }
     let _ = fs::remove_dir_all(rt, made);
@@ -334,7 +341,7 @@ fn without_slashes(path: &str) -> &str {
 /// Splits the inputs to a new folder, which is complete or not there, and returns the status.
 fn split_to_folder(
     rt: &HostRuntime,
-    subject: Subject<'_>,
+    source: ErrorSource<'_>,
     request: &Request,
     options: &SplitOptions,
     folder: &str,
@@ -348,18 +355,19 @@ fn split_to_folder(
     }
     let made = match make_folder_beside(rt, path) {
         Ok(made) => made,
-        Err(error) => return report(rt, subject, file_fault(&error, ToolFault::Write(0))),
+        Err(error) => return print_fault(rt, source, file_fault(&error, ToolFault::Write(0))),
     };
     let files = part_files(rt, made.as_str(), options.parts);
-    let status = split_to(rt, subject, request, options, files);
-    finish_folder(rt, subject, made.as_str(), path, status)
+    let status = split_to(rt, source, request, options, files);
+    finish_folder(rt, source, made.as_str(), path, status)
 }
 
-/// Runs `split`, and returns the status. The folder is made under another name beside it, and renamed once it is complete;
-/// a part is printed as it is read. (Contracts cannot describe the file system; tests/test_split.py checks this.)
+/// Runs `split`, and returns the status. The folder is made under another name beside it, and renamed once it is
+/// complete; a part is printed as it is read. (Contracts cannot describe the file system; tests/test_split.py checks
+/// this.)
 pub(crate) fn run_split(
     rt: &HostRuntime,
-    subject: Subject<'_>,
+    source: ErrorSource<'_>,
     request: &Request,
     options: &SplitOptions,
 ) -> u8
@@ -367,12 +375,12 @@ pub(crate) fn run_split(
 {
     match &options.output {
         SplitOutput::Folder(folder) => {
-            let subject = subject.of_output(folder.as_str());
-            split_to_folder(rt, subject, request, options, folder.as_str())
+            let source = source.with_output(folder.as_str());
+            split_to_folder(rt, source, request, options, folder.as_str())
         }
         SplitOutput::Part(part) => {
             let outs = printed_parts(rt.alloc(), *part, options.parts, io::writer(rt));
-            split_to(rt, subject, request, options, outs)
+            split_to(rt, source, request, options, outs)
         }
     }
 }

@@ -2,8 +2,8 @@
 ghost use Rattle.std.specs.Prelude.{◌≡◌, ◌<◌, ◌^◌, None, IfOk, IfErr, OnOk, length, map, true};
 ghost use Rattle.hdt_wire.specs.Counted.{inner, failures};
 ghost use Rattle.hdt_terms.specs.Split.{SplitsInput};
-ghost use Rattle.hdt_tool.specs.SplitInputs.{IsScopeFault, SplitsInTurn, StopsHere, StopsInTurn, are_mixed, first_with, input_prefix};
-ghost use Rattle.hdt_tool.specs.declared.splitting.SplitStop.TheVariants as SplitStop;
+ghost use Rattle.hdt_tool.specs.SplitInputs.{IsBlankNodesFault, SplitsInTurn, IsFaultOfInputAt, StopsInTurn, MixesBlankNodes, first_with_blank_nodes, input_prefix};
+ghost use Rattle.hdt_tool.specs.declared.splitting.SplitInputsFault.TheVariants as SplitInputsFault;
 
 use crate::request::BlankNodes;
 use hdt_terms::{SplitFault, SplitReport, split_document};
@@ -13,7 +13,7 @@ use std::io::{Read, Write};
 
 /// Why [`split_inputs`] stopped. Inputs are numbered from 0.
 #[derive(Clone, Copy, Debug, PartialEq, Eq)]
-pub enum SplitStop {
+pub(crate) enum SplitInputsFault {
     /// The input with this number has an error, could not be read, or a part of it not written.
     Input(u64, SplitFault),
     /// Both inputs have blank nodes, and whether a label is one node in both was not said.
@@ -22,11 +22,11 @@ pub enum SplitStop {
     OutOfMemory,
 }
 
-impl From<AllocError> for SplitStop {
-    ghost from_gives = { λ _ e. e ≡ SplitStop.OutOfMemory };
+impl From<AllocError> for SplitInputsFault {
+    ghost from_gives = { λ _ e. e ≡ SplitInputsFault.OutOfMemory };
 
-    fn from(_error: AllocError) -> SplitStop {
-        SplitStop::OutOfMemory
+    fn from(_error: AllocError) -> SplitInputsFault {
+        SplitInputsFault::OutOfMemory
     }
 }
 
@@ -51,12 +51,13 @@ fn first_with_blank_nodes(
     first: Option<u64>,
     number: u64,
     has_blank_nodes: bool,
-) -> Result<Option<u64>, SplitStop>
-    ensures ok { IfOk result (λ next. (next ≡ first_with first number has_blank_nodes) × (are_mixed blank_nodes first has_blank_nodes → ⊥)) }
-    ensures err { IfErr result (λ stop. IsScopeFault blank_nodes first number stop × (has_blank_nodes ≡ true)) }
+) -> Result<Option<u64>, SplitInputsFault>
+    ensures ok { IfOk result (λ next. (next ≡ first_with_blank_nodes first number has_blank_nodes)
+        × (MixesBlankNodes blank_nodes first has_blank_nodes → ⊥)) }
+    ensures err { IfErr result (λ stop. IsBlankNodesFault blank_nodes first number stop × (has_blank_nodes ≡ true)) }
 {
     match (blank_nodes, first, has_blank_nodes) {
-        (None, Some(first), true) => Err(SplitStop::BlankNodes(first, number)),
+        (None, Some(first), true) => Err(SplitInputsFault::BlankNodes(first, number)),
         (_, None, true) => Ok(Some(number)),
         _ => Ok(first),
     }
@@ -70,19 +71,19 @@ fn split_input<R: Read, W: Write>(
     number: u64,
     input: &mut Counted<R>,
     outs: &mut [Counted<W>],
-) -> Result<SplitReport, SplitStop>
+) -> Result<SplitReport, SplitInputsFault>
     requires parts { (0 < length outs.old) × (length outs.old < 2 ^ 32) }
     ensures ok { IfOk result (SplitsInput (input_prefix blank_nodes number) (R.remaining (inner input.old))
         (map (λ out. W.contents (inner out)) outs.old) (map (λ out. W.contents (inner out)) outs.new)) }
-    ensures stopped { IfErr result (StopsHere blank_nodes None number (R.remaining (inner input.old))
+    ensures stopped { IfErr result (IsFaultOfInputAt blank_nodes None number (R.remaining (inner input.old))
         (map (λ out. W.contents (inner out)) outs.old) (map (λ out. W.contents (inner out)) outs.new)) }
     ensures len { length outs.new ≡ length outs.old }
-    ensures well { OnOk result (map (λ out. failures out) outs.new ≡ map (λ out. failures out) outs.old) }
+    ensures unfailed { OnOk result (map (λ out. failures out) outs.new ≡ map (λ out. failures out) outs.old) }
 {
     let prefix = input_prefix(alloc, blank_nodes, number)?;
     match split_document(alloc, &prefix, input, outs) {
         Ok(report) => Ok(report),
-        Err(fault) => Err(SplitStop::Input(number, fault)),
+        Err(fault) => Err(SplitInputsFault::Input(number, fault)),
     }
 }
 
@@ -95,23 +96,23 @@ fn split_input<R: Read, W: Write>(
 ///
 /// # Errors
 ///
-/// [`SplitStop::Input`] with the first error of the first input that has one; [`SplitStop::BlankNodes`] once a second
-/// input with blank nodes is read, if `blank_nodes` is `None`; [`SplitStop::OutOfMemory`].
-pub fn split_inputs<R: Read + Drop, W: Write>(
+/// [`SplitInputsFault::Input`] with the first error of the first input that has one; [`SplitInputsFault::BlankNodes`]
+/// once a second input with blank nodes is read, if `blank_nodes` is `None`; [`SplitInputsFault::OutOfMemory`].
+pub(crate) fn split_inputs<R: Read + Drop, W: Write>(
     alloc: Global,
     blank_nodes: Option<BlankNodes>,
     inputs: Vec<R>,
     outs: &mut [Counted<W>],
-) -> Result<(), SplitStop>
+) -> Result<(), SplitInputsFault>
     requires parts { (0 < length outs.old) × (length outs.old < 2 ^ 32) }
     // Each input in turn was split: the writers have gained the lines of their parts of all of them.
     ensures ok { OnOk result (SplitsInTurn blank_nodes None 0 (map (λ input. R.remaining input) inputs.items)
         (map (λ out. W.contents (inner out)) outs.old) (map (λ out. W.contents (inner out)) outs.new)) }
-    // The inputs before that of the error were split, and a front of its lines.
+    // The inputs before that of the error were split, and a prefix of its lines.
     ensures stopped { IfErr result (StopsInTurn blank_nodes None 0 (map (λ input. R.remaining input) inputs.items)
         (map (λ out. W.contents (inner out)) outs.old) (map (λ out. W.contents (inner out)) outs.new)) }
     // At `Ok` no writer failed.
-    ensures well { OnOk result (map (λ out. failures out) outs.new ≡ map (λ out. failures out) outs.old) }
+    ensures unfailed { OnOk result (map (λ out. failures out) outs.new ≡ map (λ out. failures out) outs.old) }
 {
     let mut first = None;
     let mut number = 0;

@@ -4,30 +4,31 @@
 //! | status | case |
 //! |---|---|
 //! | 0 | success, or help or an explanation was printed |
-//! | 1 | the input is not valid, a look-up found nothing, an answer is an error, or triples were left out |
-//! | 2 | the command line is not valid, `build` or `lint` would write to its input, or `split` to a FOLDER that exists |
+//! | 1 | invalid input, a faulty line, no result, an erroneous answer, or triples left out |
+//! | 2 | invalid arguments or options, or an output that would overwrite an input or an existing FOLDER |
+//! | 2 | `split`: two inputs have blank nodes, and --blank-nodes is missing |
 //! | 3 | reading or writing failed |
 //! | 4 | out of memory |
-ghost use Rattle.std.specs.Prelude.{◌≡◌, ◌≢◌, ◌⊎◌, ◌+◌, ℕ, List, Option, true, false, [], Ok, Err, Some, IfOk, IfErr, MatchResult, map, string_bytes, ◌≤◌};
+ghost use Rattle.std.specs.Prelude.{◌≡◌, ◌≢◌, ◌⊎◌, ◌+◌, ℕ, true, false, Ok, Err, Some, IfOk, IfErr, MatchResult, map, string_bytes, ◌≤◌};
 ghost use Rattle.std.specs.IoError.{error_kind};
 ghost use Rattle.std.specs.Vec.Iter.{into_iter_items};
 ghost use Rattle.hdt_wire.specs.Counted.{inner, failures};
-ghost use Rattle.hdt_tool.specs.Outcomes.{Completes, HasInputFault, HasOut, InterruptsStrings, IsReadOnly, WritesOutputPrefix};
+ghost use Rattle.hdt_tool.specs.Outcomes.{HasInputFault, HasOut, InterruptsStrings, IsReadOnly, WritesAndCounts, WritesOutputPrefix, WritesWithCount};
 ghost use Rattle.hdt_tool.specs.CommandLine.{IsRefused, IsUsageText, ParsesToInvocation};
 ghost use Rattle.hdt_tool.specs.Dialogue.{AnswersOverFile, AnswersOverFileUntilFault, plain_report};
 ghost use Rattle.hdt_tool.specs.declared.request.AnswerReport.{AnswerReport};
 ghost use Rattle.hdt_tool.specs.ErrorLines.{fault_status};
-ghost use Rattle.hdt_tool.specs.Status.{Ends, IsBuild, IsCommandStatus, IsRefusalStatus, IsReportStatus};
+ghost use Rattle.hdt_tool.specs.Status.{ExitsWith, IsBuild, IsCommandStatus, IsRefusalStatus, IsReportStatus};
 
 use crate::command_line::parse_invocation;
-use crate::commands::{answer_file, print_output};
-use crate::error_context::{Subject, print_context, print_prefix_hint, print_term_context};
+use crate::commands::{answer_file, print_and_count};
+use crate::error_context::{ErrorSource, print_context, print_prefix_hint, print_term_context};
 use crate::error_lines::{OUT_OF_MEMORY, fault_line, usage_line};
 use crate::fault::{ToolFault, UsageFault, file_fault};
-use crate::files::{known_size, open_input, output_path, would_overwrite};
+use crate::files::{open_input, output_path, would_overwrite};
 use crate::lint::lint_path;
+use crate::non_term_status::{count_status, skipped_line};
 use crate::output_file::make_file_at;
-use crate::reporting::{run_report_on_streams, skipped_line};
 use crate::request::{Action, AnswerOptions, AnswerReport, Invocation, Request};
 use crate::session::Session;
 use crate::split_files::run_split;
@@ -54,7 +55,7 @@ pub(crate) fn print_error_line(rt: &HostRuntime, status: u8, line: &str) -> u8
 }
 
 /// Prints an error message and returns its status; 4 if there is no memory for the message.
-pub(crate) fn report_line(rt: &HostRuntime, line: Result<(u8, String), AllocError>) -> u8
+pub(crate) fn print_message(rt: &HostRuntime, line: Result<(u8, String), AllocError>) -> u8
     ensures { MatchResult line (λ said. result ≡ said.0) (λ _. result ≡ 4) }
 {
     match line {
@@ -75,16 +76,20 @@ fn print_status(rt: &HostRuntime, outcome: io::Result<()>) -> u8
 
 /// The status of a command. Removes the line of progress, and prints the message of an error, and the lines that follow
 /// it; none if `find --quiet` has no match.
-pub(crate) fn done(rt: &HostRuntime, subject: Subject<'_>, outcome: Result<(), ToolFault>) -> u8
+pub(crate) fn command_status(
+    rt: &HostRuntime,
+    source: ErrorSource<'_>,
+    outcome: Result<(), ToolFault>,
+) -> u8
     ensures { MatchResult outcome (λ _. result ≡ 0) (λ fault. (result ≡ fault_status fault) ⊎ (result ≡ 4)) }
 {
-    subject.session.clear();
+    source.session.clear();
     match outcome {
         Ok(()) => 0,
         Err(ToolFault::NoMatch) => 1,
         Err(fault) => {
-            let status = report_line(rt, fault_line(rt.alloc(), &fault));
-            print_context(rt, subject, &fault);
+            let status = print_message(rt, fault_line(rt.alloc(), &fault));
+            print_context(rt, source, &fault);
             status
         }
     }
@@ -130,11 +135,14 @@ fn parse_process_arguments(
     alloc: Global,
     words: &io::Result<Vec<String>>,
 ) -> Result<Invocation, UsageFault>
-    ensures ok { IfOk result (λ invocation. MatchResult words.now (λ words. ParsesToInvocation (map string_bytes words.items) invocation) (λ _. ⊥)) }
+    ensures ok { IfOk result (λ invocation. MatchResult words.now
+        (λ words. ParsesToInvocation (map string_bytes words.items) invocation) (λ _. ⊥)) }
     ensures out { IfOk result (λ invocation. HasOut invocation.request) }
     ensures refused { IfErr result (λ fault. IfOk words.now (λ words. IsRefused (map string_bytes words.items) fault)) }
-    ensures memory { IfErr words.now (λ error. error_kind error ≡ ErrorKind.OutOfMemory → result ≡ Err UsageFault.OutOfMemory) }
-    ensures other { IfErr words.now (λ error. error_kind error ≢ ErrorKind.OutOfMemory → IfErr result (IsUsageText NOT_UTF8_MESSAGE.now)) }
+    ensures memory { IfErr words.now (λ error. error_kind error ≡ ErrorKind.OutOfMemory
+        → result ≡ Err UsageFault.OutOfMemory) }
+    ensures other { IfErr words.now (λ error. error_kind error ≢ ErrorKind.OutOfMemory
+        → IfErr result (IsUsageText NOT_UTF8_MESSAGE.now)) }
 {
     match words {
         Ok(words) => parse_arguments(alloc, words.as_slice()),
@@ -143,65 +151,73 @@ fn parse_process_arguments(
     }
 }
 
-/// Runs a command that writes no file on the result of opening its input, and returns the status.
-fn run_query<R: Read + Drop, W: Write>(
+/// The status if an input cannot be opened. Prints the message, and the lines that follow it.
+pub(crate) fn open_failed(rt: &HostRuntime, source: ErrorSource<'_>, error: &io::Error) -> u8
+    ensures statuses { IsCommandStatus result }
+    // 4 if the error is `OutOfMemory`, else 3; or 4 if there is no memory for the message.
+    ensures memory { error_kind error.now ≡ ErrorKind.OutOfMemory → result ≡ 4 }
+    ensures other { error_kind error.now ≢ ErrorKind.OutOfMemory → (result ≡ 3) ⊎ (result ≡ 4) }
+{
+    command_status(rt, source, Err(file_fault(error, ToolFault::Read)))
+}
+
+/// Runs a command that writes no file, and returns the status.
+fn run_query<R: Read, W: Write>(
     rt: &HostRuntime,
-    subject: Subject<'_>,
-    request: &Request,
-    file: io::Result<R>,
+    source: ErrorSource<'_>,
+    action: &Action,
+    input: &mut Counted<R>,
     capacity: usize,
     out: &mut Counted<W>,
 ) -> u8
-    requires { IsReadOnly request.now.action }
+    requires { IsReadOnly action.now }
     ensures statuses { IsCommandStatus result }
-    // 0: `out` has gained the command's output for the input, and no new file was lost.
-    ensures done { result ≡ 0 → MatchResult file (λ input. (after : Option (List ℕ)) × Completes request.now.action (R.remaining input) after
-        (W.contents (inner out.old)) (W.contents (inner out.new)) [] []) (λ _. ⊥) }
-    ensures well { result ≡ 0 → failures out.new ≡ failures out.old }
-    // 1: the input is not valid or has no triples, a look-up found nothing, or a string is not a term.
-    ensures fault { result ≡ 1 → MatchResult file (λ input. HasInputFault request.now.action (R.remaining input)) (λ _. ⊥) }
-    ensures unwritten { result ≡ 1 → out.new ≡ out.old }
-    // If the input could not be opened: 4 if its error is `OutOfMemory`, else 3; or 4 if there is no memory for the
-    // message.
-    ensures memory { IfErr file (λ e. error_kind e ≡ ErrorKind.OutOfMemory → result ≡ 4) }
-    ensures unopened { IfErr file (λ e. error_kind e ≢ ErrorKind.OutOfMemory → (result ≡ 3) ⊎ (result ≡ 4)) }
-    // 2, 3 and 4: nothing was written; or the writer failed once, after exactly the first n bytes of the output; or
-    // `strings` ran out of memory after a prefix of its output.
+    // 0: `out` has gained the command's output for the input, and nothing was counted.
+    ensures done { result ≡ 0
+        → WritesWithCount action.now (R.remaining (inner input.old)) (R.remaining (inner input.new))
+        (W.contents (inner out.old)) (W.contents (inner out.new)) 0 }
+    ensures unfailed { result ≡ 0 → failures out.new ≡ failures out.old }
+    // 1: the input is not valid, a look-up found nothing, or a string is not a term, and nothing was written; or `out`
+    // has
+    // gained the output, and something was counted.
+    ensures fault { result ≡ 1
+        → (HasInputFault action.now (R.remaining (inner input.old)) (R.remaining (inner input.new))
+        × (out.new ≡ out.old))
+        ⊎ WritesAndCounts action.now (R.remaining (inner input.old)) (R.remaining (inner input.new))
+        (W.contents (inner out.old)) (W.contents (inner out.new)) }
+    // Any but 0: nothing was written; or all of the output, and something was counted; or the writer failed once, after
+    // exactly the first n bytes of the output; or `strings` ran out of memory after a prefix of its output.
     ensures stopped { result ≢ 0 → (out.new ≡ out.old)
-        ⊎ ((failures out.new ≡ failures out.old + 1) × (n : ℕ) × MatchResult file (λ input. (after : Option (List ℕ)) × WritesOutputPrefix request.now.action (R.remaining input) after
-        (W.contents (inner out.old)) (W.contents (inner out.new)) n) (λ _. ⊥))
-        ⊎ MatchResult file (λ input. (after : Option (List ℕ)) × InterruptsStrings request.now.action (R.remaining input) after
-        (W.contents (inner out.old)) (W.contents (inner out.new)) (failures out.old) (failures out.new)) (λ _. ⊥) }
+        ⊎ WritesAndCounts action.now (R.remaining (inner input.old)) (R.remaining (inner input.new))
+        (W.contents (inner out.old)) (W.contents (inner out.new))
+        ⊎ ((failures out.new ≡ failures out.old + 1) × (n : ℕ)
+        × WritesOutputPrefix action.now (R.remaining (inner input.old)) (R.remaining (inner input.new))
+        (W.contents (inner out.old)) (W.contents (inner out.new)) n)
+        ⊎ InterruptsStrings action.now (R.remaining (inner input.old)) (R.remaining (inner input.new))
+        (W.contents (inner out.old)) (W.contents (inner out.new)) (failures out.old) (failures out.new) }
 {
-    let mut input = match file {
-        Ok(input) => Counted::new(input),
-        Err(error) => return done(rt, subject, Err(file_fault(&error, ToolFault::Read))),
-    };
-    done(
-        rt,
-        subject,
-        print_output(rt.alloc(), &request.action, &mut input, capacity, out),
-    )
+    let outcome = print_and_count(rt.alloc(), action, input, capacity, out);
+    count_status(rt, source, action, outcome)
 }
 
 /// Prints the lines that follow the message of an argument that is not a term.
 fn print_usage_context(rt: &HostRuntime, words: &io::Result<Vec<String>>, fault: &UsageFault) {
-    let (Ok(words), UsageFault::InvalidTerm { word, fault }) = (words, fault) else {
+    let (Ok(words), UsageFault::InvalidTerm { argument, fault }) = (words, fault) else {
         return;
     };
     if let Ok(texts) = borrow_strings(rt.alloc(), words.as_slice()) {
-        print_term_context(rt, texts.as_slice(), *word, *fault);
+        print_term_context(rt, texts.as_slice(), *argument, *fault);
     }
 }
 
 /// Prints help to standard output, or a usage error to standard error.
-fn refuse(rt: &HostRuntime, words: &io::Result<Vec<String>>, fault: UsageFault) -> u8
+fn refusal_status(rt: &HostRuntime, words: &io::Result<Vec<String>>, fault: UsageFault) -> u8
     ensures { IsRefusalStatus fault result }
 {
     match fault {
         UsageFault::Help(text) => print_status(rt, rt.println(text.as_str())),
         fault => {
-            let status = report_line(rt, usage_line(rt.alloc(), &fault));
+            let status = print_message(rt, usage_line(rt.alloc(), &fault));
             print_usage_context(rt, words, &fault);
             status
         }
@@ -218,123 +234,127 @@ fn writes_over_its_input(rt: &HostRuntime, request: &Request, path: &str) -> boo
     }
 }
 
-/// The status of `answer`: 1 if any answer is an error or triples were left out. Removes the line of progress, and prints
-/// the number of triples left out, or the message of an error that ended the answers.
+/// The status of `answer`: 1 if any answer is an error or triples were left out. Removes the line of progress, and
+/// prints the number of triples left out, or the message of an error that ended the answers.
 fn answers_status(
     rt: &HostRuntime,
-    subject: Subject<'_>,
+    source: ErrorSource<'_>,
     outcome: Result<AnswerReport, ToolFault>,
 ) -> u8
-    ensures { MatchResult outcome (λ report. IsReportStatus report result) (λ fault. (result ≡ fault_status fault) ⊎ (result ≡ 4)) }
+    ensures { MatchResult outcome (λ report. IsReportStatus report result) (λ fault. (result ≡ fault_status fault)
+        ⊎ (result ≡ 4)) }
 {
     match outcome {
         Ok(report) => {
-            subject.session.clear();
+            source.session.clear();
             if report.skipped > 0 {
-                return report_line(rt, skipped_line(rt.alloc(), report.skipped));
+                return print_message(rt, skipped_line(rt.alloc(), report.skipped));
             }
             u8::from(report.has_errors)
         }
-        Err(fault) => done(rt, subject, Err(fault)),
+        Err(fault) => command_status(rt, source, Err(fault)),
     }
 }
 
-/// Serves requests over the result of opening a file, and returns the status.
-fn run_answer<F: Read + Drop, R: Read, W: Write>(
+/// Serves requests over a file, and returns the status.
+fn run_answer<F: Read, R: Read, W: Write>(
     rt: &HostRuntime,
-    subject: Subject<'_>,
+    source: ErrorSource<'_>,
     options: AnswerOptions,
-    file: io::Result<F>,
+    file: &mut Counted<F>,
     capacity: usize,
     input: &mut Counted<R>,
     out: &mut Counted<W>,
 ) -> u8
     ensures statuses { IsCommandStatus result }
     // 0: `out` has gained the answers to all requests, none of which is an error, and no triple was left out.
-    ensures done { result ≡ 0 → MatchResult file (λ file. (after : Option (List ℕ)) × AnswersOverFile options (F.remaining file) after (R.remaining (inner input.old))
-        (W.contents (inner out.old)) (W.contents (inner out.new)) (plain_report false)) (λ _. ⊥) }
-    ensures well { result ≡ 0 → failures out.new ≡ failures out.old }
-    // If the file could not be opened: 4 if its error is `OutOfMemory`, else 3; or 4 if there is no memory for the
-    // message.
-    ensures memory { IfErr file (λ e. error_kind e ≡ ErrorKind.OutOfMemory → result ≡ 4) }
-    ensures unopened { IfErr file (λ e. error_kind e ≢ ErrorKind.OutOfMemory → (result ≡ 3) ⊎ (result ≡ 4)) }
-    // Otherwise nothing was written; or all answers, and one of them is an error (status 1), or they leave out triples (1,
-    // or 4 if there is no memory for the message); or an error with this status, or lack of memory for its message, ended
+    ensures done { result ≡ 0
+        → AnswersOverFile options (F.remaining (inner file.old)) (F.remaining (inner file.new))
+        (R.remaining (inner input.old))
+        (W.contents (inner out.old)) (W.contents (inner out.new)) (plain_report false) }
+    ensures unfailed { result ≡ 0 → failures out.new ≡ failures out.old }
+    // Otherwise nothing was written; or all answers, and one of them is an error (status 1), or they leave out triples
+    // (1,
+    // or 4 if there is no memory for the message); or an error with this status, or lack of memory for its message,
+    // ended
     // the answers.
     ensures stopped { result ≢ 0 → (out.new ≡ out.old)
-        ⊎ ((report : AnswerReport) × IsReportStatus report result × MatchResult file (λ file. (after : Option (List ℕ)) × AnswersOverFile options (F.remaining file) after
-        (R.remaining (inner input.old)) (W.contents (inner out.old)) (W.contents (inner out.new)) report) (λ _. ⊥))
-        ⊎ ((e : ToolFault) × ((result ≡ fault_status e) ⊎ (result ≡ 4)) × MatchResult file (λ file. (after : Option (List ℕ)) × AnswersOverFileUntilFault options (F.remaining file) after
-        (R.remaining (inner input.old)) (R.remaining (inner input.new)) (W.contents (inner out.old)) (W.contents (inner out.new))
-        (failures out.old) (failures out.new) e) (λ _. ⊥)) }
+        ⊎ ((report : AnswerReport) × IsReportStatus report result
+        × AnswersOverFile options (F.remaining (inner file.old)) (F.remaining (inner file.new))
+        (R.remaining (inner input.old)) (W.contents (inner out.old)) (W.contents (inner out.new)) report)
+        ⊎ ((e : ToolFault) × ((result ≡ fault_status e) ⊎ (result ≡ 4))
+        × AnswersOverFileUntilFault options (F.remaining (inner file.old)) (F.remaining (inner file.new))
+        (R.remaining (inner input.old)) (R.remaining (inner input.new)) (W.contents (inner out.old))
+        (W.contents (inner out.new))
+        (failures out.old) (failures out.new) e) }
 {
-    let mut file = match file {
-        Ok(file) => Counted::new(file),
-        Err(why) => return done(rt, subject, Err(file_fault(&why, ToolFault::Read))),
-    };
-    answers_status(
-        rt,
-        subject,
-        answer_file(rt.alloc(), options, &mut file, capacity, input, out),
-    )
+    let outcome = answer_file(rt.alloc(), options, file, capacity, input, out);
+    answers_status(rt, source, outcome)
 }
 
 /// Serves the requests of standard input on standard output, and returns the status.
 fn run_answer_on_streams(
     rt: &HostRuntime,
-    subject: Subject<'_>,
+    source: ErrorSource<'_>,
     path: &str,
     options: AnswerOptions,
 ) -> u8
     ensures { IsCommandStatus result }
 {
-    let session = subject.session;
-    let file = open_input(rt, path, session);
-    let capacity = known_size(&file);
+    let session = source.session;
+    let file = match open_input(rt, path, session) {
+        Ok(file) => file,
+        Err(error) => return open_failed(rt, source, &error),
+    };
+    let capacity = file.capacity();
+    let mut file = Counted::new(file);
     let mut input = Counted::new(session.watch(rt.stdin()));
     let mut out = Counted::new(session.watch(io::writer(rt)));
-    run_answer(rt, subject, options, file, capacity, &mut input, &mut out)
+    run_answer(
+        rt, source, options, &mut file, capacity, &mut input, &mut out,
+    )
 }
 
-/// Runs the request of these arguments, and returns the exit status: 0 success, 1 the input is not valid, 2 a usage
-/// error or a `build` that would overwrite its input, 3 reading or writing failed, 4 out of memory. Cost: that of
-/// [`run`](crate::run).
-pub fn status_of(rt: &HostRuntime, words: io::Result<Vec<String>>) -> u8
-    ensures given { IfOk words (λ words. Ends (map string_bytes words.items) result) }
+/// Runs the command line and returns the exit status: 0 success or help; 1 invalid input, no result, an erroneous
+/// answer, a faulty line, or triples left out; 2 invalid arguments or options, or an output that would overwrite an
+/// input or an existing folder; 3 reading or writing failed; 4 out of memory. Cost: that of [`run`](crate::run).
+pub(crate) fn status_of(rt: &HostRuntime, words: io::Result<Vec<String>>) -> u8
+    ensures given { IfOk words (λ words. ExitsWith (map string_bytes words.items) result) }
     ensures memory { IfErr words (λ error. error_kind error ≡ ErrorKind.OutOfMemory → result ≡ 4) }
     ensures other { IfErr words (λ error. error_kind error ≢ ErrorKind.OutOfMemory → (result ≡ 2) ⊎ (result ≡ 4)) }
 {
     let invocation = match parse_process_arguments(rt.alloc(), &words) {
         Ok(invocation) => invocation,
-        Err(fault) => return refuse(rt, &words, fault),
+        Err(fault) => return refusal_status(rt, &words, fault),
     };
     let request = &invocation.request;
     let session = Session::new(rt, &invocation);
-    let subject = Subject::of(&invocation, &session);
+    let source = ErrorSource::of(&invocation, &session);
     if let Some(path) = &request.out {
         let path = output_path(path.as_str());
         if writes_over_its_input(rt, request, path) {
             return print_error_line(rt, 2, SAME_FILE_MESSAGE);
         }
-        return done(rt, subject, make_file_at(rt, &session, request, path));
+        return command_status(rt, source, make_file_at(rt, &session, request, path));
     }
     match &request.action {
         Action::Answer(options) => {
-            run_answer_on_streams(rt, subject, request.file.as_str(), *options)
+            run_answer_on_streams(rt, source, request.file.as_str(), *options)
         }
         Action::Lint { keep, most } => {
-            lint_path(rt, subject, request.file.as_str(), *keep, *most)
+            lint_path(rt, source, request.file.as_str(), *keep, *most)
         }
-        Action::Split(options) => run_split(rt, subject, request, options),
-        Action::SkipNonTerms { .. } | Action::VerifyTerms { .. } => {
-            run_report_on_streams(rt, subject, &invocation)
-        }
+        Action::Split(options) => run_split(rt, source, request, options),
         _ => {
-            let file = open_input(rt, request.file.as_str(), &session);
-            let capacity = known_size(&file);
-            let mut out = Counted::new(session.watch(io::writer(rt)));
-            let status = run_query(rt, subject, request, file, capacity, &mut out);
-            print_prefix_hint(rt, subject, request, status);
+            let input = match open_input(rt, request.file.as_str(), source.session) {
+                Ok(input) => input,
+                Err(error) => return open_failed(rt, source, &error),
+            };
+            let capacity = input.capacity();
+            let mut input = Counted::new(input);
+            let mut out = Counted::new(source.session.watch(io::writer(rt)));
+            let status = run_query(rt, source, &request.action, &mut input, capacity, &mut out);
+            print_prefix_hint(rt, source, request, status);
             status
         }
     }

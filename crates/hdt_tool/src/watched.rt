@@ -4,8 +4,8 @@ ghost use Rattle.std.specs.Prelude.{◌≡◌};
 use crate::session::Session;
 use std::io::{self, Read, Write};
 
-/// A reader or writer whose errors a session notes. If it may share a terminal with the line of progress, this is removed
-/// before each call.
+/// A reader or writer whose errors a session notes. If it may share a terminal with the line of progress, this is
+/// removed before each call.
 #[derive(Drop)]
 pub(crate) struct Watched<'a, T> {
     inner: T,
@@ -49,7 +49,7 @@ impl<R: Read> Read for Watched<'_, R> {
         if self.shares_terminal {
             session.clear();
         }
-        session.note(self.inner.read(buf))
+        session.note_error(self.inner.read(buf))
     }
 }
 
@@ -68,13 +68,13 @@ impl<W: Write> Write for Watched<'_, W> {
         if self.shares_terminal {
             session.begin_output();
         }
-        session.note(self.inner.write(buf))
+        session.note_error(self.inner.write(buf))
     }
 
     fn flush(&mut self) -> io::Result<()>
         ensures bytes { Keeps (W.contents self.old.inner) (W.contents self.new.inner) }
     {
         let session = self.session;
-        session.note(self.inner.flush())
+        session.note_error(self.inner.flush())
     }
 }

@@ -8,8 +8,10 @@ use Rattle.hdt_triples.specs.TripleSequences.{Triple}
 use Rattle.hdt_triples.specs.Patterns.{admits, agrees}
 
 -- A triple matches if each of its three IDs does.
-pub agrees_by_parts : (p : Pattern) (t : Triple) (a b c : Bool) → admits p.s t.0 ≡ a → admits p.p t.1 ≡ b → admits p.o t.2 ≡ c → agrees p t ≡ (a && b && c)
-agrees_by_parts p t a b c x y z = ap (λ d. d && admits p.p t.1 && admits p.o t.2) x ∙ ap (λ d. a && d && admits p.o t.2) y ∙ ap (λ d. a && b && d) z
+pub agrees_by_parts : (p : Pattern) (t : Triple) (a b c : Bool) → admits p.s t.0 ≡ a → admits p.p t.1 ≡ b
+    → admits p.o t.2 ≡ c → agrees p t ≡ (a && b && c)
+agrees_by_parts p t a b c x y z = ap (λ d. d && admits p.p t.1 && admits p.o t.2) x
+    ∙ ap (λ d. a && d && admits p.o t.2) y ∙ ap (λ d. a && b && d) z
 
 -- A given ID admits itself,
 pub admitted : (g : Option ℕ) (m n : ℕ) → g ≡ Some m → n ≡ m → admits g n ≡ true
@@ -20,10 +22,14 @@ refused : (g : Option ℕ) (m n : ℕ) → g ≡ Some m → n ≢ m → admits g
 refused g m n given ne = ap (λ x. admits x n) given ∙ ne_eqb m n (λ e. ne (sym e))
 
 pub other_subject : (p : Pattern) (s : ℕ) (t : Triple) → p.s ≡ Some s → t.0 ≢ s → agrees p t ≡ false
-other_subject p s t given ne = and_left (admits p.s t.0 && admits p.p t.1) (admits p.o t.2) (and_left (admits p.s t.0) (admits p.p t.1) (refused p.s s t.0 given ne))
+other_subject p s t given ne =
+    and_left (admits p.s t.0 && admits p.p t.1) (admits p.o t.2)
+    (and_left (admits p.s t.0) (admits p.p t.1) (refused p.s s t.0 given ne))
 
 pub other_predicate : (p : Pattern) (q : ℕ) (t : Triple) → p.p ≡ Some q → t.1 ≢ q → agrees p t ≡ false
-other_predicate p q t given ne = and_left (admits p.s t.0 && admits p.p t.1) (admits p.o t.2) (and_right (admits p.s t.0) (admits p.p t.1) (refused p.p q t.1 given ne))
+other_predicate p q t given ne =
+    and_left (admits p.s t.0 && admits p.p t.1) (admits p.o t.2)
+    (and_right (admits p.s t.0) (admits p.p t.1) (refused p.p q t.1 given ne))
 
 pub other_object : (p : Pattern) (o : ℕ) (t : Triple) → p.o ≡ Some o → t.2 ≢ o → agrees p t ≡ false
 other_object p o t given ne = and_right (admits p.s t.0 && admits p.p t.1) (admits p.o t.2) (refused p.o o t.2 given ne)

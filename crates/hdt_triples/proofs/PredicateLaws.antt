@@ -18,10 +18,13 @@ use Rattle.std.proofs.Math.Nat.{lt_of_not-le}
 use Rattle.hdt_triples.proofs.InvertedIndexLaws.{IsFirstPosition, first_position, no_position, positions_from_start}
 
 -- If no pair remains, no triple does.
-pub predicate_over : (f : BitmapTriples) (p at : ℕ) (rest : List ℕ) → AreConsistentSequences f → IsBeforePair f p rest at → rest ≡ [] → matches (of_predicate p) (triples_from f at) ≡ []
+pub predicate_over : (f : BitmapTriples) (p at : ℕ) (rest : List ℕ) → AreConsistentSequences f
+    → IsBeforePair f p rest at → rest ≡ [] → matches (of_predicate p) (triples_from f at) ≡ []
 predicate_over f p at rest marked s none =
     none_left (of_predicate p) f at s.within
-    (λ i l w. other_predicate (of_predicate p) p (triple_at f i) refl (no_position f.array_y p (pair_of f at) (sym none ∙ s.rest_is) (pair_of f i) (ones_before_mono f.bitmap_z at i l) (pair_within f marked i w)))
+    (λ i l w. other_predicate (of_predicate p) p (triple_at f i) refl
+    (no_position f.array_y p (pair_of f at) (sym none
+    ∙ s.rest_is) (pair_of f i) (ones_before_mono f.bitmap_z at i l) (pair_within f marked i w)))
 
 -- Index `at` has the first triple of pair q.
 pub record Begins (f : BitmapTriples) (q at : ℕ) : Type 0 where
@@ -30,18 +33,22 @@ pub record Begins (f : BitmapTriples) (q at : ℕ) : Type 0 where
   pub earlier : (i : ℕ) → i < at → pair_of f i < q
 
 -- The next pair of the predicate.
-pub next_of : (f : BitmapTriples) (p at q : ℕ) (rest qs : List ℕ) → IsBeforePair f p rest at → rest ≡ q ∷ qs → IsFirstPosition f.array_y p (pair_of f at) q qs
+pub next_of : (f : BitmapTriples) (p at q : ℕ) (rest qs : List ℕ) → IsBeforePair f p rest at → rest ≡ q ∷ qs
+    → IsFirstPosition f.array_y p (pair_of f at) q qs
 next_of f p at q rest qs s split = first_position f.array_y p (pair_of f at) q qs (sym split ∙ s.rest_is)
 
-pub predicate_entered : (f : BitmapTriples) (p q at start : ℕ) (rest qs : List ℕ) → AreConsistentSequences f → IsBeforePair f p rest at → rest ≡ q ∷ qs → Begins f q start
+pub predicate_entered : (f : BitmapTriples) (p q at start : ℕ) (rest qs : List ℕ) → AreConsistentSequences f
+    → IsBeforePair f p rest at → rest ≡ q ∷ qs → Begins f q start
     → matches (of_predicate p) (triples_from f at) ≡ matches (of_predicate p) (triples_from f start)
 predicate_entered f p q at start rest qs marked s split b =
     let first = next_of f p at q rest qs s split in
     let h : at ≤ start = not_less at start (λ l. omega (arith, s.earlier start l, b.is, first.from)) in
     jumped (of_predicate p) f at start h (omega (arith, b.within))
-    (λ i l w. other_predicate (of_predicate p) p (triple_at f i) refl (first.before (pair_of f i) (ones_before_mono f.bitmap_z at i l) (b.earlier i w)))
+    (λ i l w. other_predicate (of_predicate p) p (triple_at f i) refl
+    (first.before (pair_of f i) (ones_before_mono f.bitmap_z at i l) (b.earlier i w)))
 
-pub inside_entered : (f : BitmapTriples) (p q at start subject : ℕ) (rest qs : List ℕ) → IsBeforePair f p rest at → rest ≡ q ∷ qs → Begins f q start → subject ≡ subject_at f q → IsWithinPair f p qs start subject
+pub inside_entered : (f : BitmapTriples) (p q at start subject : ℕ) (rest qs : List ℕ) → IsBeforePair f p rest at
+    → rest ≡ q ∷ qs → Begins f q start → subject ≡ subject_at f q → IsWithinPair f p qs start subject
 inside_entered f p q at start subject rest qs s split b subject_is =
     let first = next_of f p at q rest qs s split in
     record {
@@ -52,7 +59,8 @@ inside_entered f p q at start subject rest qs s split b subject_is =
     }
 
 -- After a 0-bit the next triple is of the same pair.
-pub inside_goes_on : (f : BitmapTriples) (p at subject : ℕ) (rest : List ℕ) → AreConsistentSequences f → IsWithinPair f p rest at subject → slice_get f.bitmap_z at ≡ Some false → IsWithinPair f p rest (at + 1) subject
+pub inside_goes_on : (f : BitmapTriples) (p at subject : ℕ) (rest : List ℕ) → AreConsistentSequences f
+    → IsWithinPair f p rest at subject → slice_get f.bitmap_z at ≡ Some false → IsWithinPair f p rest (at + 1) subject
 inside_goes_on f p at subject rest marked s mark =
     let e : pair_of f (at + 1) ≡ pair_of f at = ones_before_after_0_bit f.bitmap_z at mark in
     record {
@@ -65,7 +73,8 @@ inside_goes_on f p at subject rest marked s mark =
     }
 
 -- After a 1-bit the pair has ended.
-pub inside_ends : (f : BitmapTriples) (p at subject : ℕ) (rest : List ℕ) → IsWithinPair f p rest at subject → slice_get f.bitmap_z at ≡ Some true → IsBeforePair f p rest (at + 1)
+pub inside_ends : (f : BitmapTriples) (p at subject : ℕ) (rest : List ℕ) → IsWithinPair f p rest at subject
+    → slice_get f.bitmap_z at ≡ Some true → IsBeforePair f p rest (at + 1)
 inside_ends f p at subject rest s mark =
     let e : pair_of f (at + 1) ≡ pair_of f at + 1 = ones_before_after_1_bit f.bitmap_z at mark in
     record {
@@ -75,32 +84,48 @@ inside_ends f p at subject rest s mark =
     }
 
 pub predicate_taken : (f : BitmapTriples) (p at subject : ℕ) (rest : List ℕ) → IsWithinPair f p rest at subject
-    → matches (of_predicate p) (triples_from f at) ≡ (subject, p, slice_index f.array_z at) ∷ matches (of_predicate p) (triples_from f (at + 1))
+    → matches (of_predicate p) (triples_from f at) ≡ (subject, p, slice_index f.array_z at)
+    ∷ matches (of_predicate p) (triples_from f (at + 1))
 predicate_taken f p at subject rest s =
     matches_taken (of_predicate p) f at s.within (own_predicate p (triple_at f at) s.predicate_is)
-    ∙ ap (λ t. t ∷ matches (of_predicate p) (triples_from f (at + 1))) (parts_are f at subject p (sym s.subject_is) s.predicate_is)
+    ∙ ap (λ t. t ∷ matches (of_predicate p) (triples_from f (at + 1)))
+    (parts_are f at subject p (sym s.subject_is) s.predicate_is)
 
-pub between_first : (f : BitmapTriples) (p : ℕ) (rest : List ℕ) → rest ≡ positions_of f.array_y p → IsBeforePair f p rest 0
+pub between_first : (f : BitmapTriples) (p : ℕ) (rest : List ℕ) → rest ≡ positions_of f.array_y p
+    → IsBeforePair f p rest 0
 between_first f p rest is = record {
   within = omega arith;
   rest_is = is ∙ positions_from_start f.array_y p ∙ ap (positions_from f.array_y p) (sym (ones_before_at_0 f.bitmap_z));
   earlier = λ i h. absurd (omega (arith, h));
 }
 
-pub predicate_budget_first : (f : BitmapTriples) (p steps : ℕ) → steps ≤ 20 → IsWithinBudget (predicate_cost f p) f steps (triples_from f 0)
+pub predicate_budget_first : (f : BitmapTriples) (p steps : ℕ) → steps ≤ 20
+    → IsWithinBudget (predicate_cost f p) f steps (triples_from f 0)
 unfolding limit predicate_cost lookup_cost
-predicate_budget_first f p steps few = omega (arith, few, ap (λ ts. (digits (groups f.bitmap_y) + digits (groups f.bitmap_z) + 20) * length (matches (of_predicate p) ts)) (from_start f))
+predicate_budget_first f p steps few =
+    omega (
+      arith,
+      few,
+      ap (λ ts. (digits (groups f.bitmap_y) + digits (groups f.bitmap_z) + 20) * length
+          (matches (of_predicate p) ts)) (from_start f),
+    )
 
-pub predicate_budget_step : (f : BitmapTriples) (p at start subject steps after : ℕ) (rest : List ℕ) → matches (of_predicate p) (triples_from f at) ≡ matches (of_predicate p) (triples_from f start) → IsWithinPair f p rest start subject
-    → after ≤ steps + (digits (groups f.bitmap_z) + 19) → IsWithinBudget (predicate_cost f p) f steps (triples_from f at) → IsWithinBudget (predicate_cost f p) f after (triples_from f (start + 1))
+pub predicate_budget_step : (f : BitmapTriples) (p at start subject steps after : ℕ) (rest : List ℕ)
+    → matches (of_predicate p) (triples_from f at) ≡ matches (of_predicate p) (triples_from f start)
+    → IsWithinPair f p rest start subject
+    → after ≤ steps + (digits (groups f.bitmap_z) + 19)
+    → IsWithinBudget (predicate_cost f p) f steps (triples_from f at)
+    → IsWithinBudget (predicate_cost f p) f after (triples_from f (start + 1))
 unfolding limit predicate_cost lookup_cost
 predicate_budget_step f p at start subject steps after rest lookup_cost s few pays =
-    let count : length (matches (of_predicate p) (triples_from f at)) ≡ suc (length (matches (of_predicate p) (triples_from f (start + 1)))) =
+    let count : length (matches (of_predicate p) (triples_from f at))
+    ≡ suc (length (matches (of_predicate p) (triples_from f (start + 1)))) =
     ap length (lookup_cost ∙ predicate_taken f p start subject rest s) in
     omega (arith, few, pays, ap (λ n. (digits (groups f.bitmap_y) + digits (groups f.bitmap_z) + 20) * n) count)
 
 -- The position after a triple of the current pair.
-pub advanced_cursor : (f : BitmapTriples) (p : ℕ) (s : PredicateCursor) (last : Bool) → AreConsistentSequences f → s.inside ≡ true → slice_get f.bitmap_z s.at ≡ Some last → IsPredicateCursor f p s
+pub advanced_cursor : (f : BitmapTriples) (p : ℕ) (s : PredicateCursor) (last : Bool) → AreConsistentSequences f
+    → s.inside ≡ true → slice_get f.bitmap_z s.at ≡ Some last → IsPredicateCursor f p s
     → IsPredicateCursor f p (record { rest = s.rest; at = s.at + 1; subject = s.subject; inside = not last })
 advanced_cursor f p s true marked inside is st = record {
   between = λ u. inside_ends f p s.at s.subject s.rest.now (st.inside inside) is;

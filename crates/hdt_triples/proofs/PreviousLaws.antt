@@ -7,10 +7,14 @@ pub earlier_first : (marks : List Bool) (xs : List ℕ) → previous_in_group ma
 unfolding previous_in_group
 earlier_first marks xs = refl
 
-pub earlier_marked : (marks : List Bool) (xs : List ℕ) (i : ℕ) → slice_get marks i ≡ Some true → previous_in_group marks xs (i + 1) ≡ 0
+pub earlier_marked : (marks : List Bool) (xs : List ℕ) (i : ℕ) → slice_get marks i ≡ Some true
+    → previous_in_group marks xs (i + 1) ≡ 0
 unfolding previous_in_group
-earlier_marked marks xs i h = ap (previous_in_group marks xs) (add-one i) ∙ ap (λ b. cond b 0 (slice_index xs i)) (get_or_from_slice_get marks i true false h)
+earlier_marked marks xs i h = ap (previous_in_group marks xs) (add-one i)
+    ∙ ap (λ b. cond b 0 (slice_index xs i)) (get_or_from_slice_get marks i true false h)
 
-pub earlier_unmarked : (marks : List Bool) (xs : List ℕ) (i : ℕ) → slice_get marks i ≡ Some false → previous_in_group marks xs (i + 1) ≡ slice_index xs i
+pub earlier_unmarked : (marks : List Bool) (xs : List ℕ) (i : ℕ) → slice_get marks i ≡ Some false
+    → previous_in_group marks xs (i + 1) ≡ slice_index xs i
 unfolding previous_in_group
-earlier_unmarked marks xs i h = ap (previous_in_group marks xs) (add-one i) ∙ ap (λ b. cond b 0 (slice_index xs i)) (get_or_from_slice_get marks i false false h)
+earlier_unmarked marks xs i h = ap (previous_in_group marks xs) (add-one i)
+    ∙ ap (λ b. cond b 0 (slice_index xs i)) (get_or_from_slice_get marks i false false h)

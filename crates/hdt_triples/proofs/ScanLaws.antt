@@ -21,15 +21,19 @@ range_first a b h = let e : b - a ≡ suc (b - (a + 1)) = omega arith in ap (ran
 pub range_none : (a b : ℕ) → b ≤ a → range_with_len a (b - a) ≡ []
 range_none a b h = let e : b - a ≡ 0 = omega arith in ap (range_with_len a) e
 
-pub parts_are : (f : BitmapTriples) (j s p : ℕ) → subject_at f (pair_of f j) ≡ s → slice_index f.array_y (pair_of f j) ≡ p → triple_at f j ≡ (s, p, slice_index f.array_z j)
-parts_are f j s p e h = ap (λ x. let t : Triple = (x, slice_index f.array_y (pair_of f j), slice_index f.array_z j) in t) e ∙ ap (λ y. let t : Triple = (s, y, slice_index f.array_z j) in t) h
+pub parts_are : (f : BitmapTriples) (j s p : ℕ) → subject_at f (pair_of f j) ≡ s
+    → slice_index f.array_y (pair_of f j) ≡ p → triple_at f j ≡ (s, p, slice_index f.array_z j)
+parts_are f j s p e h = ap (λ x. let t : Triple = (x, slice_index f.array_y (pair_of f j), slice_index f.array_z j) in
+    t) e ∙ ap (λ y. let t : Triple = (s, y, slice_index f.array_z j) in t) h
 
 -- The triples from index 0 on are all triples.
 pub from_start : (f : BitmapTriples) → triples_from f 0 ≡ triples_of f
 unfolding triples_from triples_of
-from_start f = let e : length f.array_z - 0 ≡ length f.array_z = omega arith in ap (λ (n : ℕ). map (triple_at f) (range_with_len 0 n)) e
+from_start f = let e : length f.array_z - 0 ≡ length f.array_z = omega arith in
+    ap (λ (n : ℕ). map (triple_at f) (range_with_len 0 n)) e
 
-pub from_first : (f : BitmapTriples) (j : ℕ) → j < length f.array_z → triples_from f j ≡ triple_at f j ∷ triples_from f (j + 1)
+pub from_first : (f : BitmapTriples) (j : ℕ) → j < length f.array_z
+    → triples_from f j ≡ triple_at f j ∷ triples_from f (j + 1)
 unfolding triples_from
 from_first f j h = ap (map (triple_at f)) (range_first j (length f.array_z) h)
 
@@ -42,20 +46,23 @@ pub matches_taken : (p : Pattern) (f : BitmapTriples) (j : ℕ) → j < length f
 unfolding matches
 matches_taken p f j h took =
     ap (filter (agrees p)) (from_first f j h)
-    ∙ ap (λ b. cond b (triple_at f j ∷ filter (agrees p) (triples_from f (j + 1))) (filter (agrees p) (triples_from f (j + 1)))) took
+    ∙ ap (λ b. cond b (triple_at f j ∷ filter (agrees p) (triples_from f (j + 1)))
+    (filter (agrees p) (triples_from f (j + 1)))) took
 
 pub matches_passed : (p : Pattern) (f : BitmapTriples) (j : ℕ) → j < length f.array_z → agrees p (triple_at f j) ≡ false
     → matches p (triples_from f j) ≡ matches p (triples_from f (j + 1))
 unfolding matches
 matches_passed p f j h passed =
     ap (filter (agrees p)) (from_first f j h)
-    ∙ ap (λ b. cond b (triple_at f j ∷ filter (agrees p) (triples_from f (j + 1))) (filter (agrees p) (triples_from f (j + 1)))) passed
+    ∙ ap (λ b. cond b (triple_at f j ∷ filter (agrees p) (triples_from f (j + 1)))
+    (filter (agrees p) (triples_from f (j + 1)))) passed
 
 pub matches_none : (p : Pattern) (f : BitmapTriples) (j : ℕ) → length f.array_z ≤ j → matches p (triples_from f j) ≡ []
 unfolding matches
 matches_none p f j h = ap (filter (agrees p)) (from_end f j h)
 
-jumped_by : (n : ℕ) (p : Pattern) (f : BitmapTriples) (j k : ℕ) → j + n ≡ k → k ≤ length f.array_z → ((i : ℕ) → j ≤ i → i < k → agrees p (triple_at f i) ≡ false)
+jumped_by : (n : ℕ) (p : Pattern) (f : BitmapTriples) (j k : ℕ) → j + n ≡ k → k ≤ length f.array_z
+    → ((i : ℕ) → j ≤ i → i < k → agrees p (triple_at f i) ≡ false)
     → matches p (triples_from f j) ≡ matches p (triples_from f k)
 jumped_by zero p f j k e h none = ap (λ i. matches p (triples_from f i)) (let same : j ≡ k = omega (arith, e) in same)
 jumped_by (suc n) p f j k e h none =
@@ -63,22 +70,31 @@ jumped_by (suc n) p f j k e h none =
     ∙ jumped_by n p f (j + 1) k (omega (arith, e)) h (λ i l w. none i (omega (arith, l)) w)
 
 -- Indices without a match can be passed over.
-pub jumped : (p : Pattern) (f : BitmapTriples) (j k : ℕ) → j ≤ k → k ≤ length f.array_z → ((i : ℕ) → j ≤ i → i < k → agrees p (triple_at f i) ≡ false)
+pub jumped : (p : Pattern) (f : BitmapTriples) (j k : ℕ) → j ≤ k → k ≤ length f.array_z
+    → ((i : ℕ) → j ≤ i → i < k → agrees p (triple_at f i) ≡ false)
     → matches p (triples_from f j) ≡ matches p (triples_from f k)
 jumped p f j k l h none = jumped_by (k - j) p f j k (omega (arith, l)) h none
 
 -- There is no match before index j.
-pub skipped : (p : Pattern) (f : BitmapTriples) (j : ℕ) → j ≤ length f.array_z → ((i : ℕ) → i < j → agrees p (triple_at f i) ≡ false) → matches p (triples_of f) ≡ matches p (triples_from f j)
+pub skipped : (p : Pattern) (f : BitmapTriples) (j : ℕ) → j ≤ length f.array_z
+    → ((i : ℕ) → i < j → agrees p (triple_at f i) ≡ false) → matches p (triples_of f) ≡ matches p (triples_from f j)
 skipped p f j h none = ap (matches p) (sym (from_start f)) ∙ jumped p f 0 j (omega arith) h (λ i l w. none i w)
 
 -- There is no match from index j on.
-pub none_left : (p : Pattern) (f : BitmapTriples) (j : ℕ) → j ≤ length f.array_z → ((i : ℕ) → j ≤ i → i < length f.array_z → agrees p (triple_at f i) ≡ false) → matches p (triples_from f j) ≡ []
-none_left p f j h none = jumped p f j (length f.array_z) h (omega arith) none ∙ matches_none p f (length f.array_z) (omega arith)
+pub none_left : (p : Pattern) (f : BitmapTriples) (j : ℕ) → j ≤ length f.array_z
+    → ((i : ℕ) → j ≤ i → i < length f.array_z → agrees p (triple_at f i) ≡ false) → matches p (triples_from f j) ≡ []
+none_left p f j h none = jumped p f j (length f.array_z) h (omega arith) none
+    ∙ matches_none p f (length f.array_z) (omega arith)
 
 -- There are at most as many matches as triples,
 pub matches_few : (p : Pattern) (f : BitmapTriples) → length (matches p (triples_of f)) ≤ length f.array_z
 unfolding matches
-matches_few p f = omega (arith, length-filter (agrees p) (triples_of f), count_by-le-length (agrees p) (triples_of f), length-triples f)
+matches_few p f = omega (
+  arith,
+  length-filter (agrees p) (triples_of f),
+  count_by-le-length (agrees p) (triples_of f),
+  length-triples f,
+)
 
 -- so their number is below 2^64.
 pub matches_fit : (p : Pattern) (t : Triples) → length (matches p (triples_of (triples_view t))) < 2 ^ 64

@@ -36,7 +36,11 @@ subject_cost f s = record { base = lookup_cost f; each = 4; counted = of_subject
 -- A subject and a predicate: two searches by rank and select, a binary search among the pairs and one among the
 -- triples, and 4 for each match.
 unfoldable pub pair_cost : BitmapTriples → Pattern → CostBound
-pair_cost f p = record { base = 2 * lookup_cost f + digits (length f.array_y) + digits (length f.array_z); each = 4; counted = p }
+pair_cost f p = record {
+  base = 2 * lookup_cost f + digits (length f.array_y) + digits (length f.array_z);
+  each = 4;
+  counted = p;
+}
 
 -- Only a predicate: a search by rank and select for each match.
 unfoldable pub predicate_cost : BitmapTriples → ℕ → CostBound
@@ -78,7 +82,8 @@ abbrev pub shorter_list_steps_by : BitmapTriples → Pattern → Option ℕ → 
 shorter_list_steps_by f pattern None (Some p) (Some o) = pair_search_cost f * (1 + length (positions_of f.array_y p))
 -- A subject and an object: one search by rank and select, and four searches in the object's list for each match and for
 -- one more.
-shorter_list_steps_by f pattern (Some s) None (Some o) = lookup_cost f + 4 * list_search_cost f o * (1 + match_count pattern f)
+shorter_list_steps_by f pattern (Some s) None (Some o) =
+    lookup_cost f + 4 * list_search_cost f o * (1 + match_count pattern f)
 shorter_list_steps_by f pattern s p o = most_steps_by f pattern s p o
 
 -- The table of steps of a search that uses the shorter of two lists.
@@ -107,10 +112,12 @@ counting_steps f p = counting_steps_by f p.s p.p p.o
 
 abbrev pub shorter_list_counting_steps_by : BitmapTriples → ℕ → Option ℕ → Option ℕ → Option ℕ → ℕ
 -- A subject and an object: two searches by rank and select, and two binary searches in the object's list.
-shorter_list_counting_steps_by f most (Some s) None (Some o) = 2 * lookup_cost f + 2 * digits (match_count (of_object o) f)
+shorter_list_counting_steps_by f most (Some s) None (Some o) =
+    2 * lookup_cost f + 2 * digits (match_count (of_object o) f)
 -- Only a predicate: a scan of all triples, or two searches by rank and select for each pair that is read, and for one
 -- more.
-shorter_list_counting_steps_by f most None (Some p) None = min (2 + 4 * length f.array_z) (2 * lookup_cost f * (1 + min most (length (positions_of f.array_y p))))
+shorter_list_counting_steps_by f most None (Some p) None =
+    min (2 + 4 * length f.array_z) (2 * lookup_cost f * (1 + min most (length (positions_of f.array_y p))))
 shorter_list_counting_steps_by f most s p o = counting_steps_by f s p o
 
 -- The same if the shorter of two lists is used and counting stops at `most` matches.
@@ -125,7 +132,8 @@ scan_steps_by f s p o = 4 * length f.array_z
 unfoldable pub scan_steps : BitmapTriples → Pattern → ℕ
 scan_steps f p = scan_steps_by f p.s p.p p.o
 
--- Finding where a search from a triple on begins: three searches by rank and select, a binary search among the pairs and
+-- Finding where a search from a triple on begins: three searches by rank and select, a binary search among the pairs
+-- and
 -- one among the triples.
 unfoldable pub start_cost : BitmapTriples → ℕ
 start_cost f = 3 * lookup_cost f + digits (length f.array_y) + digits (length f.array_z)

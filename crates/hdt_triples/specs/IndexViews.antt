@@ -1,8 +1,8 @@
 -- Views of triples with indexes, and the size of the indexes.
 use Rattle.std.specs.Prelude.{ℕ, ◌+◌, length}
 use Rattle.hdt_seq.specs.Directory.{groups}
-use Rattle.hdt_triples.specs.TripleSequences.{BitmapTriples, Counts}
-use Rattle.hdt_triples.specs.CountsView.{counts_view}
+use Rattle.hdt_triples.specs.TripleSequences.{BitmapTriples}
+use Rattle.hdt_triples.specs.declared.pattern.Counts.{Counts}
 use Rattle.hdt_triples.specs.declared.triples.Triples.{Triples}
 use Rattle.hdt_triples.specs.declared.indexed.IndexedTriples.{IndexedTriples}
 use Rattle.hdt_triples.specs.declared.listed_triples.ListedTriples.{ListedTriples}
@@ -17,7 +17,7 @@ triples_listed t = triples_indexed t.indexed
 
 -- The number of strings of each role, which the triples were checked against.
 abbrev pub string_counts : Triples → Counts
-string_counts t = counts_view t.counts
+string_counts t = t.counts
 
 -- The rank/select indexes hold, for each bitmap, a count for each group and the total.
 abbrev pub directories_held : BitmapTriples → ℕ

@@ -1,6 +1,5 @@
 pub mod Bounds
 pub mod TripleSequences
-pub mod CountsView
 pub mod Groups
 pub mod Remaining
 pub mod IndexViews

@@ -1,6 +1,7 @@
 -- Lists of triples: their order, the range of their IDs, and which of them can be written.
 use Rattle.std.specs.Prelude.{◌≡◌, ◌⊎◌, ℕ, ◌+◌, ◌<◌, ◌≤◌, ◌^◌, List, length, slice_index_or}
-use Rattle.hdt_triples.specs.TripleSequences.{Triple, Counts}
+use Rattle.hdt_triples.specs.TripleSequences.{Triple}
+use Rattle.hdt_triples.specs.declared.pattern.Counts.{Counts}
 
 -- Triple i of a list.
 abbrev pub nth_triple : List Triple → ℕ → Triple
@@ -27,7 +28,8 @@ AreInRange counts ts = (i : ℕ) → i < length ts → IsInRange counts (nth_tri
 
 -- No ID is above the count of its role.
 abbrev pub AreAtMostCounts : Counts → List Triple → Type 0
-AreAtMostCounts counts ts = (i : ℕ) → i < length ts → ((nth_triple ts i).0 ≤ counts.subjects) × ((nth_triple ts i).1 ≤ counts.predicates) × ((nth_triple ts i).2 ≤ counts.objects)
+AreAtMostCounts counts ts = (i : ℕ) → i < length ts → ((nth_triple ts i).0 ≤ counts.subjects)
+    × ((nth_triple ts i).1 ≤ counts.predicates) × ((nth_triple ts i).2 ≤ counts.objects)
 
 -- The counts of predicates and of objects are below 2^64.
 abbrev pub CountsFit64 : Counts → Type 0

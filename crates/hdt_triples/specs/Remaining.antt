@@ -15,9 +15,11 @@ unfoldable pub remaining_matches : Matches → List Triple
 remaining_matches Empty = []
 remaining_matches (Scan m) = matches m.pattern (triples_from (triples_view m.triples) m.position.at)
 remaining_matches (Subject m) = matches m.pattern (triples_from (triples_view m.triples) m.position.at)
-remaining_matches (SubjectObject m) = matches m.pattern (triples_from (triples_view m.indexed.now.triples) m.position.at)
+remaining_matches (SubjectObject m) =
+    matches m.pattern (triples_from (triples_view m.indexed.now.triples) m.position.at)
 remaining_matches (Pair m) = matches m.pattern (triples_from (triples_view m.triples) m.at)
-remaining_matches (Predicate m) = matches (of_predicate m.predicate) (triples_from (triples_view m.indexed.now.triples) m.cursor.at)
+remaining_matches (Predicate m) =
+    matches (of_predicate m.predicate) (triples_from (triples_view m.indexed.now.triples) m.cursor.at)
 remaining_matches (PredicateObject m) = matches m.pattern (triples_from (triples_view m.indexed.now.triples) m.at)
 remaining_matches (Object m) = matches m.pattern (map (triple_at (triples_view m.indexed.now.triples)) m.rest.now)
 
@@ -25,15 +27,22 @@ unfoldable pub step_limit : Matches → ℕ
 step_limit Empty = 0
 step_limit (Scan m) = 4 * length (triples_view m.triples).array_z
 step_limit (Subject m) = limit (subject_cost (triples_view m.triples) m.subject) (triples_view m.triples)
-step_limit (SubjectObject m) = limit (subject_cost (triples_view m.indexed.now.triples) m.subject) (triples_view m.indexed.now.triples)
+step_limit (SubjectObject m) =
+    limit (subject_cost (triples_view m.indexed.now.triples) m.subject) (triples_view m.indexed.now.triples)
 step_limit (Pair m) = limit (pair_cost (triples_view m.triples) m.pattern) (triples_view m.triples)
-step_limit (Predicate m) = limit (predicate_cost (triples_view m.indexed.now.triples) m.predicate) (triples_view m.indexed.now.triples)
+step_limit (Predicate m) =
+    limit (predicate_cost (triples_view m.indexed.now.triples) m.predicate) (triples_view m.indexed.now.triples)
 step_limit (PredicateObject m) = limit (object_cost m.object) (triples_view m.indexed.now.triples)
 step_limit (Object m) = limit (object_cost m.object) (triples_view m.indexed.now.triples)
 
 unfoldable pub shorter_list_step_limit : Matches → ℕ
-shorter_list_step_limit (PredicateObject m) = pair_search_cost (triples_view m.indexed.now.triples) * (1 + length (positions_of (triples_view m.indexed.now.triples).array_y m.predicate))
-shorter_list_step_limit (SubjectObject m) = min (limit (subject_cost (triples_view m.indexed.now.triples) m.subject) (triples_view m.indexed.now.triples)) (lookup_cost (triples_view m.indexed.now.triples) + 4 * list_search_cost (triples_view m.indexed.now.triples) m.object * (1 + match_count m.pattern (triples_view m.indexed.now.triples)))
+shorter_list_step_limit (PredicateObject m) =
+    pair_search_cost (triples_view m.indexed.now.triples) * (1 + length
+    (positions_of (triples_view m.indexed.now.triples).array_y m.predicate))
+shorter_list_step_limit (SubjectObject m) =
+    min (limit (subject_cost (triples_view m.indexed.now.triples) m.subject) (triples_view m.indexed.now.triples))
+    (lookup_cost (triples_view m.indexed.now.triples) + 4 * list_search_cost
+    (triples_view m.indexed.now.triples) m.object * (1 + match_count m.pattern (triples_view m.indexed.now.triples)))
 shorter_list_step_limit m = step_limit m
 
 unfoldable pub steps_taken : Matches → ℕ

@@ -2,7 +2,7 @@
 use Rattle.std.specs.Prelude.{◌≡◌, ℕ, ◌-◌, ◌≤◌, List, length, map}
 use Rattle.std.specs.List.{range_with_len}
 use Rattle.hdt_triples.specs.TripleSequences.{BitmapTriples, Triple, pair_of, subject_at, triple_at}
-use Rattle.hdt_triples.specs.declared.triple_position.TriplePosition.{TriplePosition}
+use Rattle.hdt_triples.specs.declared.triples.TriplePosition.{TriplePosition}
 
 -- p is the position of triple `at`, or the end position: its pair and its subject are those of the triple.
 pub record IsTriplePosition (f : BitmapTriples) (p : TriplePosition) : Type 0 where

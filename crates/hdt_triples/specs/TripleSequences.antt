@@ -3,6 +3,7 @@
 use Rattle.std.specs.Prelude.{◌≡◌, ℕ, ◌+◌, ◌-◌, ◌≤◌, ◌<◌, List, Bool, true, length, map, slice_index, slice_get, Some}
 use Rattle.std.specs.List.{range_with_len}
 use Rattle.hdt_seq.specs.RankSelect.{ones_before}
+use Rattle.hdt_triples.specs.declared.pattern.Counts.{Counts}
 
 abbrev pub Triple : Type 0
 Triple = ℕ × ℕ × ℕ
@@ -14,12 +15,6 @@ pub record BitmapTriples : Type 0 where
   pub bitmap_z : List Bool
   pub array_y : List ℕ
   pub array_z : List ℕ
-
--- The number of strings of each role.
-pub record Counts : Type 0 where
-  pub subjects : ℕ
-  pub predicates : ℕ
-  pub objects : ℕ
 
 -- The subject of pair q, from 1. Pairs are numbered from 0.
 abbrev pub subject_at : BitmapTriples → ℕ → ℕ
@@ -49,7 +44,8 @@ pub record AreConsistentSequences (f : BitmapTriples) : Type 0 where
 pub record AreAscendingGroups (marks : List Bool) (xs : List ℕ) (count : ℕ) : Type 0 where
   pub from : (i : ℕ) → i < length xs → 1 ≤ slice_index xs i
   pub to : (i : ℕ) → i < length xs → slice_index xs i ≤ count
-  pub ascend : (i : ℕ) → i + 1 < length xs → ones_before marks i ≡ ones_before marks (i + 1) → slice_index xs i < slice_index xs (i + 1)
+  pub ascend : (i : ℕ) → i + 1 < length xs → ones_before marks i ≡ ones_before marks (i + 1)
+      → slice_index xs i < slice_index xs (i + 1)
 
 -- The four sequences are valid: they are consistent, each ID is from 1 to the count of its role, and the predicates of
 -- a subject and the objects of a pair strictly ascend.

@@ -15,7 +15,8 @@ use Rattle.hdt_seq.specs.Bits.{bits_at}
 use Rattle.hdt_seq.specs.RankSelect.{ones_before}
 use Rattle.hdt_wire.specs.ItemChecks.{checks_from}
 use Rattle.hdt_seq.specs.ExactSequences.{IsLogSequenceAt, IsBitmapAt}
-use Rattle.hdt_triples.specs.TripleSequences.{BitmapTriples, Counts, AreValidSequences}
+use Rattle.hdt_triples.specs.TripleSequences.{BitmapTriples, AreValidSequences}
+use Rattle.hdt_triples.specs.declared.pattern.Counts.{Counts}
 
 -- A decoded triples section: its control information and its four sequences, each with its byte offsets.
 pub record TripleParts : Type 0 where
@@ -26,13 +27,14 @@ pub record TripleParts : Type 0 where
   pub array_z : Sequence ℕ
 
 abbrev pub bitmap_triples_of_sequences : Sequence Bool → Sequence Bool → Sequence ℕ → Sequence ℕ → BitmapTriples
-bitmap_triples_of_sequences bitmap_y bitmap_z array_y array_z = record { bitmap_y = bitmap_y.items; bitmap_z = bitmap_z.items; array_y = array_y.items; array_z = array_z.items }
+bitmap_triples_of_sequences bitmap_y bitmap_z array_y array_z =
+    record { bitmap_y = bitmap_y.items; bitmap_z = bitmap_z.items; array_y = array_y.items; array_z = array_z.items }
 
 abbrev pub bitmap_triples : TripleParts → BitmapTriples
 bitmap_triples t = bitmap_triples_of_sequences t.bitmap_y t.bitmap_z t.array_y t.array_z
 
 -- The triples section t is encoded at byte offset `at`, and its IDs are within the counts.
-pub record IsTriples (counts : Counts) (t : TripleParts) (bytes : List ℕ) (at : ℕ) : Type 0 where
+pub record IsTriplesAt (counts : Counts) (t : TripleParts) (bytes : List ℕ) (at : ℕ) : Type 0 where
   pub block : IsControlAt kinds.Triples t.block bytes at
   pub order : property_value t.block.properties (codes "order") ≡ Some (codes "1")
   pub bitmap_y : IsBitmapAt t.bitmap_y bytes t.block.end
@@ -54,41 +56,46 @@ previous_in_group marks xs (suc i) = if slice_index_or marks i false then 0 else
 
 -- Entry i is from 1 to the count, and greater than the previous one of its group.
 unfoldable pub entry_checks : List Bool → List ℕ → SequenceOffsets → ℕ → Reason → Reason → ℕ → Result (Unit {0}) Fault
-entry_checks marks xs places count range ascent i = do
-  _ ← demand (nat_le 1 (slice_index xs i) && nat_le (slice_index xs i) count) (entry_offset places i) range
-  demand (nat_lt (previous_in_group marks xs i) (slice_index xs i)) (entry_offset places i) ascent
+entry_checks marks xs offsets count range ascent i = do
+  _ ← demand (nat_le 1 (slice_index xs i) && nat_le (slice_index xs i) count) (entry_offset offsets i) range
+  demand (nat_lt (previous_in_group marks xs i) (slice_index xs i)) (entry_offset offsets i) ascent
 
 -- The subject of pair q is within the count, and its predicate passes the checks of an entry.
-unfoldable pub pair_checks : Counts → List Bool → SequenceOffsets → List ℕ → SequenceOffsets → ℕ → Result (Unit {0}) Fault
-pair_checks counts bitmap_y bitmap_y_places array_y array_y_places q = do
-  _ ← demand (nat_le (ones_before bitmap_y q + 1) counts.subjects) (entry_offset bitmap_y_places q) SubjectRange
-  entry_checks bitmap_y array_y array_y_places counts.predicates PredicateRange PredicatesNotAscending q
+unfoldable pub pair_checks : Counts → List Bool → SequenceOffsets → List ℕ → SequenceOffsets → ℕ
+    → Result (Unit {0}) Fault
+pair_checks counts bitmap_y bitmap_y_offsets array_y array_y_offsets q = do
+  _ ← demand (nat_le (ones_before bitmap_y q + 1) counts.subjects) (entry_offset bitmap_y_offsets q) SubjectRange
+  entry_checks bitmap_y array_y array_y_offsets counts.predicates PredicateRange PredicatesNotAscending q
 
 -- All pairs pass their checks.
 abbrev pub all_pair_checks : Counts → List Bool → SequenceOffsets → List ℕ → SequenceOffsets → Result (Unit {0}) Fault
-all_pair_checks counts bitmap_y bitmap_y_places array_y array_y_places = checks_from (pair_checks counts bitmap_y bitmap_y_places array_y array_y_places) 0 (length array_y)
+all_pair_checks counts bitmap_y bitmap_y_offsets array_y array_y_offsets =
+    checks_from (pair_checks counts bitmap_y bitmap_y_offsets array_y array_y_offsets) 0 (length array_y)
 
 -- All objects pass the checks of an entry.
 abbrev pub all_object_checks : List Bool → List ℕ → SequenceOffsets → ℕ → Result (Unit {0}) Fault
-all_object_checks bitmap_z array_z places count = checks_from (entry_checks bitmap_z array_z places count ObjectRange ObjectsNotAscending) 0 (length array_z)
+all_object_checks bitmap_z array_z offsets count =
+    checks_from (entry_checks bitmap_z array_z offsets count ObjectRange ObjectsNotAscending) 0 (length array_z)
 
 abbrev pub last_bit : List Bool → Bool
 last_bit marks = slice_index_or marks (length marks - 1) false
 
 -- The last bit is 1.
 abbrev pub last_bit_check : List Bool → SequenceOffsets → Result (Unit {0}) Fault
-last_bit_check marks places = demand (last_bit marks) (entry_offset places (length marks - 1)) LastMark
+last_bit_check marks offsets = demand (last_bit marks) (entry_offset offsets (length marks - 1)) LastMark
 
 -- The four sequences pass their checks, in this order.
-unfoldable pub sequence_checks : Counts → Sequence Bool → Sequence Bool → Sequence ℕ → Sequence ℕ → Result (Unit {0}) Fault
+unfoldable pub sequence_checks : Counts → Sequence Bool → Sequence Bool → Sequence ℕ → Sequence ℕ
+    → Result (Unit {0}) Fault
 sequence_checks counts bitmap_y bitmap_z array_y array_z = do
-  _ ← demand (length bitmap_y.items == length array_y.items) array_y.places.count LengthsDiffer
-  _ ← demand (length bitmap_z.items == length array_z.items) array_z.places.count LengthsDiffer
-  _ ← last_bit_check bitmap_y.items bitmap_y.places
-  _ ← last_bit_check bitmap_z.items bitmap_z.places
-  _ ← demand (ones_before bitmap_z.items (length bitmap_z.items) == length array_y.items) bitmap_z.places.count MarkCount
-  _ ← all_pair_checks counts bitmap_y.items bitmap_y.places array_y.items array_y.places
-  all_object_checks bitmap_z.items array_z.items array_z.places counts.objects
+  _ ← demand (length bitmap_y.items == length array_y.items) array_y.offsets.count LengthsDiffer
+  _ ← demand (length bitmap_z.items == length array_z.items) array_z.offsets.count LengthsDiffer
+  _ ← last_bit_check bitmap_y.items bitmap_y.offsets
+  _ ← last_bit_check bitmap_z.items bitmap_z.offsets
+  _ ← demand (ones_before bitmap_z.items (length bitmap_z.items) == length array_y.items) bitmap_z.offsets.count
+      MarkCount
+  _ ← all_pair_checks counts bitmap_y.items bitmap_y.offsets array_y.items array_y.offsets
+  all_object_checks bitmap_z.items array_z.items array_z.offsets counts.objects
 
 -- Decoding: the triples section at byte offset `at`, or the first error.
 unfoldable pub decode_triple_parts : Counts → List ℕ → ℕ → Result TripleParts Fault

@@ -1,5 +1,5 @@
 -- Which IDs occur in triples.
-use Rattle.std.specs.Prelude.{ℕ, ◌==◌, Bool, List, map}
+use Rattle.std.specs.Prelude.{◌≡◌, ◌↔◌, ℕ, ◌<◌, ◌==◌, Bool, true, false, List, length, map, slice_index_or}
 use Rattle.std.specs.List.{Contains, list_any}
 use Rattle.hdt_wire.specs.declared.role.Role.{Role}
 use Rattle.hdt_wire.specs.declared.role.Role.TheVariants.{Subject, Predicate, Object}
@@ -22,3 +22,7 @@ Uses ts role n = Contains (ids_in_role role ts) n
 -- The same as a truth value.
 unfoldable pub uses : List Triple → Role → ℕ → Bool
 uses ts role n = list_any (λ m. m == n) (ids_in_role role ts)
+
+-- The flags, one for each ID from 0, are true exactly for those that triples have in the role.
+abbrev pub AreUseFlags : List Triple → Role → List Bool → Type 0
+AreUseFlags ts role flags = (n : ℕ) → n < length flags → (slice_index_or flags n false ≡ true) ↔ Uses ts role n

@@ -2,10 +2,10 @@
 use Rattle.std.specs.Prelude.{ℕ, ◌+◌, ◌&&◌, List, Bool, ◌++◌, codes, nat_eq, length, map}
 use Rattle.std.specs.List.{dedup}
 use Rattle.hdt_wire.specs.declared.control.Kind.TheVariants as kinds
-use Rattle.hdt_wire.specs.Control.{control, control_info_at}
+use Rattle.hdt_wire.specs.Control.{control, expected_control_info}
 use Rattle.hdt_seq.specs.Width.{width_of}
-use Rattle.hdt_seq.specs.Numbers.{numbers_encoding, numbers_offsets_at}
-use Rattle.hdt_seq.specs.Bits.{bits_encoding, bits_offsets_at}
+use Rattle.hdt_seq.specs.Numbers.{numbers_encoding, expected_numbers_offsets}
+use Rattle.hdt_seq.specs.Bits.{bits_encoding, expected_bits_offsets}
 use Rattle.hdt_triples.specs.TripleSequences.{Triple, BitmapTriples}
 use Rattle.hdt_triples.specs.Groups.{group_end_bits}
 use Rattle.hdt_triples.specs.Triples.{TripleParts}
@@ -37,7 +37,9 @@ order_property = codes "order=1;"
 
 -- The canonical bytes of four sequences: control information, then each sequence in its canonical encoding.
 unfoldable pub canonical_sequences : BitmapTriples → List ℕ
-canonical_sequences f = control kinds.Triples order_property ++ (bits_encoding f.bitmap_y ++ (bits_encoding f.bitmap_z ++ (numbers_encoding f.array_y ++ numbers_encoding f.array_z)))
+canonical_sequences f = control kinds.Triples order_property
+    ++ (bits_encoding f.bitmap_y
+    ++ (bits_encoding f.bitmap_z ++ (numbers_encoding f.array_y ++ numbers_encoding f.array_z)))
 
 -- What these bytes decode to at byte offset `at`.
 unfoldable pub sequences_parts : BitmapTriples → ℕ → TripleParts
@@ -47,11 +49,22 @@ sequences_parts f at =
     let c : ℕ = b + length (bits_encoding f.bitmap_z) in
     let d : ℕ = c + length (numbers_encoding f.array_y) in
     record {
-      block = control_info_at kinds.Triples order_property at a;
-      bitmap_y = record { items = f.bitmap_y; places = bits_offsets_at a (length f.bitmap_y); end = b };
-      bitmap_z = record { items = f.bitmap_z; places = bits_offsets_at b (length f.bitmap_z); end = c };
-      array_y = record { items = f.array_y; places = numbers_offsets_at c (width_of f.array_y) (length f.array_y); end = d };
-      array_z = record { items = f.array_z; places = numbers_offsets_at d (width_of f.array_z) (length f.array_z); end = d + length (numbers_encoding f.array_z) };
+      block = expected_control_info kinds.Triples order_property at a;
+      bitmap_y = record { items = f.bitmap_y; offsets = expected_bits_offsets a (length f.bitmap_y); end = b };
+      bitmap_z = record { items = f.bitmap_z; offsets = expected_bits_offsets b (length f.bitmap_z); end = c };
+      array_y = record {
+        items = f.array_y;
+        offsets =
+            expected_numbers_offsets c (width_of f.array_y) (length f.array_y);
+        end = d;
+      };
+      array_z = record {
+        items = f.array_z;
+        offsets =
+            expected_numbers_offsets d (width_of f.array_z) (length f.array_z);
+        end =
+            d + length (numbers_encoding f.array_z);
+      };
     }
 
 -- The canonical bytes of a list of triples.

@@ -41,7 +41,8 @@ pub(crate) fn read_list(xs: &[u64], i: usize, steps: &mut Steps) -> u64
 pub(crate) fn lower_bound_in(xs: &Numbers<'_>, from: u64, to: u64, x: u64, steps: &mut Steps) -> u64
     requires order { from ≤ to }
     requires within { to ≤ length (numbers_of xs.now) }
-    requires ascend { (i j : ℕ) → from ≤ i → i < j → j < to → slice_index (numbers_of xs.now) i < slice_index (numbers_of xs.now) j }
+    requires ascend { (i j : ℕ) → from ≤ i → i < j → j < to
+        → slice_index (numbers_of xs.now) i < slice_index (numbers_of xs.now) j }
     ensures low { from ≤ result }
     ensures high { result ≤ to }
     ensures below { (i : ℕ) → from ≤ i → i < result → slice_index (numbers_of xs.now) i < x }

@@ -1,14 +1,14 @@
 //! The checks of the four sequences as they are read.
-ghost use Rattle.std.specs.Prelude.{◌≡◌, ℕ, ◌≤◌, ◌<◌, ◌+◌, ◌-◌, ◌^◌, length, slice_index, IfOk, OnOk, codes};
+ghost use Rattle.std.specs.Prelude.{◌≡◌, ℕ, ◌≤◌, ◌<◌, ◌+◌, ◌^◌, length, slice_index, IfOk, OnOk, codes};
 ghost use Rattle.hdt_wire.specs.Property.{property_value};
 ghost use Rattle.hdt_seq.specs.RankSelect.{ones_before};
 ghost use Rattle.hdt_seq.specs.Numbers.{numbers_of, numbers_offsets, numbers_view};
 ghost use Rattle.hdt_seq.specs.Bits.{bits_of, bits_offsets, bits_view};
 ghost use Rattle.hdt_triples.specs.TripleSequences.{AreValidSequences};
 ghost use Rattle.hdt_triples.specs.Triples.{previous_in_group, entry_checks, pair_checks, all_pair_checks, all_object_checks, last_bit_check, is_spo_order, sequence_checks};
-ghost use Rattle.hdt_triples.specs.CountsView.{counts_view};
 
 use crate::pattern::Counts;
+use crate::triples::Triples;
 use hdt_seq::{Bits, Numbers};
 use hdt_wire::{Fault, Reason, demand, property};
 
@@ -55,7 +55,8 @@ fn check_entry(
     requires within { i < length (numbers_of xs.now) }
     requires entry_is { entry ≡ slice_index (numbers_of xs.now) i }
     requires before_is { before ≡ previous_in_group (bits_of marks.now) (numbers_of xs.now) i }
-    ensures { result ≡ entry_checks (bits_of marks.now) (numbers_of xs.now) (numbers_offsets xs.now) count range ascent i }
+    ensures { result ≡ entry_checks (bits_of marks.now) (numbers_of xs.now)
+        (numbers_offsets xs.now) count range ascent i }
 {
     demand(
         1 <= entry && entry <= count,
@@ -81,7 +82,8 @@ fn check_pair(
     requires predicate_is { predicate ≡ slice_index (numbers_of array_y.now) q }
     requires subject_is { subject ≡ ones_before (bits_of bitmap_y.now) q + 1 }
     requires before_is { before ≡ previous_in_group (bits_of bitmap_y.now) (numbers_of array_y.now) q }
-    ensures is { result ≡ pair_checks (counts_view counts.now) (bits_of bitmap_y.now) (bits_offsets bitmap_y.now) (numbers_of array_y.now) (numbers_offsets array_y.now) q }
+    ensures is { result ≡ pair_checks counts.now (bits_of bitmap_y.now) (bits_offsets bitmap_y.now)
+        (numbers_of array_y.now) (numbers_offsets array_y.now) q }
     ensures range { IfOk result (λ _. subject ≤ counts.now.subjects) }
 {
     demand(
@@ -106,7 +108,8 @@ fn check_pair(
 fn check_pairs(counts: &Counts, bitmap_y: &Bits<'_>, array_y: &Numbers<'_>) -> Result<(), Fault>
     requires same { length (bits_of bitmap_y.now) ≡ length (numbers_of array_y.now) }
     requires few { counts.now.subjects < 2 ^ 63 }
-    ensures { result ≡ all_pair_checks (counts_view counts.now) (bits_of bitmap_y.now) (bits_offsets bitmap_y.now) (numbers_of array_y.now) (numbers_offsets array_y.now) }
+    ensures { result ≡ all_pair_checks counts.now (bits_of bitmap_y.now) (bits_offsets bitmap_y.now)
+        (numbers_of array_y.now) (numbers_offsets array_y.now) }
 {
     let mut subject: u64 = 1;
     let mut before: u64 = 0;
@@ -127,7 +130,8 @@ fn check_pairs(counts: &Counts, bitmap_y: &Bits<'_>, array_y: &Numbers<'_>) -> R
 #[tactic(auto, using(hdt_wire::specs::Laws::ItemChecks::checks_after_pass, hdt_wire::specs::Laws::ItemChecks::checks_after_failure, hdt_wire::specs::Laws::ItemChecks::checks_at_end))]
 fn check_objects(bitmap_z: &Bits<'_>, array_z: &Numbers<'_>, count: u64) -> Result<(), Fault>
     requires { length (bits_of bitmap_z.now) ≡ length (numbers_of array_z.now) }
-    ensures { result ≡ all_object_checks (bits_of bitmap_z.now) (numbers_of array_z.now) (numbers_offsets array_z.now) count }
+    ensures { result ≡ all_object_checks (bits_of bitmap_z.now) (numbers_of array_z.now)
+        (numbers_offsets array_z.now) count }
 {
     let mut before: u64 = 0;
     'objects: for j in 0..array_z.len() {
@@ -173,7 +177,9 @@ fn run_sequence_checks(
     requires some_pairs { 0 < length (bits_of bitmap_y.now) }
     requires some_triples { 0 < length (bits_of bitmap_z.now) }
     requires few { counts.now.subjects < 2 ^ 63 }
-    ensures { (a b c d : ℕ) → result ≡ sequence_checks (counts_view counts.now) (bits_view (bitmap_y.now, a)) (bits_view (bitmap_z.now, b)) (numbers_view (array_y.now, c)) (numbers_view (array_z.now, d)) }
+    ensures { (a b c d : ℕ) → result
+        ≡ sequence_checks counts.now (bits_view (bitmap_y.now, a)) (bits_view (bitmap_z.now, b))
+        (numbers_view (array_y.now, c)) (numbers_view (array_z.now, d)) }
 {
     demand(
         bitmap_y.len() == array_y.len(),
@@ -207,8 +213,17 @@ pub(crate) fn check_sequences(
     requires some_pairs { 0 < length (bits_of bitmap_y.now) }
     requires some_triples { 0 < length (bits_of bitmap_z.now) }
     requires few { counts.now.subjects < 2 ^ 63 }
-    ensures exact { (a b c d : ℕ) → result ≡ sequence_checks (counts_view counts.now) (bits_view (bitmap_y.now, a)) (bits_view (bitmap_z.now, b)) (numbers_view (array_y.now, c)) (numbers_view (array_z.now, d)) }
-    ensures valid { OnOk result (AreValidSequences (counts_view counts.now) (record { bitmap_y = bits_of bitmap_y.now; bitmap_z = bits_of bitmap_z.now; array_y = numbers_of array_y.now; array_z = numbers_of array_z.now })) }
+    ensures exact { (a b c d : ℕ)
+        → result ≡ sequence_checks counts.now (bits_view (bitmap_y.now, a)) (bits_view (bitmap_z.now, b))
+        (numbers_view (array_y.now, c)) (numbers_view (array_z.now, d)) }
+    ensures valid { OnOk result
+        (AreValidSequences counts.now
+        (record {
+          bitmap_y = bits_of bitmap_y.now;
+          bitmap_z = bits_of bitmap_z.now;
+          array_y = numbers_of array_y.now;
+          array_z = numbers_of array_z.now;
+        })) }
 {
     run_sequence_checks(counts, bitmap_y, bitmap_z, array_y, array_z)
 }

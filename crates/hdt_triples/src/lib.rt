@@ -35,6 +35,7 @@
 
 mod access;
 mod checks;
+mod costs;
 mod counting_sort;
 mod indexed;
 mod listed_triples;
@@ -50,7 +51,6 @@ mod scan;
 mod sequences;
 mod subject;
 mod subject_object;
-mod triple_position;
 mod triples;
 mod uses;
 mod writing;
@@ -67,6 +67,7 @@ pub use scan::ScanMatches;
 pub use subject::SubjectMatches;
 pub use subject_object::SubjectObjectMatches;
 pub use triples::Triples;
+pub use uses::{role_component, use_flags};
 pub use writing::{
     are_writable, put_triples, triples_are_exact, triples_ascend, triples_round_trip,
 };

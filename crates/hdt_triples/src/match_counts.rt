@@ -1,116 +1,30 @@
 //! Counting the matches of a pattern without returning them.
-ghost use Rattle.std.specs.Prelude.{◌≡◌, ◌≤◌, ◌<◌, ◌+◌, ◌-◌, ◌*◌, ◌^◌, length, min, slice_index, Some, None, IsSome};
+ghost use Rattle.std.specs.Prelude.{◌≡◌, ◌≤◌, ◌+◌, ◌-◌, ◌*◌, ◌^◌, length, min, Some, None, IsSome};
 ghost use Rattle.hdt_seq.specs.Directory.{groups};
 ghost use Rattle.hdt_seq.specs.Width.{digits};
 ghost use Rattle.hdt_triples.specs.Bounds.{counting_steps, lookup_cost, of_object, of_predicate, of_subject, shorter_list_counting_steps, match_count, scan_steps};
-ghost use Rattle.hdt_triples.specs.TripleSequences.{pair_of, triples_of};
+ghost use Rattle.hdt_triples.specs.TripleSequences.{triples_of};
 ghost use Rattle.hdt_triples.specs.InvertedIndex.{positions_of};
 ghost use Rattle.hdt_triples.specs.Patterns.{matches};
-ghost use Rattle.hdt_triples.specs.Inside.Runs.{IsMatchRange, IsTripleRange};
+ghost use Rattle.hdt_triples.specs.Inside.Runs.{IsMatchRange};
 ghost use Rattle.hdt_triples.specs.Views.{triples_view};
 
-use crate::access::{lower_bound, read_bit, read_entry, read_list};
+use crate::access::{lower_bound, read_list};
+use crate::costs::{digits_of, lookup_cost};
 use crate::indexed::IndexedTriples;
 use crate::listed_triples::ListedTriples;
 use crate::pattern::Pattern;
-use crate::predicate_object::digits_of;
-use crate::triples::Triples;
 use hdt_seq::Steps;
-
-impl<'a> Triples<'a> {
-    /// Returns the number of matches, but at most `most`, by a scan that stops there.
-    pub(crate) fn count_by_scan(&self, pattern: Pattern, most: u64, steps: &mut Steps) -> u64
-        ensures is { result ≡ min most (length (matches pattern (triples_of (triples_view self.now)))) }
-        ensures cost { steps.new ≤ steps.old + 4 * length (triples_view self.now).array_z }
-        ensures more { steps.old ≤ steps.new }
-    {
-        let mut position = self.first();
-        let mut count = 0;
-        'triples: while count < most && position.at < self.len() {
-            let triple = self.read_triple(position, steps);
-            position = self.advance(position, steps);
-            count += u64::from(pattern.is_match(triple));
-        }
-        count
-    }
-
-    /// Returns how many of a subject's triples, those with index `from` to `to`, have this object. One step each.
-    fn count_object_in_range(
-        &self,
-        pattern: Pattern,
-        subject: u64,
-        object: u64,
-        from: u64,
-        to: u64,
-        steps: &mut Steps,
-    ) -> u64
-        requires subject_given { pattern.s ≡ Some subject }
-        requires predicate_free { pattern.p ≡ None }
-        requires object_given { pattern.o ≡ Some object }
-        requires between { IsMatchRange (triples_view self.now) (of_subject subject) from to }
-        ensures is { result ≡ length (matches pattern (triples_of (triples_view self.now))) }
-        ensures cost { steps.new ≡ steps.old + (to - from) }
-    {
-        let mut count = 0;
-        let mut at = from;
-        'triples: while at < to {
-            count += u64::from(object == read_entry(&self.array_z, at, steps));
-            at += 1;
-        }
-        count
-    }
-
-    /// Returns the number of matches of a pattern, but at most `most`. Scans triples, in at most four steps each, until
-    /// `most` matches are counted; given nothing, constant time. Allocates nothing.
-    #[tactic(auto, unfolding(crate::specs::Bounds::scan_steps))]
-    pub fn matching_up_to(&self, pattern: Pattern, most: u64, steps: &mut Steps) -> u64
-        ensures is { result ≡ min most (length (matches pattern (triples_of (triples_view self.now)))) }
-        ensures cost { steps.new ≤ steps.old + scan_steps (triples_view self.now) pattern }
-        ensures more { steps.old ≤ steps.new }
-    {
-        match (pattern.s, pattern.p, pattern.o) {
-            (None, None, None) => self.len().min(most),
-            _ => self.count_by_scan(pattern, most, steps),
-        }
-    }
-
-    /// Returns the number of matches of a pattern. Scans all triples, in at most four steps each; given nothing,
-    /// constant time. Allocates nothing.
-    #[tactic(auto, using(crate::proofs::ScanLaws::matches_fit))]
-    pub fn matching(&self, pattern: Pattern, steps: &mut Steps) -> u64
-        ensures is { result ≡ length (matches pattern (triples_of (triples_view self.now))) }
-        ensures cost { steps.new ≤ steps.old + scan_steps (triples_view self.now) pattern }
-        ensures more { steps.old ≤ steps.new }
-    {
-        self.matching_up_to(pattern, u64::MAX, steps)
-    }
-}
 
 impl<'a> IndexedTriples<'a> {
     ghost use Rattle.hdt_triples.specs.IndexViews.{triples_indexed};
 
-    /// Returns the range of the triples of consecutive pairs: the index of the first one and the index after the last
-    /// one. Most pairs have one triple; its bit shows that without a second select.
-    #[tactic(auto, using(hdt_seq::specs::Laws::RankSelect::less_by_ones))]
-    pub(crate) fn triple_range(&self, first: u64, last: u64, steps: &mut Steps) -> (u64, u64)
-        requires order { first ≤ last }
-        requires within { last < length (triples_view (triples_indexed self.now)).array_y }
-        ensures are { IsTripleRange (triples_view (triples_indexed self.now)) first last result.0 result.1 }
-        ensures cost { steps.new ≤ steps.old + (2 * digits (groups (triples_view (triples_indexed self.now)).bitmap_z) + 17) }
-        ensures more { steps.old ≤ steps.new }
-    {
-        let at = self.start_of_pair(first, steps);
-        if first == last && read_bit(&self.triples.bitmap_z, at, steps) {
-            return (at, at + 1);
-        }
-        let end = self.end_of_pair(last, steps);
-        (at, end)
-    }
-
     /// Returns the range of a subject's triples.
     fn subject_range(&self, subject: u64, steps: &mut Steps) -> (u64, u64)
         ensures are { IsMatchRange (triples_view (triples_indexed self.now)) (of_subject subject) result.0 result.1 }
-        ensures cost { steps.new ≤ steps.old + (2 * digits (groups (triples_view (triples_indexed self.now)).bitmap_y) + 2 * digits (groups (triples_view (triples_indexed self.now)).bitmap_z) + 34) }
+        ensures cost { steps.new ≤ steps.old + (2 * digits
+            (groups (triples_view (triples_indexed self.now)).bitmap_y) + 2 * digits
+            (groups (triples_view (triples_indexed self.now)).bitmap_z) + 34) }
         ensures more { steps.old ≤ steps.new }
     {
         let (low, high) = self.pairs_of_subject(subject, steps);
@@ -123,7 +37,8 @@ impl<'a> IndexedTriples<'a> {
     /// Returns the number of triples with this subject.
     #[tactic(auto, unfolding(crate::specs::Bounds::lookup_cost))]
     fn count_subject(&self, subject: u64, steps: &mut Steps) -> u64
-        ensures is { result ≡ length (matches (of_subject subject) (triples_of (triples_view (triples_indexed self.now)))) }
+        ensures is { result ≡ length
+            (matches (of_subject subject) (triples_of (triples_view (triples_indexed self.now)))) }
         ensures cost { steps.new ≤ steps.old + 2 * lookup_cost (triples_view (triples_indexed self.now)) }
         ensures more { steps.old ≤ steps.new }
     {
@@ -144,24 +59,13 @@ impl<'a> IndexedTriples<'a> {
         requires predicate_free { pattern.p ≡ None }
         requires object_given { pattern.o ≡ Some object }
         ensures is { result ≡ length (matches pattern (triples_of (triples_view (triples_indexed self.now)))) }
-        ensures cost { steps.new ≤ steps.old + (2 * lookup_cost (triples_view (triples_indexed self.now)) + match_count (of_subject subject) (triples_view (triples_indexed self.now))) }
+        ensures cost { steps.new ≤ steps.old + (2 * lookup_cost (triples_view (triples_indexed self.now)) + match_count
+            (of_subject subject) (triples_view (triples_indexed self.now))) }
         ensures more { steps.old ≤ steps.new }
     {
         let (from, to) = self.subject_range(subject, steps);
         self.triples
             .count_object_in_range(pattern, subject, object, from, to, steps)
-    }
-
-    /// Returns the predicate of a triple, by rank.
-    #[tactic(auto, using(crate::specs::Laws::Order::pair_within), unfolding(crate::specs::Views::triples_view))]
-    fn predicate_at(&self, at: u64, steps: &mut Steps) -> u64
-        requires { at < length (triples_view (triples_indexed self.now)).array_z }
-        ensures is { result ≡ slice_index (triples_view (triples_indexed self.now)).array_y (pair_of (triples_view (triples_indexed self.now)) at) }
-        ensures cost { steps.new ≤ steps.old + 9 }
-        ensures more { steps.old ≤ steps.new }
-    {
-        let pair = self.z.rank(&self.triples.bitmap_z, at, steps);
-        read_entry(&self.triples.array_y, pair, steps)
     }
 
     /// Returns the number of triples with this subject, this predicate, and the object if one is given.
@@ -176,7 +80,9 @@ impl<'a> IndexedTriples<'a> {
         requires subject_given { pattern.s ≡ Some subject }
         requires predicate_given { pattern.p ≡ Some predicate }
         ensures is { result ≡ length (matches pattern (triples_of (triples_view (triples_indexed self.now)))) }
-        ensures cost { steps.new ≤ steps.old + (2 * lookup_cost (triples_view (triples_indexed self.now)) + digits (length (triples_view (triples_indexed self.now)).array_y) + digits (length (triples_view (triples_indexed self.now)).array_z)) }
+        ensures cost { steps.new ≤ steps.old + (2 * lookup_cost (triples_view (triples_indexed self.now)) + digits
+            (length (triples_view (triples_indexed self.now)).array_y) + digits
+            (length (triples_view (triples_indexed self.now)).array_z)) }
         ensures more { steps.old ≤ steps.new }
     {
         let (at, end) = self.match_range(pattern, subject, predicate, steps);
@@ -187,8 +93,10 @@ impl<'a> IndexedTriples<'a> {
     #[tactic(auto, unfolding(crate::specs::Bounds::counting_steps))]
     pub(crate) fn matching_up_to(&self, pattern: Pattern, most: u64, steps: &mut Steps) -> u64
         ensures is { result ≡ min most (length (matches pattern (triples_of (triples_view (triples_indexed self.now))))) }
-        ensures cost { IsSome pattern.s → steps.new ≤ steps.old + counting_steps (triples_view (triples_indexed self.now)) pattern }
-        ensures walked { pattern.s ≡ None → steps.new ≤ steps.old + scan_steps (triples_view (triples_indexed self.now)) pattern }
+        ensures cost { IsSome pattern.s
+            → steps.new ≤ steps.old + counting_steps (triples_view (triples_indexed self.now)) pattern }
+        ensures scanned { pattern.s ≡ None
+            → steps.new ≤ steps.old + scan_steps (triples_view (triples_indexed self.now)) pattern }
         ensures more { steps.old ≤ steps.new }
     {
         match (pattern.s, pattern.p, pattern.o) {
@@ -210,9 +118,11 @@ impl<'a> IndexedTriples<'a> {
     pub fn matching(&self, pattern: Pattern, steps: &mut Steps) -> u64
         ensures is { result ≡ length (matches pattern (triples_of (triples_view (triples_indexed self.now)))) }
         // With a subject, the steps are bounded by the table.
-        ensures cost { IsSome pattern.s → steps.new ≤ steps.old + counting_steps (triples_view (triples_indexed self.now)) pattern }
+        ensures cost { IsSome pattern.s
+            → steps.new ≤ steps.old + counting_steps (triples_view (triples_indexed self.now)) pattern }
         // Without one, they are bounded by those of a scan.
-        ensures walked { pattern.s ≡ None → steps.new ≤ steps.old + scan_steps (triples_view (triples_indexed self.now)) pattern }
+        ensures scanned { pattern.s ≡ None
+            → steps.new ≤ steps.old + scan_steps (triples_view (triples_indexed self.now)) pattern }
         ensures more { steps.old ≤ steps.new }
     {
         self.matching_up_to(pattern, u64::MAX, steps)
@@ -232,8 +142,10 @@ impl<'a> ListedTriples<'a> {
         steps: &mut Steps,
     ) -> u64
         requires { pairs.now ≡ positions_of (triples_view (triples_listed self.now)).array_y predicate }
-        ensures is { result ≡ min most (length (matches (of_predicate predicate) (triples_of (triples_view (triples_listed self.now))))) }
-        ensures cost { steps.new ≤ steps.old + (2 * digits (groups (triples_view (triples_listed self.now)).bitmap_z) + 18) * min most (length pairs.now) }
+        ensures is { result ≡ min most
+            (length (matches (of_predicate predicate) (triples_of (triples_view (triples_listed self.now))))) }
+        ensures cost { steps.new ≤ steps.old + (2 * digits
+            (groups (triples_view (triples_listed self.now)).bitmap_z) + 18) * min most (length pairs.now) }
         ensures more { steps.old ≤ steps.new }
     {
         let mut rest = pairs;
@@ -253,14 +165,17 @@ impl<'a> ListedTriples<'a> {
     fn count_predicate(&self, pattern: Pattern, predicate: u64, most: u64, steps: &mut Steps) -> u64
         requires { pattern ≡ of_predicate predicate }
         ensures is { result ≡ min most (length (matches pattern (triples_of (triples_view (triples_listed self.now))))) }
-        ensures by_pairs { steps.new ≤ steps.old + 2 * lookup_cost (triples_view (triples_listed self.now)) * (1 + min most (length (positions_of (triples_view (triples_listed self.now)).array_y predicate))) }
+        ensures by_pairs { steps.new
+            ≤ steps.old + 2 * lookup_cost
+            (triples_view (triples_listed self.now)) * (1 + min most
+            (length (positions_of (triples_view (triples_listed self.now)).array_y predicate))) }
         ensures by_triples { steps.new ≤ steps.old + (2 + 4 * length (triples_view (triples_listed self.now)).array_z) }
         ensures more { steps.old ≤ steps.new }
     {
         let pairs = self.pairs_of(predicate, steps);
         let looked_at = u128::from((pairs.len() as u64).min(most));
         let triples = &self.indexed.triples;
-        let search_cost = u128::from(2 * self.indexed.lookup_cost());
+        let search_cost = u128::from(2 * lookup_cost(&self.indexed));
         if 2 + 4 * u128::from(triples.len()) <= search_cost.saturating_mul(1 + looked_at) {
             return triples.count_by_scan(pattern, most, steps);
         }
@@ -281,8 +196,12 @@ impl<'a> ListedTriples<'a> {
         requires predicate_free { pattern.p ≡ None }
         requires object_given { pattern.o ≡ Some object }
         ensures is { result ≡ length (matches pattern (triples_of (triples_view (triples_listed self.now)))) }
-        ensures by_subject { steps.new ≤ steps.old + (2 * lookup_cost (triples_view (triples_listed self.now)) + match_count (of_subject subject) (triples_view (triples_listed self.now))) }
-        ensures by_object { steps.new ≤ steps.old + (2 * lookup_cost (triples_view (triples_listed self.now)) + 2 * digits (match_count (of_object object) (triples_view (triples_listed self.now)))) }
+        ensures by_subject { steps.new
+            ≤ steps.old + (2 * lookup_cost (triples_view (triples_listed self.now)) + match_count (of_subject subject)
+            (triples_view (triples_listed self.now))) }
+        ensures by_object { steps.new
+            ≤ steps.old + (2 * lookup_cost (triples_view (triples_listed self.now)) + 2 * digits
+            (match_count (of_object object) (triples_view (triples_listed self.now)))) }
         ensures more { steps.old ≤ steps.new }
     {
         let (from, to) = self.indexed.subject_range(subject, steps);
@@ -320,7 +239,8 @@ impl<'a> ListedTriples<'a> {
         requires predicate_given { pattern.p ≡ Some predicate }
         requires object_given { pattern.o ≡ Some object }
         ensures is { result ≡ min most (length (matches pattern (triples_of (triples_view (triples_listed self.now))))) }
-        ensures cost { steps.new ≤ steps.old + (2 + 10 * match_count (of_object object) (triples_view (triples_listed self.now))) }
+        ensures cost { steps.new ≤ steps.old + (2 + 10 * match_count (of_object object)
+            (triples_view (triples_listed self.now))) }
         ensures more { steps.old ≤ steps.new }
     {
         let mut rest = self.positions_of(object, steps);
@@ -340,7 +260,8 @@ impl<'a> ListedTriples<'a> {
         ensures is { result ≡ min most (length (matches pattern (triples_of (triples_view (triples_listed self.now))))) }
         // The steps are bounded by the table, and by that for the shorter of two lists.
         ensures cost { steps.new ≤ steps.old + counting_steps (triples_view (triples_listed self.now)) pattern }
-        ensures short { steps.new ≤ steps.old + shorter_list_counting_steps (triples_view (triples_listed self.now)) most pattern }
+        ensures short { steps.new
+            ≤ steps.old + shorter_list_counting_steps (triples_view (triples_listed self.now)) most pattern }
         ensures more { steps.old ≤ steps.new }
     {
         match (pattern.s, pattern.p, pattern.o) {
@@ -364,7 +285,8 @@ impl<'a> ListedTriples<'a> {
         ensures is { result ≡ length (matches pattern (triples_of (triples_view (triples_listed self.now)))) }
         // The steps are bounded by the table, and by that for the shorter of two lists.
         ensures cost { steps.new ≤ steps.old + counting_steps (triples_view (triples_listed self.now)) pattern }
-        ensures short { steps.new ≤ steps.old + shorter_list_counting_steps (triples_view (triples_listed self.now)) (2 ^ 64 - 1) pattern }
+        ensures short { steps.new
+            ≤ steps.old + shorter_list_counting_steps (triples_view (triples_listed self.now)) (2 ^ 64 - 1) pattern }
         ensures more { steps.old ≤ steps.new }
     {
         self.matching_up_to(pattern, u64::MAX, steps)

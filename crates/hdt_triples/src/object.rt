@@ -26,44 +26,33 @@ pub struct ObjectMatches<'a> {
     steps: Steps,
     ghost given: { pattern.o ≡ Some object },
     ghost among: { All (IsPositionOf (triples_view indexed.now.triples).array_z object) rest.now },
-    pub ghost few: { IsWithinBudget (object_cost object) (triples_view indexed.now.triples) steps (map (triple_at (triples_view indexed.now.triples)) rest.now) },
+    pub ghost few: { IsWithinBudget (object_cost object) (triples_view indexed.now.triples) steps
+        (map (triple_at (triples_view indexed.now.triples)) rest.now) },
 }
 
-impl<'a> IndexedTriples<'a> {
-    ghost use Rattle.hdt_triples.specs.IndexViews.{triples_indexed};
-
-    /// Returns a triple of an object. Its pair and subject are found by rank.
-    #[tactic(auto, using(crate::specs::Laws::Order::pair_within), unfolding(crate::specs::Views::triples_view))]
-    fn triple_of_object(&self, at: u64, object: u64, steps: &mut Steps) -> (u64, u64, u64)
-        requires { IsPositionOf (triples_view (triples_indexed self.now)).array_z object at }
-        ensures is { result ≡ triple_at (triples_view (triples_indexed self.now)) at }
-        ensures cost { steps.new ≤ steps.old + 17 }
-        ensures more { steps.old ≤ steps.new }
-    {
-        let pair = self.z.rank(&self.triples.bitmap_z, at, steps);
-        let predicate = read_entry(&self.triples.array_y, pair, steps);
-        let subject = self.y.rank(&self.triples.bitmap_y, pair, steps) + 1;
-        (subject, predicate, object)
-    }
-}
-
-impl<'a> ListedTriples<'a> {
+impl<'a> ObjectMatches<'a> {
     ghost use Rattle.hdt_triples.specs.Remaining.{remaining_matches, step_limit, shorter_list_step_limit, steps_taken};
-    ghost use Rattle.hdt_triples.specs.IndexViews.{triples_listed};
+    ghost use Rattle.hdt_triples.specs.IndexViews.{triples_indexed, triples_listed};
 
     /// Finds the matches of a pattern with this object, after up to 18 earlier steps.
     #[tactic(auto, unfolding(crate::specs::Remaining::remaining_matches, crate::specs::Remaining::step_limit))]
-    pub(crate) fn find_object(&self, pattern: Pattern, object: u64, steps: Steps) -> Matches<'_>
+    pub(crate) fn find(
+        listed: &'a ListedTriples<'a>,
+        pattern: Pattern,
+        object: u64,
+        steps: Steps,
+    ) -> Matches<'a>
         requires given { pattern.o ≡ Some object }
         requires few { steps ≤ 18 }
-        ensures items { remaining_matches result ≡ matches pattern (triples_of (triples_view (triples_listed self.now))) }
+        ensures items { remaining_matches result
+            ≡ matches pattern (triples_of (triples_view (triples_listed listed.now))) }
         ensures fits { length (remaining_matches result) < 2 ^ 64 }
-        ensures few { step_limit result ≡ limit (object_cost object) (triples_view (triples_listed self.now)) }
+        ensures few { step_limit result ≡ limit (object_cost object) (triples_view (triples_listed listed.now)) }
     {
         let mut steps = steps;
-        let rest = self.positions_of(object, &mut steps);
+        let rest = listed.positions_of(object, &mut steps);
         Matches::Object(ObjectMatches {
-            indexed: &self.indexed,
+            indexed: &listed.indexed,
             pattern,
             object,
             rest,
@@ -73,25 +62,26 @@ impl<'a> ListedTriples<'a> {
 
     /// Finds the matches of a pattern with this object, from a triple on.
     #[tactic(auto, unfolding(crate::specs::Remaining::remaining_matches, crate::specs::Remaining::step_limit, crate::specs::Remaining::steps_taken))]
-    pub(crate) fn find_object_from(
-        &self,
+    pub(crate) fn find_from(
+        listed: &'a ListedTriples<'a>,
         pattern: Pattern,
         object: u64,
         from: u64,
         steps: &mut Steps,
-    ) -> Matches<'_>
+    ) -> Matches<'a>
         requires given { pattern.o ≡ Some object }
-        requires within { from < length (triples_view (triples_listed self.now)).array_z }
-        ensures items { remaining_matches result ≡ matches pattern (triples_from (triples_view (triples_listed self.now)) from) }
-        ensures limit { step_limit result ≡ limit (object_cost object) (triples_view (triples_listed self.now)) }
+        requires within { from < length (triples_view (triples_listed listed.now)).array_z }
+        ensures items { remaining_matches result
+            ≡ matches pattern (triples_from (triples_view (triples_listed listed.now)) from) }
+        ensures limit { step_limit result ≡ limit (object_cost object) (triples_view (triples_listed listed.now)) }
         ensures fresh { steps_taken result ≡ 0 }
-        ensures cost { steps.new ≤ steps.old + (digits (length (triples_view (triples_listed self.now)).array_z) + 2) }
+        ensures cost { steps.new ≤ steps.old + (digits (length (triples_view (triples_listed listed.now)).array_z) + 2) }
         ensures more { steps.old ≤ steps.new }
     {
-        let places = self.positions_of(object, steps);
+        let places = listed.positions_of(object, steps);
         let next = lower_bound(places, from, steps);
         Matches::Object(ObjectMatches {
-            indexed: &self.indexed,
+            indexed: &listed.indexed,
             pattern,
             object,
             rest: places.split_at(next).1,
@@ -102,22 +92,29 @@ impl<'a> ListedTriples<'a> {
     /// Finds the triples of an object after the first `skip`, in order. Its list has the index of each, so those that
     /// are skipped take no steps. Allocates nothing.
     #[tactic(auto, unfolding(crate::specs::Remaining::remaining_matches, crate::specs::Remaining::step_limit, crate::specs::Remaining::shorter_list_step_limit, crate::specs::Remaining::steps_taken, crate::specs::Bounds::most_steps, crate::specs::Bounds::shorter_list_steps))]
-    pub fn find_object_after(&self, object: u64, skip: u64, steps: &mut Steps) -> Matches<'_>
-        ensures items { remaining_matches result ≡ drop skip (matches (of_object object) (triples_of (triples_view (triples_listed self.now)))) }
+    pub(crate) fn find_after(
+        listed: &'a ListedTriples<'a>,
+        object: u64,
+        skip: u64,
+        steps: &mut Steps,
+    ) -> Matches<'a>
+        ensures items { remaining_matches result
+            ≡ drop skip (matches (of_object object) (triples_of (triples_view (triples_listed listed.now)))) }
         ensures fits { length (remaining_matches result) < 2 ^ 64 }
         // The steps of all items are bounded by the tables for all matches,
-        ensures few { step_limit result ≡ most_steps (triples_view (triples_listed self.now)) (of_object object) }
-        ensures short { shorter_list_step_limit result ≡ shorter_list_steps (triples_view (triples_listed self.now)) (of_object object) }
+        ensures few { step_limit result ≡ most_steps (triples_view (triples_listed listed.now)) (of_object object) }
+        ensures short { shorter_list_step_limit result
+            ≡ shorter_list_steps (triples_view (triples_listed listed.now)) (of_object object) }
         // none of which is taken yet,
         ensures fresh { steps_taken result ≡ 0 }
         // and this call takes two.
         ensures cost { steps.new ≤ steps.old + 2 }
         ensures more { steps.old ≤ steps.new }
     {
-        let places = self.positions_of(object, steps);
+        let places = listed.positions_of(object, steps);
         let next = skip.min(places.len() as u64) as usize;
         Matches::Object(ObjectMatches {
-            indexed: &self.indexed,
+            indexed: &listed.indexed,
             pattern: Pattern {
                 s: None,
                 p: None,
@@ -127,6 +124,25 @@ impl<'a> ListedTriples<'a> {
             rest: places.split_at(next).1,
             steps: Steps::new(),
         })
+    }
+
+    /// Returns a triple of an object. Its pair and subject are found by rank.
+    #[tactic(auto, using(crate::specs::Laws::Order::pair_within), unfolding(crate::specs::Views::triples_view))]
+    fn triple_of_object(
+        indexed: &IndexedTriples<'_>,
+        at: u64,
+        object: u64,
+        steps: &mut Steps,
+    ) -> (u64, u64, u64)
+        requires { IsPositionOf (triples_view (triples_indexed indexed.now)).array_z object at }
+        ensures is { result ≡ triple_at (triples_view (triples_indexed indexed.now)) at }
+        ensures cost { steps.new ≤ steps.old + 17 }
+        ensures more { steps.old ≤ steps.new }
+    {
+        let pair = indexed.z.rank(&indexed.triples.bitmap_z, at, steps);
+        let predicate = read_entry(&indexed.triples.array_y, pair, steps);
+        let subject = indexed.y.rank(&indexed.triples.bitmap_y, pair, steps) + 1;
+        (subject, predicate, object)
     }
 }
 
@@ -151,9 +167,12 @@ impl<'a> Iterator for ObjectMatches<'a> {
     {
         while !self.rest.is_empty() {
             let at = read_list(self.rest, 0, &mut self.steps);
-            let triple = self
-                .indexed
-                .triple_of_object(at, self.object, &mut self.steps);
+            let triple = ObjectMatches::triple_of_object(
+                self.indexed,
+                at,
+                self.object,
+                &mut self.steps,
+            );
             self.rest = self.rest.split_at(1).1;
             if self.pattern.is_match(triple) {
                 return Some(triple);

@@ -24,24 +24,28 @@ pub struct PredicateMatches<'a> {
     cursor: PredicateCursor<'a>,
     steps: Steps,
     ghost stands: { IsPredicateCursor (triples_view indexed.now.triples) predicate cursor },
-    pub ghost few: { IsWithinBudget (predicate_cost (triples_view indexed.now.triples) predicate) (triples_view indexed.now.triples) steps (triples_from (triples_view indexed.now.triples) cursor.at) },
+    pub ghost few: { IsWithinBudget (predicate_cost (triples_view indexed.now.triples) predicate)
+        (triples_view indexed.now.triples) steps (triples_from (triples_view indexed.now.triples) cursor.at) },
 }
 
-impl<'a> ListedTriples<'a> {
+impl<'a> PredicateMatches<'a> {
     ghost use Rattle.hdt_triples.specs.Remaining.{remaining_matches, step_limit, steps_taken};
     ghost use Rattle.hdt_triples.specs.IndexViews.{triples_listed};
 
     /// Finds the triples of a predicate.
     #[tactic(auto, unfolding(crate::specs::Remaining::remaining_matches, crate::specs::Remaining::step_limit))]
-    pub(crate) fn find_predicate(&self, predicate: u64) -> Matches<'_>
-        ensures items { remaining_matches result ≡ matches (of_predicate predicate) (triples_of (triples_view (triples_listed self.now))) }
+    pub(crate) fn find(listed: &'a ListedTriples<'a>, predicate: u64) -> Matches<'a>
+        ensures items { remaining_matches result
+            ≡ matches (of_predicate predicate) (triples_of (triples_view (triples_listed listed.now))) }
         ensures fits { length (remaining_matches result) < 2 ^ 64 }
-        ensures few { step_limit result ≡ limit (predicate_cost (triples_view (triples_listed self.now)) predicate) (triples_view (triples_listed self.now)) }
+        ensures few { step_limit result
+            ≡ limit (predicate_cost (triples_view (triples_listed listed.now)) predicate)
+            (triples_view (triples_listed listed.now)) }
     {
         let mut steps = Steps::new();
-        let rest = self.pairs_of(predicate, &mut steps);
+        let rest = listed.pairs_of(predicate, &mut steps);
         Matches::Predicate(PredicateMatches {
-            indexed: &self.indexed,
+            indexed: &listed.indexed,
             predicate,
             cursor: PredicateCursor {
                 rest,
@@ -55,23 +59,28 @@ impl<'a> ListedTriples<'a> {
 
     /// Finds the triples of a predicate from a triple on.
     #[tactic(auto, unfolding(crate::specs::Remaining::remaining_matches, crate::specs::Remaining::step_limit, crate::specs::Remaining::steps_taken))]
-    pub(crate) fn find_predicate_from(
-        &self,
+    pub(crate) fn find_from(
+        listed: &'a ListedTriples<'a>,
         predicate: u64,
         from: u64,
         steps: &mut Steps,
-    ) -> Matches<'_>
-        requires { from < length (triples_view (triples_listed self.now)).array_z }
-        ensures items { remaining_matches result ≡ matches (of_predicate predicate) (triples_from (triples_view (triples_listed self.now)) from) }
-        ensures limit { step_limit result ≡ limit (predicate_cost (triples_view (triples_listed self.now)) predicate) (triples_view (triples_listed self.now)) }
+    ) -> Matches<'a>
+        requires { from < length (triples_view (triples_listed listed.now)).array_z }
+        ensures items { remaining_matches result
+            ≡ matches (of_predicate predicate) (triples_from (triples_view (triples_listed listed.now)) from) }
+        ensures limit { step_limit result
+            ≡ limit (predicate_cost (triples_view (triples_listed listed.now)) predicate)
+            (triples_view (triples_listed listed.now)) }
         ensures fresh { steps_taken result ≡ 0 }
-        ensures cost { steps.new ≤ steps.old + (digits (length (triples_view (triples_listed self.now)).array_y) + digits (groups (triples_view (triples_listed self.now)).bitmap_z) + 27) }
+        ensures cost { steps.new ≤ steps.old + (digits
+            (length (triples_view (triples_listed listed.now)).array_y) + digits
+            (groups (triples_view (triples_listed listed.now)).bitmap_z) + 27) }
         ensures more { steps.old ≤ steps.new }
     {
-        let pairs = self.pairs_of(predicate, steps);
-        let cursor = self.indexed.cursor_from(pairs, predicate, from, steps);
+        let pairs = listed.pairs_of(predicate, steps);
+        let cursor = PredicateCursor::from_triple(&listed.indexed, pairs, predicate, from, steps);
         Matches::Predicate(PredicateMatches {
-            indexed: &self.indexed,
+            indexed: &listed.indexed,
             predicate,
             cursor,
             steps: Steps::new(),
@@ -94,7 +103,8 @@ impl<'a> Iterator for PredicateMatches<'a> {
     #[tactic(auto, unfolding(crate::specs::Remaining::remaining_matches, crate::specs::Remaining::step_limit, crate::specs::Remaining::steps_taken))]
     fn next(&mut self) -> Option<(u64, u64, u64)>
         ensures steps { YieldsFirst (λ m. remaining_matches (Predicate m)) self.old result self.new }
-        ensures goes { MakesProgress (λ _. ⊤) (item_count (λ m. remaining_matches (Predicate m))) self.old result self.new }
+        ensures goes { MakesProgress (λ _. ⊤) (item_count (λ m. remaining_matches (Predicate m))) self.old result
+            self.new }
         ensures same { step_limit (Predicate self.new) ≡ step_limit (Predicate self.old) }
         ensures more { steps_taken (Predicate self.old) ≤ steps_taken (Predicate self.new) }
     {
@@ -102,9 +112,11 @@ impl<'a> Iterator for PredicateMatches<'a> {
             return None;
         }
         let indexed = self.indexed;
-        let cursor = indexed.enter_pair(self.cursor, self.predicate, &mut self.steps);
+        let cursor = self
+            .cursor
+            .enter_pair(indexed, self.predicate, &mut self.steps);
         let object = read_entry(&indexed.triples.array_z, cursor.at, &mut self.steps);
-        self.cursor = indexed.triples.next_in_pair(cursor, &mut self.steps);
+        self.cursor = cursor.next_in_pair(&indexed.triples, &mut self.steps);
         Some((cursor.subject, self.predicate, object))
     }
 }

@@ -27,66 +27,68 @@ pub(crate) struct PredicateCursor<'a> {
     pub(crate) inside: bool,
 }
 
-impl<'a> IndexedTriples<'a> {
+impl<'a> PredicateCursor<'a> {
     ghost use Rattle.hdt_triples.specs.IndexViews.{triples_indexed};
 
     /// Returns the position unchanged if it is within a pair, and else that of the first triple of the next pair: one
     /// rank for the pair's subject, one select for its first triple.
     #[tactic(auto, unfolding(crate::specs::Views::triples_view))]
-    pub(crate) fn enter_pair<'b>(
-        &self,
-        cursor: PredicateCursor<'b>,
+    pub(crate) fn enter_pair(
+        self,
+        indexed: &IndexedTriples<'_>,
         predicate: u64,
         steps: &mut Steps,
-    ) -> PredicateCursor<'b>
-        requires stands { IsPredicateCursor (triples_view (triples_indexed self.now)) predicate cursor }
-        requires some { cursor.inside ≡ false → 0 < length cursor.rest.now }
+    ) -> PredicateCursor<'a>
+        requires stands { IsPredicateCursor (triples_view (triples_indexed indexed.now)) predicate self }
+        requires some { self.inside ≡ false → 0 < length self.rest.now }
         ensures inside { result.inside ≡ true }
-        ensures stands { IsPredicateCursor (triples_view (triples_indexed self.now)) predicate result }
-        ensures left { matches (of_predicate predicate) (triples_from (triples_view (triples_indexed self.now)) cursor.entry.at) ≡ matches (of_predicate predicate) (triples_from (triples_view (triples_indexed self.now)) result.at) }
-        ensures cost { steps.new ≤ steps.old + (digits (groups (triples_view (triples_indexed self.now)).bitmap_z) + 17) }
+        ensures stands { IsPredicateCursor (triples_view (triples_indexed indexed.now)) predicate result }
+        ensures left { matches (of_predicate predicate)
+            (triples_from (triples_view (triples_indexed indexed.now)) self.entry.at)
+            ≡ matches (of_predicate predicate) (triples_from (triples_view (triples_indexed indexed.now)) result.at) }
+        ensures cost { steps.new ≤ steps.old + (digits
+            (groups (triples_view (triples_indexed indexed.now)).bitmap_z) + 17) }
         ensures more { steps.old ≤ steps.new }
     {
-        if cursor.inside {
-            return cursor;
+        if self.inside {
+            return self;
         }
-        let pair = read_list(cursor.rest, 0, steps);
-        let subject = self.y.rank(&self.triples.bitmap_y, pair, steps) + 1;
-        let at = self.start_of_pair(pair, steps);
+        let pair = read_list(self.rest, 0, steps);
+        let subject = indexed.y.rank(&indexed.triples.bitmap_y, pair, steps) + 1;
+        let at = indexed.start_of_pair(pair, steps);
         PredicateCursor {
-            rest: cursor.rest.split_at(1).1,
+            rest: self.rest.split_at(1).1,
             at,
             subject,
             inside: true,
         }
     }
-}
-
-impl<'a> IndexedTriples<'a> {
-    ghost use Rattle.hdt_triples.specs.IndexViews.{triples_indexed};
 
     /// Returns the position from which on the triples of a predicate are those from index `from` on, given the indices
     /// of its pairs.
     #[tactic(auto, unfolding(crate::specs::Views::triples_view))]
-    pub(crate) fn cursor_from<'b>(
-        &self,
-        pairs: &'b [u64],
+    pub(crate) fn from_triple(
+        indexed: &IndexedTriples<'_>,
+        pairs: &'a [u64],
         predicate: u64,
         from: u64,
         steps: &mut Steps,
-    ) -> PredicateCursor<'b>
-        requires pairs { pairs.now ≡ positions_of (triples_view (triples_indexed self.now)).array_y predicate }
-        requires within { from < length (triples_view (triples_indexed self.now)).array_z }
-        ensures stands { IsPredicateCursor (triples_view (triples_indexed self.now)) predicate result }
-        ensures within { result.at ≤ length (triples_view (triples_indexed self.now)).array_z }
-        ensures left { matches (of_predicate predicate) (triples_from (triples_view (triples_indexed self.now)) result.at) ≡ matches (of_predicate predicate) (triples_from (triples_view (triples_indexed self.now)) from) }
-        ensures cost { steps.new ≤ steps.old + (digits (length pairs.now) + digits (groups (triples_view (triples_indexed self.now)).bitmap_z) + 25) }
+    ) -> PredicateCursor<'a>
+        requires pairs { pairs.now ≡ positions_of (triples_view (triples_indexed indexed.now)).array_y predicate }
+        requires within { from < length (triples_view (triples_indexed indexed.now)).array_z }
+        ensures stands { IsPredicateCursor (triples_view (triples_indexed indexed.now)) predicate result }
+        ensures within { result.at ≤ length (triples_view (triples_indexed indexed.now)).array_z }
+        ensures left { matches (of_predicate predicate)
+            (triples_from (triples_view (triples_indexed indexed.now)) result.at)
+            ≡ matches (of_predicate predicate) (triples_from (triples_view (triples_indexed indexed.now)) from) }
+        ensures cost { steps.new ≤ steps.old + (digits (length pairs.now) + digits
+            (groups (triples_view (triples_indexed indexed.now)).bitmap_z) + 25) }
         ensures more { steps.old ≤ steps.new }
     {
-        let position = self.position_at(from, steps);
+        let position = indexed.position_at(from, steps);
         let next = lower_bound(pairs, position.pair + 1, steps);
         let rest = pairs.split_at(next).1;
-        if read_entry(&self.triples.array_y, position.pair, steps) == predicate {
+        if read_entry(&indexed.triples.array_y, position.pair, steps) == predicate {
             return PredicateCursor {
                 rest,
                 at: from,
@@ -96,33 +98,32 @@ impl<'a> IndexedTriples<'a> {
         }
         PredicateCursor {
             rest,
-            at: self.end_of_pair(position.pair, steps),
+            at: indexed.end_of_pair(position.pair, steps),
             subject: 0,
             inside: false,
         }
     }
-}
 
-impl<'a> Triples<'a> {
     /// Returns the position after a triple of the current pair. Its bit in bitmap Z shows whether the pair ends. One
     /// step.
     #[tactic(auto, unfolding(crate::specs::Views::triples_view))]
-    pub(crate) fn next_in_pair<'b>(
-        &self,
-        cursor: PredicateCursor<'b>,
+    pub(crate) fn next_in_pair(
+        self,
+        triples: &Triples<'_>,
         steps: &mut Steps,
-    ) -> PredicateCursor<'b>
-        requires inside { cursor.inside ≡ true }
-        requires within { cursor.at < length (triples_view self.now).array_z }
-        ensures at { result.at ≡ cursor.entry.at + 1 }
-        ensures stands { (p : ℕ) → IsPredicateCursor (triples_view self.now) p cursor.entry → IsPredicateCursor (triples_view self.now) p result }
+    ) -> PredicateCursor<'a>
+        requires inside { self.inside ≡ true }
+        requires within { self.at < length (triples_view triples.now).array_z }
+        ensures at { result.at ≡ self.entry.at + 1 }
+        ensures stands { (p : ℕ) → IsPredicateCursor (triples_view triples.now) p self.entry
+            → IsPredicateCursor (triples_view triples.now) p result }
         ensures cost { steps.new ≡ steps.old + 1 }
     {
-        let last = read_bit(&self.bitmap_z, cursor.at, steps);
+        let last = read_bit(&triples.bitmap_z, self.at, steps);
         PredicateCursor {
-            at: cursor.at + 1,
+            at: self.at + 1,
             inside: !last,
-            ..cursor
+            ..self
         }
     }
 }

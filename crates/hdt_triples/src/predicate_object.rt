@@ -1,6 +1,6 @@
 //! Search by a predicate and an object.
 ghost use Rattle.std.specs.Prelude.{◌≡◌, ◌≤◌, ◌+◌, ◌*◌, ◌<◌, ◌^◌, Some, None, length};
-ghost use Rattle.hdt_triples.specs.Bounds.{limit, object_cost, pair_search_cost, lookup_cost};
+ghost use Rattle.hdt_triples.specs.Bounds.{limit, object_cost, pair_search_cost};
 ghost use Rattle.hdt_triples.specs.TripleSequences.{triples_of};
 ghost use Rattle.hdt_triples.specs.Inside.PredicateCursors.{IsBeforePair};
 ghost use Rattle.hdt_triples.specs.InvertedIndex.{positions_of};
@@ -11,9 +11,11 @@ ghost use Rattle.hdt_seq.specs.Directory.{groups};
 ghost use Rattle.hdt_seq.specs.Width.{digits};
 
 use crate::access::{lower_bound, read_list};
+use crate::costs::pair_search_cost;
 use crate::indexed::IndexedTriples;
 use crate::listed_triples::ListedTriples;
 use crate::matches::Matches;
+use crate::object::ObjectMatches;
 use crate::pattern::Pattern;
 use hdt_seq::Steps;
 
@@ -33,41 +35,49 @@ pub struct PredicateObjectMatches<'a> {
     ghost predicate_given: { pattern.p ≡ Some predicate },
     ghost object_given: { pattern.o ≡ Some object },
     ghost between: { IsBeforePair (triples_view indexed.now.triples) predicate rest.now at },
-    pub ghost short: { steps + pair_search_cost (triples_view indexed.now.triples) * length rest.now ≤ pair_search_cost (triples_view indexed.now.triples) * (1 + length (positions_of (triples_view indexed.now.triples).array_y predicate)) },
-    pub ghost few: { pair_search_cost (triples_view indexed.now.triples) * (1 + length (positions_of (triples_view indexed.now.triples).array_y predicate)) ≤ limit (object_cost object) (triples_view indexed.now.triples) },
+    pub ghost short: { steps + pair_search_cost (triples_view indexed.now.triples) * length rest.now
+        ≤ pair_search_cost (triples_view indexed.now.triples) * (1 + length
+        (positions_of (triples_view indexed.now.triples).array_y predicate)) },
+    pub ghost few: { pair_search_cost
+        (triples_view indexed.now.triples) * (1 + length
+        (positions_of (triples_view indexed.now.triples).array_y predicate))
+        ≤ limit (object_cost object) (triples_view indexed.now.triples) },
 }
 
-impl<'a> ListedTriples<'a> {
+impl<'a> PredicateObjectMatches<'a> {
     ghost use Rattle.hdt_triples.specs.Remaining.{remaining_matches, step_limit, shorter_list_step_limit, steps_taken};
-    ghost use Rattle.hdt_triples.specs.IndexViews.{triples_listed};
+    ghost use Rattle.hdt_triples.specs.IndexViews.{triples_indexed, triples_listed};
 
     /// Finds the matches of a pattern with this predicate, this object and no subject: by the pairs of the predicate,
     /// or by the triples of the object if that is cheaper.
     #[tactic(auto, unfolding(crate::specs::Remaining::remaining_matches, crate::specs::Remaining::step_limit, crate::specs::Remaining::shorter_list_step_limit))]
-    pub(crate) fn find_predicate_object(
-        &self,
+    pub(crate) fn find(
+        listed: &'a ListedTriples<'a>,
         pattern: Pattern,
         predicate: u64,
         object: u64,
-    ) -> Matches<'_>
+    ) -> Matches<'a>
         requires free { pattern.s ≡ None }
         requires predicate_given { pattern.p ≡ Some predicate }
         requires object_given { pattern.o ≡ Some object }
-        ensures items { remaining_matches result ≡ matches pattern (triples_of (triples_view (triples_listed self.now))) }
+        ensures items { remaining_matches result
+            ≡ matches pattern (triples_of (triples_view (triples_listed listed.now))) }
         ensures fits { length (remaining_matches result) < 2 ^ 64 }
-        ensures few { step_limit result ≡ limit (object_cost object) (triples_view (triples_listed self.now)) }
-        ensures short { shorter_list_step_limit result ≤ pair_search_cost (triples_view (triples_listed self.now)) * (1 + length (positions_of (triples_view (triples_listed self.now)).array_y predicate)) }
+        ensures few { step_limit result ≡ limit (object_cost object) (triples_view (triples_listed listed.now)) }
+        ensures short { shorter_list_step_limit result
+            ≤ pair_search_cost (triples_view (triples_listed listed.now)) * (1 + length
+            (positions_of (triples_view (triples_listed listed.now)).array_y predicate)) }
     {
         let mut steps = Steps::new();
-        let rest = self.pairs_of(predicate, &mut steps);
-        let places = self.positions_of(object, &mut steps);
+        let rest = listed.pairs_of(predicate, &mut steps);
+        let places = listed.positions_of(object, &mut steps);
         let by_object = 20 * (1 + places.len() as u128);
-        let pair = u128::from(self.indexed.pair_search_cost());
+        let pair = u128::from(pair_search_cost(&listed.indexed));
         if by_object < pair.saturating_mul(1 + rest.len() as u128) {
-            return self.find_object(pattern, object, steps);
+            return ObjectMatches::find(listed, pattern, object, steps);
         }
         Matches::PredicateObject(PredicateObjectMatches {
-            indexed: &self.indexed,
+            indexed: &listed.indexed,
             pattern,
             predicate,
             object,
@@ -79,37 +89,48 @@ impl<'a> ListedTriples<'a> {
 
     /// Finds the matches of a pattern with this predicate, this object and no subject, from a triple on.
     #[tactic(auto, unfolding(crate::specs::Remaining::remaining_matches, crate::specs::Remaining::step_limit, crate::specs::Remaining::steps_taken, crate::specs::Remaining::shorter_list_step_limit))]
-    pub(crate) fn find_predicate_object_from(
-        &self,
+    pub(crate) fn find_from(
+        listed: &'a ListedTriples<'a>,
         pattern: Pattern,
         predicate: u64,
         object: u64,
         from: u64,
         steps: &mut Steps,
-    ) -> Matches<'_>
+    ) -> Matches<'a>
         requires free { pattern.s ≡ None }
         requires predicate_given { pattern.p ≡ Some predicate }
         requires object_given { pattern.o ≡ Some object }
-        requires within { from < length (triples_view (triples_listed self.now)).array_z }
-        ensures items { remaining_matches result ≡ matches pattern (triples_from (triples_view (triples_listed self.now)) from) }
-        ensures limit { step_limit result ≡ limit (object_cost object) (triples_view (triples_listed self.now)) }
-        ensures short { shorter_list_step_limit result ≤ pair_search_cost (triples_view (triples_listed self.now)) * (1 + length (positions_of (triples_view (triples_listed self.now)).array_y predicate)) }
+        requires within { from < length (triples_view (triples_listed listed.now)).array_z }
+        ensures items { remaining_matches result
+            ≡ matches pattern (triples_from (triples_view (triples_listed listed.now)) from) }
+        ensures limit { step_limit result ≡ limit (object_cost object) (triples_view (triples_listed listed.now)) }
+        ensures short { shorter_list_step_limit result
+            ≤ pair_search_cost (triples_view (triples_listed listed.now)) * (1 + length
+            (positions_of (triples_view (triples_listed listed.now)).array_y predicate)) }
         ensures fresh { steps_taken result ≡ 0 }
-        ensures cost { steps.new ≤ steps.old + (3 * digits (groups (triples_view (triples_listed self.now)).bitmap_z) + digits (length (triples_view (triples_listed self.now)).array_y) + digits (length (triples_view (triples_listed self.now)).array_z) + 46) }
+        ensures cost { steps.new ≤ steps.old + (3 * digits
+            (groups (triples_view (triples_listed listed.now)).bitmap_z) + digits
+            (length (triples_view (triples_listed listed.now)).array_y) + digits
+            (length (triples_view (triples_listed listed.now)).array_z) + 46) }
         ensures more { steps.old ≤ steps.new }
     {
-        let pairs = self.pairs_of(predicate, steps);
-        let places = self.positions_of(object, steps);
+        let pairs = listed.pairs_of(predicate, steps);
+        let places = listed.positions_of(object, steps);
         let by_object = 20 * (1 + places.len() as u128);
-        let pair = u128::from(self.indexed.pair_search_cost());
+        let pair = u128::from(pair_search_cost(&listed.indexed));
         if by_object < pair.saturating_mul(1 + pairs.len() as u128) {
-            return self.find_object_from(pattern, object, from, steps);
+            return ObjectMatches::find_from(listed, pattern, object, from, steps);
         }
-        let (rest, at) = self
-            .indexed
-            .pairs_from(pairs, predicate, object, from, steps);
+        let (rest, at) = PredicateObjectMatches::pairs_from(
+            &listed.indexed,
+            pairs,
+            predicate,
+            object,
+            from,
+            steps,
+        );
         Matches::PredicateObject(PredicateObjectMatches {
-            indexed: &self.indexed,
+            indexed: &listed.indexed,
             pattern,
             predicate,
             object,
@@ -118,36 +139,36 @@ impl<'a> ListedTriples<'a> {
             steps: Steps::new(),
         })
     }
-}
-
-impl<'a> IndexedTriples<'a> {
-    ghost use Rattle.hdt_triples.specs.IndexViews.{triples_indexed};
 
     /// Returns the pairs of a predicate in which a search for an object from index `from` on continues, and the end of
     /// the pair before them, given the indices of all its pairs. The pair of triple `from` is one of them only if it
     /// has the object at `from` or later.
     #[tactic(auto, unfolding(crate::specs::Views::triples_view))]
-    fn pairs_from<'b>(
-        &self,
-        pairs: &'b [u64],
+    fn pairs_from(
+        indexed: &IndexedTriples<'_>,
+        pairs: &'a [u64],
         predicate: u64,
         object: u64,
         from: u64,
         steps: &mut Steps,
-    ) -> (&'b [u64], u64)
-        requires pairs { pairs.now ≡ positions_of (triples_view (triples_indexed self.now)).array_y predicate }
-        requires within { from < length (triples_view (triples_indexed self.now)).array_z }
-        ensures between { IsBeforePair (triples_view (triples_indexed self.now)) predicate result.0.now result.1 }
-        ensures left { (p : Pattern) → p.o ≡ Some object → matches p (triples_from (triples_view (triples_indexed self.now)) result.1) ≡ matches p (triples_from (triples_view (triples_indexed self.now)) from) }
+    ) -> (&'a [u64], u64)
+        requires pairs { pairs.now ≡ positions_of (triples_view (triples_indexed indexed.now)).array_y predicate }
+        requires within { from < length (triples_view (triples_indexed indexed.now)).array_z }
+        ensures between { IsBeforePair (triples_view (triples_indexed indexed.now)) predicate result.0.now result.1 }
+        ensures left { (p : Pattern) → p.o ≡ Some object
+            → matches p (triples_from (triples_view (triples_indexed indexed.now)) result.1)
+            ≡ matches p (triples_from (triples_view (triples_indexed indexed.now)) from) }
         ensures fewer { length result.0.now ≤ length pairs.now }
-        ensures cost { steps.new ≤ steps.old + (3 * digits (groups (triples_view (triples_indexed self.now)).bitmap_z) + digits (length pairs.now) + digits (length (triples_view (triples_indexed self.now)).array_z) + 42) }
+        ensures cost { steps.new ≤ steps.old + (3 * digits
+            (groups (triples_view (triples_indexed indexed.now)).bitmap_z) + digits (length pairs.now) + digits
+            (length (triples_view (triples_indexed indexed.now)).array_z) + 42) }
         ensures more { steps.old ≤ steps.new }
     {
-        let pair = self.position_at(from, steps).pair;
-        let (here, end) = self.object_in_pair(pair, object, steps);
+        let pair = indexed.position_at(from, steps).pair;
+        let (here, end) = indexed.object_in_pair(pair, object, steps);
         if from <= here && here < end {
             let next = lower_bound(pairs, pair, steps);
-            return (pairs.split_at(next).1, self.start_of_pair(pair, steps));
+            return (pairs.split_at(next).1, indexed.start_of_pair(pair, steps));
         }
         let next = lower_bound(pairs, pair + 1, steps);
         (pairs.split_at(next).1, end)
@@ -169,9 +190,11 @@ impl<'a> Iterator for PredicateObjectMatches<'a> {
     #[tactic(auto, unfolding(crate::specs::Remaining::remaining_matches, crate::specs::Remaining::step_limit, crate::specs::Remaining::shorter_list_step_limit, crate::specs::Remaining::steps_taken))]
     fn next(&mut self) -> Option<(u64, u64, u64)>
         ensures steps { YieldsFirst (λ m. remaining_matches (PredicateObject m)) self.old result self.new }
-        ensures goes { MakesProgress (λ _. ⊤) (item_count (λ m. remaining_matches (PredicateObject m))) self.old result self.new }
+        ensures goes { MakesProgress (λ _. ⊤) (item_count (λ m. remaining_matches (PredicateObject m))) self.old result
+            self.new }
         ensures same { step_limit (PredicateObject self.new) ≡ step_limit (PredicateObject self.old) }
-        ensures short { shorter_list_step_limit (PredicateObject self.new) ≡ shorter_list_step_limit (PredicateObject self.old) }
+        ensures short { shorter_list_step_limit (PredicateObject self.new)
+            ≡ shorter_list_step_limit (PredicateObject self.old) }
         ensures more { steps_taken (PredicateObject self.old) ≤ steps_taken (PredicateObject self.new) }
     {
         'pairs: while !self.rest.is_empty() {
@@ -186,42 +209,5 @@ impl<'a> Iterator for PredicateObjectMatches<'a> {
             }
         }
         None
-    }
-}
-
-/// Bits per group of a rank/select index.
-const GROUP: u64 = 512;
-
-/// Returns the number of binary digits of n: the most steps of a binary search among n numbers.
-#[tactic(auto, using(hdt_seq::specs::Laws::Width::digits_by_zeros))]
-pub(crate) fn digits_of(n: u64) -> u64
-    ensures is { result ≡ digits n }
-    ensures few { result ≤ 64 }
-{
-    u64::from(64 - n.leading_zeros())
-}
-
-impl<'a> IndexedTriples<'a> {
-    ghost use Rattle.hdt_triples.specs.IndexViews.{triples_indexed};
-
-    /// Returns the bound on finding a subject or a pair by rank and select: a binary search of the groups of both
-    /// bitmaps, and 20 more.
-    #[tactic(auto, unfolding(crate::specs::Bounds::lookup_cost, crate::specs::Views::triples_view))]
-    pub(crate) fn lookup_cost(&self) -> u64
-        ensures is { result ≡ lookup_cost (triples_view (triples_indexed self.now)) }
-        ensures few { result ≤ 148 }
-    {
-        let pairs = self.triples.bitmap_y.len().div_ceil(GROUP);
-        let triples = self.triples.bitmap_z.len().div_ceil(GROUP);
-        digits_of(pairs) + digits_of(triples) + 20
-    }
-
-    /// Returns the bound on finding an object in a pair: two searches by rank and select, and a binary search among all
-    /// triples.
-    #[tactic(auto, unfolding(crate::specs::Bounds::pair_search_cost, crate::specs::Views::triples_view))]
-    pub(crate) fn pair_search_cost(&self) -> u64
-        ensures { result ≡ pair_search_cost (triples_view (triples_indexed self.now)) }
-    {
-        2 * self.lookup_cost() + digits_of(self.triples.array_z.len())
     }
 }

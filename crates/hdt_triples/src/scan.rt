@@ -4,12 +4,12 @@ ghost use Rattle.hdt_triples.specs.TripleSequences.{triples_of};
 ghost use Rattle.hdt_triples.specs.Patterns.{matches};
 ghost use Rattle.hdt_triples.specs.Views.{triples_view};
 ghost use Rattle.hdt_triples.specs.Scanning.{IsTriplePosition, triples_from};
+ghost use Rattle.hdt_triples.specs.Bounds.{limit};
 
 use crate::indexed::IndexedTriples;
 use crate::matches::Matches;
 use crate::pattern::Pattern;
-use crate::triple_position::TriplePosition;
-use crate::triples::Triples;
+use crate::triples::{TriplePosition, Triples};
 use hdt_seq::Steps;
 
 /// The matches of a pattern, in order, by a scan of all triples.
@@ -23,45 +23,47 @@ pub struct ScanMatches<'a> {
     ghost few: { steps ≤ 4 * position.at },
 }
 
-impl<'a> Triples<'a> {
-    ghost use Rattle.hdt_triples.specs.Remaining.{remaining_matches, step_limit};
+impl<'a> ScanMatches<'a> {
+    ghost use Rattle.hdt_triples.specs.IndexViews.{triples_indexed};
+    ghost use Rattle.hdt_triples.specs.Remaining.{remaining_matches, step_limit, steps_taken};
 
     /// Finds the matches of a pattern: the triples that have each given ID, once each, in order. Scans all triples, in
     /// at most four steps each. Allocates nothing.
     #[tactic(auto, using(crate::proofs::ScanLaws::from_start), unfolding(crate::specs::Remaining::remaining_matches, crate::specs::Remaining::step_limit))]
-    pub fn find(&self, pattern: Pattern) -> Matches<'a>
-        ensures items { remaining_matches result ≡ matches pattern (triples_of (triples_view self.now)) }
+    pub(crate) fn find(triples: &Triples<'a>, pattern: Pattern) -> Matches<'a>
+        ensures items { remaining_matches result ≡ matches pattern (triples_of (triples_view triples.now)) }
         // There are fewer than 2^64.
         ensures fits { length (remaining_matches result) < 2 ^ 64 }
-        ensures few { step_limit result ≡ 4 * length (triples_view self.now).array_z }
+        ensures few { step_limit result ≡ 4 * length (triples_view triples.now).array_z }
     {
         Matches::Scan(ScanMatches {
-            triples: *self,
+            triples: *triples,
             pattern,
-            position: self.first(),
+            position: triples.first(),
             steps: Steps::new(),
         })
     }
-}
-
-impl<'a> IndexedTriples<'a> {
-    ghost use Rattle.hdt_triples.specs.IndexViews.{triples_indexed};
-    ghost use Rattle.hdt_triples.specs.Remaining.{remaining_matches, step_limit, steps_taken};
 
     /// Finds the matches of a pattern from a triple on, by a scan.
     #[tactic(auto, unfolding(crate::specs::Remaining::remaining_matches, crate::specs::Remaining::step_limit, crate::specs::Remaining::steps_taken))]
-    pub(crate) fn scan_from(&self, pattern: Pattern, from: u64, steps: &mut Steps) -> Matches<'a>
-        requires { from < length (triples_view (triples_indexed self.now)).array_z }
-        ensures items { remaining_matches result ≡ matches pattern (triples_from (triples_view (triples_indexed self.now)) from) }
-        ensures limit { step_limit result ≡ 4 * length (triples_view (triples_indexed self.now)).array_z }
+    pub(crate) fn find_from(
+        indexed: &IndexedTriples<'a>,
+        pattern: Pattern,
+        from: u64,
+        steps: &mut Steps,
+    ) -> Matches<'a>
+        requires { from < length (triples_view (triples_indexed indexed.now)).array_z }
+        ensures items { remaining_matches result
+            ≡ matches pattern (triples_from (triples_view (triples_indexed indexed.now)) from) }
+        ensures limit { step_limit result ≡ 4 * length (triples_view (triples_indexed indexed.now)).array_z }
         ensures fresh { steps_taken result ≡ 0 }
         ensures cost { steps.new ≤ steps.old + 16 }
         ensures more { steps.old ≤ steps.new }
     {
         Matches::Scan(ScanMatches {
-            triples: self.triples,
+            triples: indexed.triples,
             pattern,
-            position: self.position_at(from, steps),
+            position: indexed.position_at(from, steps),
             steps: Steps::new(),
         })
     }

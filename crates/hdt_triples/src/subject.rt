@@ -11,8 +11,7 @@ ghost use Rattle.hdt_triples.specs.Scanning.{IsTriplePosition, triples_from};
 use crate::indexed::IndexedTriples;
 use crate::matches::Matches;
 use crate::pattern::Pattern;
-use crate::triple_position::TriplePosition;
-use crate::triples::Triples;
+use crate::triples::{TriplePosition, Triples};
 use hdt_seq::Steps;
 
 /// The matches of a pattern with a subject, in order, by a scan of the subject's triples.
@@ -29,22 +28,25 @@ pub struct SubjectMatches<'a> {
     pub ghost few: { IsWithinBudget (subject_cost (triples_view triples) subject) (triples_view triples) steps (triples_from (triples_view triples) position.at) },
 }
 
-impl<'a> IndexedTriples<'a> {
+impl<'a> SubjectMatches<'a> {
     ghost use Rattle.hdt_triples.specs.IndexViews.{triples_indexed};
     ghost use Rattle.hdt_triples.specs.Remaining.{remaining_matches, step_limit, steps_taken};
 
     /// Finds the matches of a pattern with this subject.
     #[tactic(auto, using(crate::proofs::SubjectLaws::matches_skipped), unfolding(crate::specs::Remaining::remaining_matches, crate::specs::Remaining::step_limit))]
-    pub(crate) fn find_subject(&self, pattern: Pattern, subject: u64) -> Matches<'a>
+    pub(crate) fn find(indexed: &IndexedTriples<'a>, pattern: Pattern, subject: u64) -> Matches<'a>
         requires { pattern.s ≡ Some subject }
-        ensures items { remaining_matches result ≡ matches pattern (triples_of (triples_view (triples_indexed self.now))) }
+        ensures items { remaining_matches result
+            ≡ matches pattern (triples_of (triples_view (triples_indexed indexed.now))) }
         ensures fits { length (remaining_matches result) < 2 ^ 64 }
-        ensures few { step_limit result ≡ limit (subject_cost (triples_view (triples_indexed self.now)) subject) (triples_view (triples_indexed self.now)) }
+        ensures few { step_limit result
+            ≡ limit (subject_cost (triples_view (triples_indexed indexed.now)) subject)
+            (triples_view (triples_indexed indexed.now)) }
     {
         let mut steps = Steps::new();
-        let position = self.start_of_subject(subject, &mut steps);
+        let position = indexed.start_of_subject(subject, &mut steps);
         Matches::Subject(SubjectMatches {
-            triples: self.triples,
+            triples: indexed.triples,
             pattern,
             subject,
             position,
@@ -54,24 +56,29 @@ impl<'a> IndexedTriples<'a> {
 
     /// Finds the matches of a pattern with this subject, from a triple on.
     #[tactic(auto, unfolding(crate::specs::Remaining::remaining_matches, crate::specs::Remaining::step_limit, crate::specs::Remaining::steps_taken))]
-    pub(crate) fn find_subject_from(
-        &self,
+    pub(crate) fn find_from(
+        indexed: &IndexedTriples<'a>,
         pattern: Pattern,
         subject: u64,
         from: u64,
         steps: &mut Steps,
     ) -> Matches<'a>
         requires given { pattern.s ≡ Some subject }
-        requires within { from < length (triples_view (triples_indexed self.now)).array_z }
-        ensures items { remaining_matches result ≡ matches pattern (triples_from (triples_view (triples_indexed self.now)) from) }
-        ensures limit { step_limit result ≡ limit (subject_cost (triples_view (triples_indexed self.now)) subject) (triples_view (triples_indexed self.now)) }
+        requires within { from < length (triples_view (triples_indexed indexed.now)).array_z }
+        ensures items { remaining_matches result
+            ≡ matches pattern (triples_from (triples_view (triples_indexed indexed.now)) from) }
+        ensures limit { step_limit result
+            ≡ limit (subject_cost (triples_view (triples_indexed indexed.now)) subject)
+            (triples_view (triples_indexed indexed.now)) }
         ensures fresh { steps_taken result ≡ 0 }
-        ensures cost { steps.new ≤ steps.old + (digits (groups (triples_view (triples_indexed self.now)).bitmap_y) + digits (groups (triples_view (triples_indexed self.now)).bitmap_z) + 33) }
+        ensures cost { steps.new ≤ steps.old + (digits
+            (groups (triples_view (triples_indexed indexed.now)).bitmap_y) + digits
+            (groups (triples_view (triples_indexed indexed.now)).bitmap_z) + 33) }
         ensures more { steps.old ≤ steps.new }
     {
-        let position = self.start_of_subject_from(subject, from, steps);
+        let position = indexed.start_of_subject_from(subject, from, steps);
         Matches::Subject(SubjectMatches {
-            triples: self.triples,
+            triples: indexed.triples,
             pattern,
             subject,
             position,

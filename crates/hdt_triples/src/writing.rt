@@ -1,16 +1,18 @@
 //! Writing triples in their canonical encoding.
 ghost use Rattle.std.specs.Prelude.{◌≡◌, ◌++◌, ◌<◌, ◌^◌, length, OnOk, OnErr, ◌+◌, ◌≤◌, ℕ, true, List};
 ghost use Rattle.hdt_wire.specs.Control.{IsPrefixOf};
-ghost use Rattle.hdt_triples.specs.TripleSequences.{Counts, AreValidSequences, BitmapTriples, Triple, triples_of};
+ghost use Rattle.hdt_triples.specs.TripleSequences.{AreValidSequences, BitmapTriples, Triple, triples_of};
+ghost use Rattle.hdt_triples.specs.declared.pattern.Counts.{Counts};
 ghost use Rattle.hdt_triples.specs.Order.{CountsFit64, AreAtMostCounts, AreWritable, TripleLess, AreAscending, AreInRange};
 ghost use Rattle.hdt_triples.specs.Inside.SequencesView.{sequences_view};
-ghost use Rattle.hdt_triples.specs.Triples.{IsTriples, decode_triple_parts};
+ghost use Rattle.hdt_triples.specs.Triples.{IsTriplesAt, decode_triple_parts};
 ghost use Rattle.hdt_triples.specs.Writing.{canonical_sequences, canonical_triples, canonical_triples_parts, sequences_of};
 ghost use Rattle.hdt_triples.specs.Inside.Writable.{IsWritableAt};
 ghost use Rattle.hdt_wire.specs.Checks.{IsBytes, HasSlice};
 ghost use Rattle.hdt_wire.specs.Exact.{Exactly};
 
 use crate::sequences::{Sequences, sequences_of};
+use crate::triples::Triples;
 use hdt_seq::{put_bits, put_numbers};
 use hdt_wire::{Kind, put_control, truncate_on_error};
 use std::alloc::{AllocError, Global};
@@ -45,9 +47,8 @@ fn put_sequences(made: &Sequences, out: &mut Vec<u8>) -> Result<(), AllocError>
 /// Appends the canonical encoding of a list of triples: control information with the property `order=1;`, bitmap Y,
 /// bitmap Z, array Y, array Z. Linear time and memory in the triples. On allocation failure `out` is unchanged.
 ///
-/// The caller shows that there is at least one triple, that the triples strictly ascend, that their subjects are
-/// 1, 2, 3, .. without a gap, and that their predicates and objects are at least 1, as
-/// [`are_writable`](crate::are_writable) checks.
+/// There must be at least one triple; the triples must strictly ascend; their subjects must be 1, 2, 3, .. without a
+/// gap; predicates and objects must be at least 1. [`are_writable`](crate::are_writable) checks this.
 pub fn put_triples(
     alloc: Global,
     triples: &[(u64, u64, u64)],
@@ -57,7 +58,8 @@ pub fn put_triples(
     ensures ok { OnOk result (out.new.items ≡ out.old.items ++ canonical_triples triples.now) }
     // It is read back with any counts that no ID exceeds.
     ensures triples { OnOk result ((counts : Counts) → AreAtMostCounts counts triples.now → CountsFit64 counts
-        → IsTriples counts (canonical_triples_parts triples.now (length out.old.items)) out.new.items (length out.old.items)) }
+        → IsTriplesAt counts (canonical_triples_parts triples.now (length out.old.items)) out.new.items
+        (length out.old.items)) }
     ensures err { OnErr result (out.new.items ≡ out.old.items) }
 {
     let made = sequences_of(alloc, triples)?;
@@ -109,20 +111,24 @@ pub fn are_writable(triples: &[(u64, u64, u64)]) -> bool
 /// The checks of triples pass exactly for the triples that are encoded at the offset.
 #[tactic(auto, using(crate::specs::Laws::Triples::triples_exact))]
 pub fn triples_are_exact()
-    ensures { (counts : Counts) (bytes : List ℕ) (at : ℕ) → IsBytes bytes → Exactly (decode_triple_parts counts bytes at) (λ t. IsTriples counts t bytes at) }
+    ensures { (counts : Counts) (bytes : List ℕ) (at : ℕ) → IsBytes bytes
+        → Exactly (decode_triple_parts counts bytes at) (λ t. IsTriplesAt counts t bytes at) }
 {}
 
 /// The triples of four valid sequences strictly ascend, and each ID is from 1 to the count of its role.
 #[tactic(auto, using(crate::specs::Laws::Order::triples_ascend, crate::specs::Laws::Order::triples_in_range))]
 pub fn triples_ascend()
     ensures ascend { (counts : Counts) (f : BitmapTriples) → AreValidSequences counts f → AreAscending (triples_of f) }
-    ensures range { (counts : Counts) (f : BitmapTriples) → AreValidSequences counts f → AreInRange counts (triples_of f) }
+    ensures range { (counts : Counts) (f : BitmapTriples) → AreValidSequences counts f
+        → AreInRange counts (triples_of f) }
 {}
 
 /// The sequences that are written for a list encode its triples. Their bytes are read back, whatever precedes and
 /// follows them.
 pub fn triples_round_trip()
     ensures counted { (ts : List Triple) → AreWritable ts → triples_of (sequences_of ts) ≡ ts }
-    ensures stands { (ts : List Triple) (counts : Counts) (bytes : List ℕ) (at end : ℕ) → AreWritable ts → AreAtMostCounts counts ts → CountsFit64 counts
-        → length ts < 2 ^ 64 → HasSlice bytes at (canonical_triples ts) end → IsTriples counts (canonical_triples_parts ts at) bytes at }
+    ensures stands { (ts : List Triple) (counts : Counts) (bytes : List ℕ) (at end : ℕ) → AreWritable ts
+        → AreAtMostCounts counts ts → CountsFit64 counts
+        → length ts < 2 ^ 64 → HasSlice bytes at (canonical_triples ts) end
+        → IsTriplesAt counts (canonical_triples_parts ts at) bytes at }
 {}

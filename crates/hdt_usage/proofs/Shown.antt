@@ -8,7 +8,9 @@ pub shown_parts : (n : ℕ) (xs : List ℕ) → shown (take n xs) ++ shown (drop
 shown_parts n xs = sym (flat_map-append shown_byte (take n xs) (drop n xs)) ∙ ap shown (take-append-drop n xs)
 
 -- A line that was shown in two parts, and marked where the second begins.
-pub marked_parts : (line all front : List ℕ) (n place width : ℕ) → front ≡ shown (take n line) → all ≡ front ++ shown (drop n line) → place ≡ length front
+pub marked_parts : (line all front : List ℕ) (n place width : ℕ) → front ≡ shown (take n line)
+    → all ≡ front ++ shown (drop n line) → place ≡ length front
     → marked_text all place width ≡ marked_line line n width
-marked_parts line all front n place width f a p = ap (λ x. marked_text x place width) (a ∙ ap (λ x. x ++ shown (drop n line)) f ∙ shown_parts n line)
+marked_parts line all front n place width f a p =
+    ap (λ x. marked_text x place width) (a ∙ ap (λ x. x ++ shown (drop n line)) f ∙ shown_parts n line)
     ∙ ap (λ x. marked_text (shown line) x width) (p ∙ ap (λ (x : List ℕ). length x) f)

@@ -48,7 +48,8 @@ no_progress_flag = flag_arg (codes "no-progress")
 
 -- A command with the argument FILE, `--verbose` and `--no-progress`.
 abbrev pub file_command : Text → App
-file_command name = with_rule (with_rule (with_rule (new_app name) (required_arg (codes "FILE"))) verbose_flag) no_progress_flag
+file_command name = with_rule (with_rule (with_rule (new_app name) (required_arg (codes "FILE"))) verbose_flag)
+    no_progress_flag
 
 -- `head FILE`
 abbrev pub head_command : App
@@ -60,20 +61,23 @@ progress_flag = flag_arg (codes "progress")
 
 -- `verify FILE`, with `--tight`, `--terms` and `--progress`
 abbrev pub verify_command : App
-verify_command = with_rule (with_rule (with_rule (file_command (codes "verify")) (flag_arg (codes "tight"))) (flag_arg (codes "terms"))) progress_flag
+verify_command = with_rule
+    (with_rule (with_rule (file_command (codes "verify")) (flag_arg (codes "tight"))) (flag_arg (codes "terms")))
+    progress_flag
 
 -- `info FILE`, with `--json`
 abbrev pub info_command : App
 info_command = with_rule (file_command (codes "info")) (flag_arg (codes "json"))
 
--- `--prefix STR`: a text; no default.
-abbrev pub prefix_option : Rule
-prefix_option = record (new_rule (codes "prefix")) { long = Some (codes "prefix"); value_names = 1 }
+-- `--name TEXT`: a text; no default.
+abbrev pub text_option : Text → Rule
+text_option id = record (new_rule id) { long = Some id; value_names = 1 }
 
 -- `strings FILE ROLE`, with `--prefix` and `--terms`
 abbrev pub strings_command : Names → App
 strings_command names =
-    with_rule (with_rule (with_rule (file_command (codes "strings")) (role_arg names)) prefix_option) (flag_arg (codes "terms"))
+    with_rule (with_rule (with_rule (file_command (codes "strings")) (role_arg names)) (text_option (codes "prefix")))
+    (flag_arg (codes "terms"))
 
 -- `string FILE ROLE N`
 abbrev pub string_command : Names → App
@@ -82,11 +86,17 @@ string_command names = with_rule (with_rule (file_command (codes "string")) (rol
 -- `number FILE ROLE TERM`, with `--raw`
 abbrev pub number_command : Names → App
 number_command names =
-    with_rule (with_rule (with_rule (file_command (codes "number")) (role_arg names)) (required_arg (codes "TERM"))) (flag_arg (codes "raw"))
+    with_rule (with_rule (with_rule (file_command (codes "number")) (role_arg names)) (required_arg (codes "TERM")))
+    (flag_arg (codes "raw"))
 
 -- `--name N`: a number below 2^64; no default.
 abbrev pub limit_option : Text → Rule
-limit_option id = record (new_rule id) { long = Some id; value_names = 1; parser = Some (parser.Unsigned 0 18446744073709551615) }
+limit_option id = record (new_rule id) {
+  long = Some id;
+  value_names = 1;
+  parser =
+      Some (parser.Unsigned 0 18446744073709551615);
+}
 
 -- `--most N`
 abbrev pub most_option : Rule
@@ -99,17 +109,20 @@ skip_flag = flag_arg (codes "skip-non-terms")
 -- `count FILE ROLE`, with `--top` and `--raw`
 abbrev pub count_command : Names → App
 count_command names =
-    with_rule (with_rule (with_rule (file_command (codes "count")) (role_arg names)) (limit_option (codes "top"))) (flag_arg (codes "raw"))
+    with_rule (with_rule (with_rule (file_command (codes "count")) (role_arg names)) (limit_option (codes "top")))
+    (flag_arg (codes "raw"))
 
 -- `find FILE S P O`
 abbrev pub find_pattern_command : App
 find_pattern_command =
-    with_rule (with_rule (with_rule (file_command (codes "find")) (required_arg (codes "S"))) (required_arg (codes "P"))) (required_arg (codes "O"))
+    with_rule (with_rule (with_rule (file_command (codes "find")) (required_arg (codes "S")))
+    (required_arg (codes "P"))) (required_arg (codes "O"))
 
 -- `find FILE S P O`, with `--raw`, `--numbers`, `--count`, `--quiet`, `--skip-non-terms` and `--most`
 abbrev pub find_command : App
 find_command =
-    with_rule (with_rule (with_rule (with_rule (with_rule (with_rule find_pattern_command (flag_arg (codes "raw"))) (flag_arg (codes "numbers")))
+    with_rule (with_rule (with_rule
+    (with_rule (with_rule (with_rule find_pattern_command (flag_arg (codes "raw"))) (flag_arg (codes "numbers")))
     (flag_arg (codes "count"))) (flag_arg (codes "quiet"))) skip_flag) most_option
 
 -- `dump FILE`, with `--skip-non-terms`
@@ -126,26 +139,36 @@ base_option = option_arg (codes "base") (codes "http://example.org/dataset")
 
 -- `--block-size N`: a number below 2^32.
 abbrev pub block_size_option : Rule
-block_size_option = record (option_arg (codes "block-size") (codes "16")) { parser = Some (parser.Signed (pos 0) (pos 4294967295)) }
+block_size_option = record (option_arg (codes "block-size") (codes "16")) {
+  parser =
+      Some (parser.Signed (pos 0) (pos 4294967295));
+}
 
 -- `--longest-request N`: a number below 2^32.
 abbrev pub longest_request_option : Rule
-longest_request_option = record (option_arg (codes "longest-request") (codes "1048576")) { parser = Some (parser.Signed (pos 0) (pos 4294967295)) }
+longest_request_option = record (option_arg (codes "longest-request") (codes "1048576")) {
+  parser =
+      Some (parser.Signed (pos 0) (pos 4294967295));
+}
 
 -- `answer FILE`, with `--raw`, `--numbers`, `--count`, `--skip-non-terms`, `--most` and `--longest-request`
 abbrev pub answer_command : App
 answer_command =
-    with_rule (with_rule (with_rule (with_rule (with_rule (with_rule (file_command (codes "answer")) (flag_arg (codes "raw"))) (flag_arg (codes "numbers")))
+    with_rule (with_rule (with_rule
+    (with_rule (with_rule (with_rule (file_command (codes "answer")) (flag_arg (codes "raw")))
+    (flag_arg (codes "numbers")))
     (flag_arg (codes "count"))) skip_flag) most_option) longest_request_option
 
 -- A command that writes a file, with the arguments IN and OUT, `--verbose` and `--no-progress`.
 abbrev pub in_out_command : Text → App
 in_out_command name =
-    with_rule (with_rule (with_rule (with_rule (new_app name) (required_arg (codes "IN"))) (required_arg (codes "OUT"))) verbose_flag) no_progress_flag
+    with_rule (with_rule (with_rule (with_rule (new_app name) (required_arg (codes "IN"))) (required_arg (codes "OUT")))
+    verbose_flag) no_progress_flag
 
 -- `build IN OUT`, with `--base`, `--block-size` and `--progress`
 abbrev pub build_command : App
-build_command = with_rule (with_rule (with_rule (in_out_command (codes "build")) base_option) block_size_option) progress_flag
+build_command = with_rule (with_rule (with_rule (in_out_command (codes "build")) base_option) block_size_option)
+    progress_flag
 
 -- `rewrite IN OUT`, with `--block-size` and `--progress`
 abbrev pub rewrite_command : App
@@ -157,7 +180,8 @@ first_input_arg = record (required_arg (codes "FILE")) { value_names = 1 }
 
 -- `lint IN`, with `--keep` and `--most`
 abbrev pub lint_command : App
-lint_command = with_rule (with_rule (with_rule (with_rule (new_app (codes "lint")) first_input_arg) (flag_arg (codes "keep"))) most_option) verbose_flag
+lint_command = with_rule (with_rule
+    (with_rule (with_rule (new_app (codes "lint")) first_input_arg) (flag_arg (codes "keep"))) most_option) verbose_flag
 
 -- `explain REASON`
 abbrev pub explain_command : App
@@ -165,11 +189,11 @@ explain_command = with_rule (new_app (codes "explain")) (required_arg (codes "RE
 
 -- PATHS: any number of texts, none too.
 abbrev pub paths_arg : Rule
-paths_arg = record (new_rule (codes "PATHS")) { action = Some Append; range = Some (record { start_inclusive = 0; end_inclusive = usize_max }) }
-
--- `--name TEXT`: a text; no default.
-abbrev pub text_option : Text → Rule
-text_option id = record (new_rule id) { long = Some id; value_names = 1 }
+paths_arg = record (new_rule (codes "PATHS")) {
+  action = Some Append;
+  range =
+      Some (record { start_inclusive = 0; end_inclusive = usize_max });
+}
 
 -- `split IN PATHS`
 abbrev pub split_paths_command : App
@@ -178,26 +202,35 @@ split_paths_command = with_rule (with_rule (new_app (codes "split")) first_input
 -- `split IN PATHS`, with `--parts`, `--of` and `--blank-nodes`
 abbrev pub split_command : App
 split_command =
-    with_rule (with_rule (with_rule (with_rule split_paths_command (limit_option (codes "parts"))) (text_option (codes "of")))
+    with_rule (with_rule (with_rule (with_rule split_paths_command (limit_option (codes "parts")))
+    (text_option (codes "of")))
     (text_option (codes "blank-nodes"))) verbose_flag
 
 -- The program without commands. It requires a command or `--version`.
 abbrev pub empty_program : App
-empty_program = let app = new_app (codes "hdt") in record app { top = record app.top { subcommand_required = true; has_version = true } }
+empty_program = let app = new_app (codes "hdt") in
+    record app { top = record app.top { subcommand_required = true; has_version = true } }
 
 -- The program with its commands, added in groups.
 abbrev pub file_commands : App
-file_commands = with_subcommand (with_subcommand (with_subcommand empty_program head_command.top) verify_command.top) info_command.top
+file_commands = with_subcommand (with_subcommand (with_subcommand empty_program head_command.top) verify_command.top)
+    info_command.top
 
 abbrev pub lookup_commands : Names → App
-lookup_commands names = with_subcommand (with_subcommand (with_subcommand file_commands (strings_command names).top) (string_command names).top) (number_command names).top
+lookup_commands names = with_subcommand
+    (with_subcommand (with_subcommand file_commands (strings_command names).top) (string_command names).top)
+    (number_command names).top
 
 abbrev pub triple_commands : Names → App
-triple_commands names = with_subcommand (with_subcommand (with_subcommand (lookup_commands names) find_command.top) answer_command.top) dump_command.top
+triple_commands names = with_subcommand
+    (with_subcommand (with_subcommand (lookup_commands names) find_command.top) answer_command.top) dump_command.top
 
 abbrev pub writing_commands : Names → App
-writing_commands names = with_subcommand (with_subcommand (with_subcommand (triple_commands names) (count_command names).top) build_command.top) rewrite_command.top
+writing_commands names = with_subcommand
+    (with_subcommand (with_subcommand (triple_commands names) (count_command names).top) build_command.top)
+    rewrite_command.top
 
 abbrev pub table : Names → App
 table names =
-    with_subcommand (with_subcommand (with_subcommand (writing_commands names) lint_command.top) split_command.top) explain_command.top
+    with_subcommand (with_subcommand (with_subcommand (writing_commands names) lint_command.top) split_command.top)
+    explain_command.top

@@ -32,17 +32,20 @@ first_named word (e ∷ es) = if is_named word e then Some e else first_named wo
 
 -- The explanation of an error, with what has it.
 abbrev pub explanation_text : List ℕ → ExplainedError → List ℕ
-explanation_text what e = codes "Error " ++ e.0 ++ codes " of " ++ what ++ codes ": " ++ e.1 ++ codes "\n\n" ++ e.2 ++ codes "\n\nCause: " ++ e.3
+explanation_text what e = codes "Error " ++ e.0 ++ codes " of " ++ what ++ codes ": " ++ e.1 ++ codes "\n\n" ++ e.2
+    ++ codes "\n\nCause: " ++ e.3
     ++ codes "\n\nRemedy: " ++ e.4
 
 -- A line that says which two errors a word names.
 abbrev pub two_errors : ExplainedError → ExplainedError → List ℕ
-two_errors file text = codes "Two errors: " ++ file.0 ++ codes " " ++ file.1 ++ codes " of an HDT file, and " ++ text.0 ++ codes " " ++ text.1
+two_errors file text = codes "Two errors: " ++ file.0 ++ codes " " ++ file.1 ++ codes " of an HDT file, and " ++ text.0
+    ++ codes " " ++ text.1
     ++ codes " of an N-Triples text."
 
 -- The explanations of an error of a file and of one of a text, after a line that names both.
 abbrev pub both_texts : ExplainedError → ExplainedError → List ℕ
-both_texts file text = two_errors file text ++ codes "\n\n" ++ explanation_text (codes "an HDT file") file ++ codes "\n\n"
+both_texts file text = two_errors file text ++ codes "\n\n" ++ explanation_text (codes "an HDT file") file
+    ++ codes "\n\n"
     ++ explanation_text (codes "an N-Triples text") text
 
 -- The explanation of an error of a file, of one of a text, or of both.

@@ -14,18 +14,23 @@ begins_as_term text = (slice_index text 0 == 60) || (slice_index text 0 == 34) |
 
 -- Whether a text begins with a digit or a sign.
 abbrev pub begins_as_number : List ℕ → Bool
-begins_as_number text = (nat_le 48 (slice_index text 0) && nat_le (slice_index text 0) 57) || (slice_index text 0 == 43) || (slice_index text 0 == 45)
+begins_as_number text = (nat_le 48 (slice_index text 0) && nat_le (slice_index text 0) 57) || (slice_index text 0 == 43)
+    || (slice_index text 0 == 45)
 
--- What to do about a prefix with which no string begins: a bracket is no part of an IRI, and a quotation mark is part of a
+-- What to do about a prefix with which no string begins: a bracket is no part of an IRI, and a quotation mark is part
+-- of a
 -- literal. Nothing is known of one that may begin a blank node, a literal or an IRI.
 abbrev pub prefix_hint : List ℕ → List ℕ
-prefix_hint prefix = if slice_index prefix 0 == 60 then codes "an IRI has no < and > in a dictionary: --prefix http://example.org/"
+prefix_hint prefix = if slice_index prefix 0 == 60 then codes
+    "an IRI has no < and > in a dictionary: --prefix http://example.org/"
     else if begins_as_term prefix || list_any (λ b. nat_eq b 58) prefix then []
     else codes "a literal begins with a double quote in a dictionary: --prefix '\"text'"
 
 -- What to do about an argument that is not an N-Triples term: nothing is known of one that begins as a term does.
 abbrev pub term_hint : List ℕ → List ℕ
 term_hint term = if begins_as_term term then []
-    else if list_any (λ b. nat_eq b 58) term then codes "an IRI is written between < and >, in single quotes: '<http://example.org/a>'"
-    else if begins_as_number term then codes "a number is a literal: '\"5\"^^<http://www.w3.org/2001/XMLSchema#integer>'"
+    else if list_any (λ b. nat_eq b 58) term then codes
+    "an IRI is written between < and >, in single quotes: '<http://example.org/a>'"
+    else if begins_as_number term then codes
+    "a number is a literal: '\"5\"^^<http://www.w3.org/2001/XMLSchema#integer>'"
     else codes "a literal is written in double quotes, within single ones: '\"text\"'"

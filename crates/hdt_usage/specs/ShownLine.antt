@@ -4,7 +4,8 @@ use Rattle.std.specs.List.{flat_map}
 
 -- A byte as a terminal shows it: printable ASCII as it is, any other byte as `\` and three octal digits.
 abbrev pub shown_byte : ℕ → List ℕ
-shown_byte b = if (nat_le 32 b && nat_le b 126) then b ∷ [] else 92 ∷ (48 + b / 64) ∷ (48 + b / 8 % 8) ∷ (48 + b % 8) ∷ []
+shown_byte b = if (nat_le 32 b && nat_le b 126) then b ∷ [] else 92 ∷ (48 + b / 64) ∷ (48 + b / 8 % 8) ∷ (48 + b % 8)
+    ∷ []
 
 abbrev pub shown : List ℕ → List ℕ
 shown bytes = flat_map shown_byte bytes
@@ -13,7 +14,8 @@ shown bytes = flat_map shown_byte bytes
 abbrev pub window_start : ℕ → ℕ → ℕ
 window_start place width = place - width / 2
 
--- A shown line, cut to a width around a place in it, and a line with `^` below that place. Both are indented by two spaces.
+-- A shown line, cut to a width around a place in it, and a line with `^` below that place. Both are indented by two
+-- spaces.
 abbrev pub marked_text : List ℕ → ℕ → ℕ → List ℕ
 marked_text text place width = 32 ∷ 32 ∷ (take width (drop (window_start place width) text)
     ++ 10 ∷ 32 ∷ 32 ∷ (replicate (place - window_start place width) 32 ++ 94 ∷ 10 ∷ []))

@@ -2,12 +2,11 @@
 ghost use Rattle.std.specs.Prelude.{◌≡◌, IfOk, false};
 ghost use Rattle.clap.specs.Words.{app_of, rule_of, with_rule};
 ghost use Rattle.clap.specs.declared.builder.command.Command.TheViews.{out-Command as fields_of};
-ghost use Rattle.hdt_usage.specs.CommandTable.{base_option, block_size_option, first_input_arg, flag_arg, limit_option, longest_request_option, most_option, no_progress_flag, number_arg, option_arg, paths_arg, prefix_option, progress_flag, required_arg, role_arg, text_option, verbose_flag};
+ghost use Rattle.hdt_usage.specs.CommandTable.{base_option, block_size_option, first_input_arg, flag_arg, limit_option, longest_request_option, most_option, no_progress_flag, number_arg, option_arg, paths_arg, progress_flag, required_arg, role_arg, text_option, verbose_flag};
 
 use crate::help::{
     BASE, BASE_HELP, BLOCK_SIZE_HELP, LONGEST_REQUEST_HELP, MOST_HELP, NO_PROGRESS_HELP,
-    NUMBER_HELP, PREFIX_HELP, PROGRESS_HELP, ROLE_HELP, SPLIT_IN_HELP, SPLIT_PATHS_HELP,
-    VERBOSE_HELP,
+    NUMBER_HELP, PROGRESS_HELP, ROLE_HELP, SPLIT_IN_HELP, SPLIT_PATHS_HELP, VERBOSE_HELP,
 };
 use clap::{Arg, ArgAction, Command, value_parser};
 use std::alloc::{AllocError, Global};
@@ -82,17 +81,17 @@ pub(crate) fn with_number<'a>(
 fn new_option<'a>(
     alloc: Global,
     id: &'a str,
-    called: &'a str,
-    value: &'a str,
+    value_name: &'a str,
+    default: &'a str,
     help: &'a str,
 ) -> Arg<'a>
-    ensures rule { rule_of result ≡ option_arg id.entry.now value.entry.now }
+    ensures rule { rule_of result ≡ option_arg id.entry.now default.entry.now }
     ensures optional { result.global ≡ false }
 {
     Arg::new(alloc, id)
         .long(id)
-        .value_name(called)
-        .default_value(value)
+        .value_name(value_name)
+        .default_value(default)
         .help(help)
 }
 
@@ -152,22 +151,6 @@ pub(crate) fn with_verbose<'a>(
     ensures local { IfOk result (λ c. (fields_of c).has_globals ≡ false) }
 {
     with_flag(alloc, command, "verbose", VERBOSE_HELP)
-}
-
-/// Adds `--prefix`, whose value is a text, to the command.
-pub(crate) fn with_prefix<'a>(
-    alloc: Global,
-    command: Command<'a>,
-) -> Result<Command<'a>, AllocError>
-    requires { (fields_of command).has_globals ≡ false }
-    ensures shape { IfOk result (λ c. app_of c ≡ with_rule (app_of command.entry) prefix_option) }
-    ensures local { IfOk result (λ c. (fields_of c).has_globals ≡ false) }
-{
-    let option = Arg::new(alloc, "prefix")
-        .long("prefix")
-        .value_name("STR")
-        .help(PREFIX_HELP);
-    command.arg(option)
 }
 
 /// Adds an option whose value is a number below 2^64, without a default, to the command.
@@ -247,13 +230,16 @@ pub(crate) fn with_text_option<'a>(
     alloc: Global,
     command: Command<'a>,
     id: &'a str,
-    called: &'a str,
+    value_name: &'a str,
     help: &'a str,
 ) -> Result<Command<'a>, AllocError>
     requires { (fields_of command).has_globals ≡ false }
     ensures shape { IfOk result (λ c. app_of c ≡ with_rule (app_of command.entry) (text_option id.entry.now)) }
     ensures local { IfOk result (λ c. (fields_of c).has_globals ≡ false) }
 {
-    let option = Arg::new(alloc, id).long(id).value_name(called).help(help);
+    let option = Arg::new(alloc, id)
+        .long(id)
+        .value_name(value_name)
+        .help(help);
     command.arg(option)
 }

@@ -6,8 +6,8 @@ ghost use Rattle.hdt_usage.specs.CommandTable.{build_command, rewrite_command, i
 
 use crate::arguments::{
     with_base, with_block_size, with_first_input, with_flag, with_limit, with_longest_request,
-    with_most, with_no_progress, with_number, with_paths, with_prefix, with_progress,
-    with_required_arg, with_role, with_text_option, with_verbose,
+    with_most, with_no_progress, with_number, with_paths, with_progress, with_required_arg,
+    with_role, with_text_option, with_verbose,
 };
 use crate::help::{
     ABOUT, AFTER_HELP, ANSWER_ABOUT, ANSWER_LONG_ABOUT, BUILD_ABOUT, BUILD_LONG_ABOUT, COUNT_ABOUT,
@@ -15,17 +15,17 @@ use crate::help::{
     FILE_HELP, FIND_ABOUT, FIND_LONG_ABOUT, HEAD_ABOUT, HEAD_LONG_ABOUT, IN_HELP, INFO_ABOUT,
     INFO_LONG_ABOUT, JSON_HELP, KEEP_HELP, LINT_ABOUT, LINT_LONG_ABOUT, MOST_FAULTY_HELP,
     NON_TERMS_HELP, NUMBER_ABOUT, NUMBER_LONG_ABOUT, NUMBERS_HELP, OBJECT_HELP, OUT_HELP,
-    PREDICATE_HELP, QUIET_HELP, RAW_HELP, RAW_PARTS_HELP, RAW_REQUESTS_HELP, RAW_STRINGS_HELP,
-    REASON_HELP, REWRITE_ABOUT, REWRITE_LONG_ABOUT, SERVED_FILE_HELP, SKIP_HELP, SPLIT_ABOUT,
-    SPLIT_BLANK_NODES_HELP, SPLIT_LONG_ABOUT, SPLIT_OF_HELP, SPLIT_PARTS_HELP, SPLIT_USAGE,
-    STRING_ABOUT, STRINGS_ABOUT, STRINGS_LONG_ABOUT, SUBJECT_HELP, TERM_HELP, TERMS_HELP,
-    TIGHT_HELP, TOP_HELP, VERIFY_ABOUT, VERIFY_LONG_ABOUT, VERSION,
+    PREDICATE_HELP, PREFIX_HELP, QUIET_HELP, RAW_HELP, RAW_PARTS_HELP, RAW_REQUESTS_HELP,
+    RAW_STRINGS_HELP, REASON_HELP, REWRITE_ABOUT, REWRITE_LONG_ABOUT, SERVED_FILE_HELP, SKIP_HELP,
+    SPLIT_ABOUT, SPLIT_BLANK_NODES_HELP, SPLIT_LONG_ABOUT, SPLIT_OF_HELP, SPLIT_PARTS_HELP,
+    SPLIT_USAGE, STRING_ABOUT, STRINGS_ABOUT, STRINGS_LONG_ABOUT, SUBJECT_HELP, TERM_HELP,
+    TERMS_HELP, TIGHT_HELP, TOP_HELP, VERIFY_ABOUT, VERIFY_LONG_ABOUT, VERSION,
 };
 use clap::Command;
 use std::alloc::{AllocError, Global};
 
 /// A command with the argument FILE, with this help, and `--verbose` and `--no-progress`.
-fn new_file_command<'a>(
+fn file_command<'a>(
     alloc: Global,
     name: &'a str,
     about: &'a str,
@@ -43,25 +43,12 @@ fn new_file_command<'a>(
     with_no_progress(alloc, command)
 }
 
-/// A command with the argument FILE, `--verbose` and `--no-progress`.
-fn file_command<'a>(
-    alloc: Global,
-    name: &'a str,
-    about: &'a str,
-    long_about: &'a str,
-) -> Result<Command<'a>, AllocError>
-    ensures shape { IfOk result (λ c. app_of c ≡ file_command name.entry.now) }
-    ensures local { IfOk result (λ c. (fields_of c).has_globals ≡ false) }
-{
-    new_file_command(alloc, name, about, long_about, FILE_HELP)
-}
-
 /// `head FILE`.
 fn new_head_command<'a>(alloc: Global) -> Result<Command<'a>, AllocError>
     ensures shape { IfOk result (λ c. app_of c ≡ head_command) }
     ensures local { IfOk result (λ c. (fields_of c).has_globals ≡ false) }
 {
-    file_command(alloc, "head", HEAD_ABOUT, HEAD_LONG_ABOUT)
+    file_command(alloc, "head", HEAD_ABOUT, HEAD_LONG_ABOUT, FILE_HELP)
 }
 
 /// `verify FILE`, with `--tight`, `--terms` and `--progress`.
@@ -69,7 +56,7 @@ fn new_verify_command<'a>(alloc: Global) -> Result<Command<'a>, AllocError>
     ensures shape { IfOk result (λ c. app_of c ≡ verify_command) }
     ensures local { IfOk result (λ c. (fields_of c).has_globals ≡ false) }
 {
-    let command = file_command(alloc, "verify", VERIFY_ABOUT, VERIFY_LONG_ABOUT)?;
+    let command = file_command(alloc, "verify", VERIFY_ABOUT, VERIFY_LONG_ABOUT, FILE_HELP)?;
     let command = with_flag(alloc, command, "tight", TIGHT_HELP)?;
     let command = with_flag(alloc, command, "terms", NON_TERMS_HELP)?;
     with_progress(alloc, command)
@@ -80,7 +67,7 @@ fn new_info_command<'a>(alloc: Global) -> Result<Command<'a>, AllocError>
     ensures shape { IfOk result (λ c. app_of c ≡ info_command) }
     ensures local { IfOk result (λ c. (fields_of c).has_globals ≡ false) }
 {
-    let command = file_command(alloc, "info", INFO_ABOUT, INFO_LONG_ABOUT)?;
+    let command = file_command(alloc, "info", INFO_ABOUT, INFO_LONG_ABOUT, FILE_HELP)?;
     with_flag(alloc, command, "json", JSON_HELP)
 }
 
@@ -89,9 +76,15 @@ fn new_strings_command<'a>(alloc: Global, roles: &'a [&'a str]) -> Result<Comman
     ensures shape { IfOk result (λ c. app_of c ≡ strings_command roles.entry) }
     ensures local { IfOk result (λ c. (fields_of c).has_globals ≡ false) }
 {
-    let command = file_command(alloc, "strings", STRINGS_ABOUT, STRINGS_LONG_ABOUT)?;
+    let command = file_command(
+        alloc,
+        "strings",
+        STRINGS_ABOUT,
+        STRINGS_LONG_ABOUT,
+        FILE_HELP,
+    )?;
     let command = with_role(alloc, command, roles)?;
-    let command = with_prefix(alloc, command)?;
+    let command = with_text_option(alloc, command, "prefix", "STR", PREFIX_HELP)?;
     with_flag(alloc, command, "terms", TERMS_HELP)
 }
 
@@ -100,7 +93,7 @@ fn new_string_command<'a>(alloc: Global, roles: &'a [&'a str]) -> Result<Command
     ensures shape { IfOk result (λ c. app_of c ≡ string_command roles.entry) }
     ensures local { IfOk result (λ c. (fields_of c).has_globals ≡ false) }
 {
-    let command = file_command(alloc, "string", STRING_ABOUT, STRING_ABOUT)?;
+    let command = file_command(alloc, "string", STRING_ABOUT, STRING_ABOUT, FILE_HELP)?;
     let command = with_role(alloc, command, roles)?;
     with_number(alloc, command)
 }
@@ -110,7 +103,7 @@ fn new_number_command<'a>(alloc: Global, roles: &'a [&'a str]) -> Result<Command
     ensures shape { IfOk result (λ c. app_of c ≡ number_command roles.entry) }
     ensures local { IfOk result (λ c. (fields_of c).has_globals ≡ false) }
 {
-    let command = file_command(alloc, "number", NUMBER_ABOUT, NUMBER_LONG_ABOUT)?;
+    let command = file_command(alloc, "number", NUMBER_ABOUT, NUMBER_LONG_ABOUT, FILE_HELP)?;
     let command = with_role(alloc, command, roles)?;
     let command = with_required_arg(alloc, command, "TERM", TERM_HELP)?;
     with_flag(alloc, command, "raw", RAW_HELP)
@@ -121,7 +114,7 @@ fn new_count_command<'a>(alloc: Global, roles: &'a [&'a str]) -> Result<Command<
     ensures shape { IfOk result (λ c. app_of c ≡ count_command roles.entry) }
     ensures local { IfOk result (λ c. (fields_of c).has_globals ≡ false) }
 {
-    let command = file_command(alloc, "count", COUNT_ABOUT, COUNT_LONG_ABOUT)?;
+    let command = file_command(alloc, "count", COUNT_ABOUT, COUNT_LONG_ABOUT, FILE_HELP)?;
     let command = with_role(alloc, command, roles)?;
     let command = with_limit(alloc, command, "top", TOP_HELP)?;
     with_flag(alloc, command, "raw", RAW_STRINGS_HELP)
@@ -132,7 +125,7 @@ fn find_pattern_command<'a>(alloc: Global) -> Result<Command<'a>, AllocError>
     ensures shape { IfOk result (λ c. app_of c ≡ find_pattern_command) }
     ensures local { IfOk result (λ c. (fields_of c).has_globals ≡ false) }
 {
-    let command = file_command(alloc, "find", FIND_ABOUT, FIND_LONG_ABOUT)?;
+    let command = file_command(alloc, "find", FIND_ABOUT, FIND_LONG_ABOUT, FILE_HELP)?;
     let command = with_required_arg(alloc, command, "S", SUBJECT_HELP)?;
     let command = with_required_arg(alloc, command, "P", PREDICATE_HELP)?;
     with_required_arg(alloc, command, "O", OBJECT_HELP)
@@ -157,7 +150,7 @@ fn new_dump_command<'a>(alloc: Global) -> Result<Command<'a>, AllocError>
     ensures shape { IfOk result (λ c. app_of c ≡ dump_command) }
     ensures local { IfOk result (λ c. (fields_of c).has_globals ≡ false) }
 {
-    let command = file_command(alloc, "dump", DUMP_ABOUT, DUMP_LONG_ABOUT)?;
+    let command = file_command(alloc, "dump", DUMP_ABOUT, DUMP_LONG_ABOUT, FILE_HELP)?;
     with_flag(alloc, command, "skip-non-terms", SKIP_HELP)
 }
 
@@ -213,7 +206,7 @@ fn new_answer_command<'a>(alloc: Global) -> Result<Command<'a>, AllocError>
     ensures shape { IfOk result (λ c. app_of c ≡ answer_command) }
     ensures local { IfOk result (λ c. (fields_of c).has_globals ≡ false) }
 {
-    let command = new_file_command(
+    let command = file_command(
         alloc,
         "answer",
         ANSWER_ABOUT,

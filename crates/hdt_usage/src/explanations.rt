@@ -6,8 +6,8 @@ use crate::file_errors::FILE_ERRORS;
 use crate::text_errors::TEXT_ERRORS;
 use std::alloc::{AllocError, Global};
 
-/// An error that docs/ERRORS.md explains: its number in decimal, its name, what is wrong, what usually causes it, and what
-/// to do. (A struct with texts cannot be named in specs/ if it is a constant.)
+/// An error that docs/ERRORS.md explains: its number in decimal, its name, what is wrong, what usually causes it, and
+/// what to do. (A struct with texts cannot be named in specs/ if it is a constant.)
 pub type Explanation = (
     &'static str,
     &'static str,
@@ -41,7 +41,8 @@ fn is_named(word: &str, error: &Explanation) -> bool
 
 /// The first error that a word names, by its number or by its name in letters of any case.
 pub fn first_named<'a>(word: &str, errors: &'a [Explanation]) -> Option<&'a Explanation>
-    ensures { option_map (λ error. explained_error error.now) result ≡ first_named word.now (map explained_error errors.now) }
+    ensures { option_map (λ error. explained_error error.now) result
+        ≡ first_named word.now (map explained_error errors.now) }
 {
     'errors: for error in errors {
         if is_named(word, error) {
@@ -63,7 +64,8 @@ fn explanation_text(alloc: Global, what: &str, error: &Explanation) -> Result<St
 
 /// The line that says which two errors a word names.
 fn two_errors(alloc: Global, file: &Explanation, text: &Explanation) -> Result<String, AllocError>
-    ensures { IfOk result (λ line. string_bytes line ≡ two_errors (explained_error file.now) (explained_error text.now)) }
+    ensures { IfOk result (λ line. string_bytes line
+        ≡ two_errors (explained_error file.now) (explained_error text.now)) }
 {
     let (file_number, file_name, _, _, _) = *file;
     let (text_number, text_name, _, _, _) = *text;
@@ -74,7 +76,8 @@ fn two_errors(alloc: Global, file: &Explanation, text: &Explanation) -> Result<S
 
 /// The explanations of an error of a file and of one of a text, after a line that names both.
 fn both_texts(alloc: Global, file: &Explanation, text: &Explanation) -> Result<String, AllocError>
-    ensures { IfOk result (λ found. string_bytes found ≡ both_texts (explained_error file.now) (explained_error text.now)) }
+    ensures { IfOk result (λ found. string_bytes found
+        ≡ both_texts (explained_error file.now) (explained_error text.now)) }
 {
     let line = two_errors(alloc, file, text)?;
     let of_file = explanation_text(alloc, "an HDT file", file)?;

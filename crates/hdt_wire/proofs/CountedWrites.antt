@@ -19,9 +19,11 @@ pub grown : (old new xs : List ℕ) → new ≡ old ++ xs → HasAppended old ne
 grown old new xs p = record { more = xs; whole = p }
 
 pub grows : (old mid new xs : List ℕ) → HasAppended old mid → new ≡ mid ++ xs → HasAppended old new
-grows old mid new xs g p = record { more = g.more ++ xs; whole = p ∙ ap (λ (t : List ℕ). t ++ xs) g.whole ∙ append_assoc old g.more xs }
+grows old mid new xs g p =
+    record { more = g.more ++ xs; whole = p ∙ ap (λ (t : List ℕ). t ++ xs) g.whole ∙ append_assoc old g.more xs }
 
 -- if a write fails and changes nothing, what was there before all writes is still a prefix
-pub prefix_if_failed : {T E : Type 0} (result : Result T E) (old mid new : List ℕ) → HasAppended old mid → new ≡ mid → OnErr result (IsPrefixOf old new)
+pub prefix_if_failed : {T E : Type 0} (result : Result T E) (old mid new : List ℕ) → HasAppended old mid → new ≡ mid
+    → OnErr result (IsPrefixOf old new)
 prefix_if_failed (Ok x) old mid new g p = tt
 prefix_if_failed (Err e) old mid new g p = ap (take (length old)) (p ∙ g.whole) ∙ take_at old g.more (length old) refl

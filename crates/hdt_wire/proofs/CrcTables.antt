@@ -14,7 +14,8 @@ abbrev pub is_table_of : (ℕ → ℕ) → ℕ → List ℕ → Bool
 is_table_of f i [] = true
 is_table_of f i (x ∷ xs) = eqb x (f i) && is_table_of f (i + 1) xs
 
-lists_at : (f : ℕ → ℕ) (i : ℕ) (xs : List ℕ) (k : ℕ) → is_table_of f i xs ≡ true → k < length xs → get_or xs k 0 ≡ f (i + k)
+lists_at : (f : ℕ → ℕ) (i : ℕ) (xs : List ℕ) (k : ℕ) → is_table_of f i xs ≡ true → k < length xs
+    → get_or xs k 0 ≡ f (i + k)
 lists_at f i [] k h lt = absurd (omega arith)
 lists_at f i (x ∷ xs) zero h lt =
     let here : i ≡ i + 0 = omega arith in
@@ -29,32 +30,47 @@ unfolding shift_right
 shift_above p low high =
     let half-high : high * 2 / 2 ≡ high = omega arith in
     let no-bit : high * 2 % 2 ≡ 0 = omega arith in
-    let half : bit_xor low (high * 2) / 2 ≡ bit_xor (low / 2) high = xor_shr low (high * 2) 1 ∙ ap (bit_xor (low / 2)) half-high in
-    let odd : bit_xor low (high * 2) % 2 ≡ low % 2 = xor_mod low (high * 2) 1 ∙ ap (bit_xor (low % 2)) no-bit ∙ xor_zero_r (low % 2) in
+    let half : bit_xor low (high * 2) / 2 ≡ bit_xor (low / 2) high = xor_shr low (high * 2) 1
+    ∙ ap (bit_xor (low / 2)) half-high in
+    let odd : bit_xor low (high * 2) % 2 ≡ low % 2 = xor_mod low (high * 2) 1 ∙ ap (bit_xor (low % 2)) no-bit
+    ∙ xor_zero_r (low % 2) in
     elim (cases_Bool (eqb (low % 2) 1)) [
-      | inl e ↦ rw (odd, e, half) (xor_assoc (low / 2) high p ∙ ap (bit_xor (low / 2)) (xor_comm high p) ∙ sym (xor_assoc (low / 2) p high))
+      | inl e ↦ rw (odd, e, half) (xor_assoc (low / 2) high p ∙ ap (bit_xor (low / 2)) (xor_comm high p)
+          ∙ sym (xor_assoc (low / 2) p high))
       | inr e ↦ rw (odd, e, half) refl
     ]
 
-pub shifts_above : (p n low high : ℕ) → iterate (shift_right p) n (bit_xor low (high * 2 ^ n)) ≡ bit_xor (iterate (shift_right p) n low) high
+pub shifts_above : (p n low high : ℕ) → iterate (shift_right p) n (bit_xor low (high * 2 ^ n))
+    ≡ bit_xor (iterate (shift_right p) n low) high
 shifts_above p zero low high = ap (bit_xor low) (omega arith)
 shifts_above p (suc n) low high =
     let e : high * 2 ^ suc n ≡ (high * 2 ^ n) * 2 = rw pow-suc (omega arith) in
-    ap (λ (x : ℕ). iterate (shift_right p) n (shift_right p (bit_xor low x))) e ∙ ap (iterate (shift_right p) n) (shift_above p low (high * 2 ^ n)) ∙ shifts_above p n (shift_right p low) high
+    ap (λ (x : ℕ). iterate (shift_right p) n (shift_right p (bit_xor low x))) e
+    ∙ ap (iterate (shift_right p) n) (shift_above p low (high * 2 ^ n)) ∙ shifts_above p n (shift_right p low) high
 
 -- a byte is xored into the low byte of a register only
-joined : (high low byte : ℕ) → low < 2 ^ 8 → byte < 2 ^ 8 → bit_xor (high * 2 ^ 8 + low) byte ≡ bit_xor (bit_xor low byte) (high * 2 ^ 8)
+joined : (high low byte : ℕ) → low < 2 ^ 8 → byte < 2 ^ 8
+    → bit_xor (high * 2 ^ 8 + low) byte ≡ bit_xor (bit_xor low byte) (high * 2 ^ 8)
 joined high low byte small fits =
     let z : (n : ℕ) → 0 * 2 ^ 8 + n ≡ n = λ n. omega arith in
     let w : high * 2 ^ 8 + 0 ≡ high * 2 ^ 8 = omega arith in
-    let left : bit_xor (high * 2 ^ 8 + low) (0 * 2 ^ 8 + byte) ≡ bit_xor high 0 * 2 ^ 8 + bit_xor low byte = xor_block 8 high 0 low byte small fits in
-    let right : bit_xor (0 * 2 ^ 8 + bit_xor low byte) (high * 2 ^ 8 + 0) ≡ bit_xor 0 high * 2 ^ 8 + bit_xor (bit_xor low byte) 0 = xor_block 8 0 high (bit_xor low byte) 0 (xor_lt 8 low byte small fits) (omega arith) in
-    let left' : bit_xor (high * 2 ^ 8 + low) byte ≡ high * 2 ^ 8 + bit_xor low byte = ap (bit_xor (high * 2 ^ 8 + low)) (sym (z byte)) ∙ left ∙ ap (λ (n : ℕ). n * 2 ^ 8 + bit_xor low byte) (xor_zero_r high) in
-    let right' : bit_xor (bit_xor low byte) (high * 2 ^ 8) ≡ high * 2 ^ 8 + bit_xor low byte = ap (λ (n : ℕ). bit_xor n (high * 2 ^ 8)) (sym (z (bit_xor low byte))) ∙ ap (bit_xor (0 * 2 ^ 8 + bit_xor low byte)) (sym w) ∙ right
-    ∙ ap (λ (n : ℕ). n * 2 ^ 8 + bit_xor (bit_xor low byte) 0) (xor_zero_l high) ∙ ap (λ (n : ℕ). high * 2 ^ 8 + n) (xor_zero_r (bit_xor low byte)) in
+    let left : bit_xor (high * 2 ^ 8 + low) (0 * 2 ^ 8 + byte) ≡ bit_xor high 0 * 2 ^ 8 + bit_xor low byte =
+    xor_block 8 high 0 low byte small fits in
+    let right : bit_xor (0 * 2 ^ 8 + bit_xor low byte) (high * 2 ^ 8 + 0)
+    ≡ bit_xor 0 high * 2 ^ 8 + bit_xor (bit_xor low byte) 0 =
+    xor_block 8 0 high (bit_xor low byte) 0 (xor_lt 8 low byte small fits) (omega arith) in
+    let left' : bit_xor (high * 2 ^ 8 + low) byte ≡ high * 2 ^ 8 + bit_xor low byte =
+    ap (bit_xor (high * 2 ^ 8 + low)) (sym (z byte)) ∙ left
+    ∙ ap (λ (n : ℕ). n * 2 ^ 8 + bit_xor low byte) (xor_zero_r high) in
+    let right' : bit_xor (bit_xor low byte) (high * 2 ^ 8) ≡ high * 2 ^ 8 + bit_xor low byte =
+    ap (λ (n : ℕ). bit_xor n (high * 2 ^ 8)) (sym (z (bit_xor low byte)))
+    ∙ ap (bit_xor (0 * 2 ^ 8 + bit_xor low byte)) (sym w) ∙ right
+    ∙ ap (λ (n : ℕ). n * 2 ^ 8 + bit_xor (bit_xor low byte) 0) (xor_zero_l high)
+    ∙ ap (λ (n : ℕ). high * 2 ^ 8 + n) (xor_zero_r (bit_xor low byte)) in
     left' ∙ sym right'
 
-parts : (register byte : ℕ) → byte < 256 → bit_xor register byte ≡ bit_xor (bit_xor (register % 256) byte) (register / 256 * 2 ^ 8)
+parts : (register byte : ℕ) → byte < 256
+    → bit_xor register byte ≡ bit_xor (bit_xor (register % 256) byte) (register / 256 * 2 ^ 8)
 parts register byte lt =
     let whole : register ≡ register / 256 * 2 ^ 8 + register % 256 = omega arith in
     ap (λ (n : ℕ). bit_xor n byte) whole ∙ joined (register / 256) (register % 256) byte (omega arith) lt
@@ -63,8 +79,10 @@ parts register byte lt =
 by_entry : (p register byte entry : ℕ) → byte < 256 → entry ≡ iterate (shift_right p) 8 (bit_xor (register % 256) byte)
     → bit_xor (register / 256) entry ≡ iterate (shift_right p) 8 (bit_xor register byte)
 by_entry p register byte entry lt is =
-    ap (bit_xor (register / 256)) is ∙ xor_comm (register / 256) (iterate (shift_right p) 8 (bit_xor (register % 256) byte))
-    ∙ sym (ap (iterate (shift_right p) 8) (parts register byte lt) ∙ shifts_above p 8 (bit_xor (register % 256) byte) (register / 256))
+    ap (bit_xor (register / 256)) is
+    ∙ xor_comm (register / 256) (iterate (shift_right p) 8 (bit_xor (register % 256) byte))
+    ∙ sym (ap (iterate (shift_right p) 8) (parts register byte lt)
+    ∙ shifts_above p 8 (bit_xor (register % 256) byte) (register / 256))
 
 -- ---- each table has the shifts of each byte, by evaluation
 table8_holds : is_table_of (iterate shift_left 8) 0 TABLE8 ≡ true
@@ -79,22 +97,31 @@ pub after_8_holds : is_table_of (iterate (shift_right 0x82F63B78) 8) 0 AFTER_8 �
 unfolding shift_right
 after_8_holds = refl
 
-pub table_entry : (f : ℕ → ℕ) (table : List ℕ) (k : ℕ) → is_table_of f 0 table ≡ true → k < length table → get_or table k 0 ≡ f k
+pub table_entry : (f : ℕ → ℕ) (table : List ℕ) (k : ℕ) → is_table_of f 0 table ≡ true → k < length table
+    → get_or table k 0 ≡ f k
 table_entry f table k holds lt = lists_at f 0 table k holds lt ∙ ap f (omega arith)
 
-pub entry8 : (register byte : ℕ) → register < 256 → byte < 256 → get_or TABLE8 (bit_xor register byte) 0 ≡ crc8_step register byte
+pub entry8 : (register byte : ℕ) → register < 256 → byte < 256
+    → get_or TABLE8 (bit_xor register byte) 0 ≡ crc8_step register byte
 unfolding crc8_step
-entry8 register byte small lt = table_entry (iterate shift_left 8) TABLE8 (bit_xor register byte) table8_holds (xor_lt 8 register byte small lt)
+entry8 register byte small lt =
+    table_entry (iterate shift_left 8) TABLE8 (bit_xor register byte) table8_holds (xor_lt 8 register byte small lt)
 
-pub entry16 : (register byte : ℕ) → byte < 256 → bit_xor (register / 256) (get_or TABLE16 (bit_xor (register % 256) byte) 0) ≡ crc16_step register byte
+pub entry16 : (register byte : ℕ) → byte < 256
+    → bit_xor (register / 256) (get_or TABLE16 (bit_xor (register % 256) byte) 0) ≡ crc16_step register byte
 unfolding crc16_step
 entry16 register byte lt =
-    by_entry 0xA001 register byte _ lt (table_entry (iterate (shift_right 0xA001) 8) TABLE16 (bit_xor (register % 256) byte) table16_holds (xor_lt 8 (register % 256) byte (omega arith) lt))
+    by_entry 0xA001 register byte _ lt
+    (table_entry (iterate (shift_right 0xA001) 8) TABLE16 (bit_xor (register % 256) byte) table16_holds
+    (xor_lt 8 (register % 256) byte (omega arith) lt))
 
-pub entry32 : (register byte : ℕ) → byte < 256 → bit_xor (register / 256) (get_or AFTER_8 (bit_xor (register % 256) byte) 0) ≡ crc32_step register byte
+pub entry32 : (register byte : ℕ) → byte < 256
+    → bit_xor (register / 256) (get_or AFTER_8 (bit_xor (register % 256) byte) 0) ≡ crc32_step register byte
 unfolding crc32_step
 entry32 register byte lt =
-    by_entry 0x82F63B78 register byte _ lt (table_entry (iterate (shift_right 0x82F63B78) 8) AFTER_8 (bit_xor (register % 256) byte) after_8_holds (xor_lt 8 (register % 256) byte (omega arith) lt))
+    by_entry 0x82F63B78 register byte _ lt
+    (table_entry (iterate (shift_right 0x82F63B78) 8) AFTER_8 (bit_xor (register % 256) byte) after_8_holds
+    (xor_lt 8 (register % 256) byte (omega arith) lt))
 
 -- the index into a table is a byte
 pub low_fits : (register byte : ℕ) → byte < 256 → bit_xor (register % 256) byte < 256

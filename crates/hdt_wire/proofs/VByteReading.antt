@@ -11,7 +11,8 @@ use Rattle.hdt_wire.specs.VByte.{base128_value}
 
 -- ---- the value of the digits so far
 
-pub base128_value_push : (xs : List ℕ) (b : ℕ) → base128_value (xs ++ b ∷ []) ≡ base128_value xs + b % 128 * 128 ^ length xs
+pub base128_value_push : (xs : List ℕ) (b : ℕ)
+    → base128_value (xs ++ b ∷ []) ≡ base128_value xs + b % 128 * 128 ^ length xs
 base128_value_push [] b = omega arith
 base128_value_push (x ∷ xs) b =
     let e : base128_value (xs ++ b ∷ []) ≡ base128_value xs + b % 128 * 128 ^ length xs = base128_value_push xs b in
@@ -33,7 +34,8 @@ scale_fits i lt =
     pow-le-pow_right (lit< tt) le
 
 -- no byte has its top bit set
-pub no_last : (seen : List ℕ) → ((k : ℕ) → k < length seen → get_or seen k 0 < 128) → position_or_len (λ b. leb 128 b) seen ≡ length seen
+pub no_last : (seen : List ℕ) → ((k : ℕ) → k < length seen → get_or seen k 0 < 128)
+    → position_or_len (λ b. leb 128 b) seen ≡ length seen
 no_last seen low =
     let p : ℕ → Bool = λ b. not (leb 128 b) in
     elim (cases_lt (prefix_len p seen) (length seen)) [
@@ -44,15 +46,20 @@ no_last seen low =
     ]
 
 -- the value after one more digit
-pub base128_value_more : (seen : List ℕ) (i value scale : ℕ) → ValueSoFar seen i value scale → i < length seen → value + get_or seen i 0 % 128 * scale ≡ base128_value (take (i + 1) seen)
+pub base128_value_more : (seen : List ℕ) (i value scale : ℕ) → ValueSoFar seen i value scale → i < length seen
+    → value + get_or seen i 0 % 128 * scale ≡ base128_value (take (i + 1) seen)
 base128_value_more seen i value scale h lt =
     let len : length (take i seen) ≡ i = omega (arith, length-take i seen) in
-    let e : base128_value (take (i + 1) seen) ≡ base128_value (take i seen) + get_or seen i 0 % 128 * 128 ^ length (take i seen) = rw (take_more seen i 0 lt) (base128_value_push (take i seen) (get_or seen i 0)) in
-    let f : base128_value (take (i + 1) seen) ≡ base128_value (take i seen) + get_or seen i 0 % 128 * 128 ^ i = rw len at e in
+    let e : base128_value (take (i + 1) seen)
+    ≡ base128_value (take i seen) + get_or seen i 0 % 128 * 128 ^ length (take i seen) =
+    rw (take_more seen i 0 lt) (base128_value_push (take i seen) (get_or seen i 0)) in
+    let f : base128_value (take (i + 1) seen) ≡ base128_value (take i seen) + get_or seen i 0 % 128 * 128 ^ i =
+    rw len at e in
     rw (h.is_number, h.is_scale) (sym f)
 
 -- the value and the scale don't overflow
-pub ValueSoFar-fit : (seen : List ℕ) (i value scale : ℕ) → ValueSoFar seen i value scale → i < length seen → length seen ≤ 10 → (value < scale) × (scale ≤ 2 ^ 63)
+pub ValueSoFar-fit : (seen : List ℕ) (i value scale : ℕ) → ValueSoFar seen i value scale → i < length seen
+    → length seen ≤ 10 → (value < scale) × (scale ≤ 2 ^ 63)
 ValueSoFar-fit seen i value scale h lt short =
     let len : length (take i seen) ≡ i = omega (arith, length-take i seen) in
     let below : base128_value (take i seen) < 128 ^ i = rw len at (base128_value_below (take i seen)) in

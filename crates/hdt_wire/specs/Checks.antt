@@ -58,7 +58,8 @@ pub record HasSlice (bytes : List ℕ) (at : ℕ) (text : List ℕ) (end : ℕ) 
   pub here : slice_range bytes at end ≡ text
 
 -- the bytes from an offset up to an end encode the value
-pub record EncodedAt {V : Type 0} (Encodes : List ℕ → V → Type 0) (bytes : List ℕ) (at : ℕ) (v : V) (end : ℕ) : Type 0 where
+pub record EncodedAt {V : Type 0} (Encodes : List ℕ → V
+    → Type 0) (bytes : List ℕ) (at : ℕ) (v : V) (end : ℕ) : Type 0 where
   pub in_order : at ≤ end
   pub within : end ≤ length bytes
   pub spelled : Encodes (slice_range bytes at end) v

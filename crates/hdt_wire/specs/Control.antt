@@ -36,7 +36,8 @@ control_without_crc kind properties = cookie ++ kind_code kind ∷ (format_text 
 
 -- the bytes of control information: the CRC is last, little-endian
 abbrev pub control : Kind → List ℕ → List ℕ
-control kind properties = control_without_crc kind properties ++ little_bytes 2 (crc16 (control_without_crc kind properties))
+control kind properties =
+    control_without_crc kind properties ++ little_bytes 2 (crc16 (control_without_crc kind properties))
 
 -- the old list is a prefix of the new one
 abbrev pub IsPrefixOf : List ℕ → List ℕ → Type 0
@@ -52,13 +53,24 @@ pub record ControlInfo : Type 0 where
   pub end : ℕ
 
 -- the control information of a `Control`, without addresses in memory
-unfoldable pub control_info_of : Control → ControlInfo
-control_info_of c = record { format = c.format.now; properties = c.properties.now; properties_at = c.properties_at; end = c.end }
+unfoldable pub control_view : Control → ControlInfo
+control_view c = record {
+  format = c.format.now;
+  properties = c.properties.now;
+  properties_at = c.properties_at;
+  end =
+      c.end;
+}
 
 -- the control information with these properties at an offset
-abbrev pub control_info_at : Kind → List ℕ → ℕ → ℕ → ControlInfo
-control_info_at kind properties at end =
-    record { format = format_text kind; properties = properties; properties_at = at + 6 + length (format_text kind); end = end }
+abbrev pub expected_control_info : Kind → List ℕ → ℕ → ℕ → ControlInfo
+expected_control_info kind properties at end =
+    record {
+      format = format_text kind;
+      properties = properties;
+      properties_at = at + 6 + length (format_text kind);
+      end = end;
+    }
 
 -- control information of this type is encoded at the offset
 pub record IsControlAt (kind : Kind) (block : ControlInfo) (bytes : List ℕ) (at : ℕ) : Type 0 where

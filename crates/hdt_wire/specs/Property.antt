@@ -4,23 +4,19 @@ use Rattle.std.specs.Prelude.{ℕ, ◌==◌, ◌&&◌, ◌-◌, Bool, nat_lt, Li
 use Rattle.std.specs.Str.{bytes_eq}
 use Rattle.std.specs.List.{position_or_len, before_first, after_first, slice_split, filter_map}
 
-abbrev pub is : ℕ → ℕ → Bool
-is byte b = b == byte
+abbrev pub is_byte : ℕ → ℕ → Bool
+is_byte byte b = b == byte
 
--- the value of an item, if it has the key
+-- the value of an item, if it has the key; 61 is '='
 abbrev pub item_value : List ℕ → List ℕ → Option (List ℕ)
 item_value key piece =
-    if nat_lt (position_or_len (is 61) piece) (length piece) && bytes_eq (before_first (is 61) piece) key then Some (after_first (is 61) piece) else None
+    if nat_lt (position_or_len (is_byte 61) piece) (length piece) && bytes_eq
+    (before_first (is_byte 61) piece) key then Some (after_first (is_byte 61) piece) else None
 
--- the values of the items that have the key, in order
+-- the values of the items that have the key, in order; 59 is ';'
 abbrev pub item_values : List ℕ → List ℕ → List (List ℕ)
-item_values text key = filter_map (item_value key) (slice_split (is 59) text)
+item_values text key = filter_map (item_value key) (slice_split (is_byte 59) text)
 
 -- the last of them, which is the one that counts
 unfoldable pub property_value : List ℕ → List ℕ → Option (List ℕ)
 property_value text key = slice_get (item_values text key) (length (item_values text key) - 1)
-
--- the last value, after one more item
-abbrev pub latest_value : Option (List ℕ) → Option (List ℕ) → Option (List ℕ)
-latest_value found None = found
-latest_value found (Some value) = Some value

@@ -1,7 +1,7 @@
 //! Control information: the cookie `$HDT`, a type, the format, the properties, and a CRC-16.
 ghost use Rattle.std.specs.Prelude.{◌≡◌, ℕ, List, ◌+◌, ◌++◌, length, Ok, IfOk, OnOk, OnErr};
 ghost use Rattle.hdt_wire.specs.Checks.{Reads, IsBytes, HasSlice};
-ghost use Rattle.hdt_wire.specs.Control.{control_info_of, control_info_at, control, control_at, kind_code, format_text, IsControlAt, HasNoZero, IsPrefixOf};
+ghost use Rattle.hdt_wire.specs.Control.{control_view, expected_control_info, control, control_at, kind_code, format_text, IsControlAt, HasNoZero, IsPrefixOf};
 
 use crate::checks::{bytes_at, demand, text_at, truncate_on_error};
 use crate::crc::check16;
@@ -57,44 +57,44 @@ pub struct Control<'a> {
     end: usize,
 }
 
-#[tactic(auto, unfolding(crate::specs::Control::control_info_of))]
+#[tactic(auto, unfolding(crate::specs::Control::control_view))]
 impl<'a> Control<'a> {
     ghost use Rattle.std.specs.Prelude.{◌≡◌};
-    ghost use Rattle.hdt_wire.specs.Control.{control_info_of};
+    ghost use Rattle.hdt_wire.specs.Control.{control_view};
 
     /// Returns the format, without its zero byte.
     pub fn format(&self) -> &'a [u8]
-        ensures { result.now ≡ (control_info_of self.now).format }
+        ensures { result.now ≡ (control_view self.now).format }
     {
         self.format
     }
 
     /// Returns the properties, `key=value;` repeated, without their zero byte.
     pub fn properties(&self) -> &'a [u8]
-        ensures { result.now ≡ (control_info_of self.now).properties }
+        ensures { result.now ≡ (control_view self.now).properties }
     {
         self.properties
     }
 
     /// Returns the byte offset of the properties in the input.
     pub fn properties_at(&self) -> usize
-        ensures { result ≡ (control_info_of self.now).properties_at }
+        ensures { result ≡ (control_view self.now).properties_at }
     {
         self.properties_at
     }
 
     /// Returns the byte offset after the CRC.
     pub fn end(&self) -> usize
-        ensures { result ≡ (control_info_of self.now).end }
+        ensures { result ≡ (control_view self.now).end }
     {
         self.end
     }
 }
 
 /// Reads control information in the order of the format.
-#[tactic(auto, unfolding(crate::specs::Control::control_at, crate::specs::Control::control_info_of))]
+#[tactic(auto, unfolding(crate::specs::Control::control_at, crate::specs::Control::control_view))]
 fn read_by_checks<'a>(bytes: &'a [u8], at: usize, kind: Kind) -> Result<Control<'a>, Fault>
-    ensures exact { Reads control_info_of result (control_at kind bytes.now at) }
+    ensures exact { Reads control_view result (control_at kind bytes.now at) }
 {
     let (magic, code_at) = bytes_at(bytes, at, 4)?;
     demand(magic == b"$HDT".as_slice(), at, Reason::NotHdt)?;
@@ -125,12 +125,13 @@ fn read_by_checks<'a>(bytes: &'a [u8], at: usize, kind: Kind) -> Result<Control<
 /// The first of these, in this order: `Truncated`, `NotHdt`, `WrongKind`, `Check16`, `WrongFormat`.
 pub fn read_control<'a>(bytes: &'a [u8], at: usize, kind: Kind) -> Result<Control<'a>, Fault>
     // What is returned is encoded there.
-    ensures found { IfOk result (λ c. IsControlAt kind (control_info_of c) bytes.now at) }
+    ensures found { IfOk result (λ c. IsControlAt kind (control_view c) bytes.now at) }
     // Whatever is encoded there is returned.
-    ensures only { (properties : List ℕ) (end : ℕ) → HasNoZero properties → HasSlice bytes.now at (control kind properties) end
-        → Reads control_info_of result (Ok (control_info_at kind properties at end)) }
+    ensures only { (properties : List ℕ) (end : ℕ) → HasNoZero properties
+        → HasSlice bytes.now at (control kind properties) end
+        → Reads control_view result (Ok (expected_control_info kind properties at end)) }
     // Otherwise the first error is returned.
-    ensures exact { Reads control_info_of result (control_at kind bytes.now at) }
+    ensures exact { Reads control_view result (control_at kind bytes.now at) }
 {
     read_by_checks(bytes, at, kind)
 }
@@ -165,8 +166,8 @@ pub fn put_control(kind: Kind, properties: &[u8], out: &mut Vec<u8>) -> Result<(
 }
 
 /// The law that control information that was written is read back, whatever precedes and follows it.
-pub fn control_roundtrip()
+pub fn control_round_trip()
     ensures { (kind : Kind) (before after properties : List ℕ) → IsBytes properties → HasNoZero properties
         → control_at kind (before ++ control kind properties ++ after) (length before)
-        ≡ Ok (control_info_at kind properties (length before) (length before + length (control kind properties))) }
+        ≡ Ok (expected_control_info kind properties (length before) (length before + length (control kind properties))) }
 {}

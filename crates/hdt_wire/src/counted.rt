@@ -105,8 +105,8 @@ impl<T> Counted<T> {
         }
     }
 
-    /// Writes all bytes, in as many calls of the writer as needed, with none after the last byte. The error is the
-    /// number of bytes that were written before a write failed, which is less than the length of `text`.
+    /// Writes all bytes, calling the writer until none is left. On failure returns how many bytes were written before,
+    /// fewer than `text.len()`.
     pub fn write_all(&mut self, text: &[u8]) -> Result<(), u64>
     where
         T: Write,

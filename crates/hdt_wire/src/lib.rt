@@ -25,7 +25,7 @@ mod role;
 mod vbyte;
 
 pub use checks::{bytes_at, demand, len_before_zero, text_at, truncate_on_error};
-pub use control::{Control, Kind, control_roundtrip, put_control, read_control};
+pub use control::{Control, Kind, control_round_trip, put_control, read_control};
 pub use counted::{Counted, Failed};
 pub use crc::{check8, check16};
 pub use crc32c::check32;
@@ -34,4 +34,4 @@ pub use fault::{Fault, Reason};
 pub use ghost_counter::GhostCounter;
 pub use properties::property;
 pub use role::Role;
-pub use vbyte::{put_vbyte, read_vbyte, vbyte_len, vbyte_roundtrip};
+pub use vbyte::{put_vbyte, read_vbyte, vbyte_len, vbyte_round_trip};

@@ -2,13 +2,13 @@
 ghost use Rattle.std.specs.Prelude.{◌≡◌, ◌≤◌, length};
 ghost use Rattle.std.specs.Option.{option_copied};
 ghost use Rattle.std.specs.List.{position_or_len};
-ghost use Rattle.hdt_wire.specs.Property.{is, item_value, latest_value, property_value};
+ghost use Rattle.hdt_wire.specs.Property.{is_byte, item_value, property_value};
 
 use memchr::memchr;
 
 /// The index of the first occurrence of a byte, or the length if it does not occur.
 fn find_byte(byte: u8, bytes: &[u8]) -> usize
-    ensures index { result ≡ position_or_len (is byte) bytes.now }
+    ensures index { result ≡ position_or_len (is_byte byte) bytes.now }
     ensures within { result ≤ length bytes.now }
 {
     match memchr(byte, bytes) {
@@ -29,13 +29,6 @@ fn parse_item<'a>(piece: &'a [u8], key: &[u8]) -> Option<&'a [u8]>
     }
 }
 
-/// The last value after one more item: that item's, if it has one.
-fn latest_value<'a>(found: Option<&'a [u8]>, value: Option<&'a [u8]>) -> Option<&'a [u8]>
-    ensures { option_copied result ≡ latest_value (option_copied found.entry) (option_copied value.entry) }
-{
-    value.or(found)
-}
-
 /// Returns the value of the last item with the key. Items are separated by `;`; an item has the key before its first
 /// `=` and the value after it, and one without `=` is ignored. Linear time in the text.
 pub fn property<'a>(text: &'a [u8], key: &[u8]) -> Option<&'a [u8]>
@@ -46,7 +39,7 @@ pub fn property<'a>(text: &'a [u8], key: &[u8]) -> Option<&'a [u8]>
     'pieces: loop {
         let cut = find_byte(b';', rest);
         let (piece, after) = rest.split_at(cut);
-        found = latest_value(found, parse_item(piece, key));
+        found = parse_item(piece, key).or(found);
         match after {
             [] => return found,
             [_, next @ ..] => rest = next,

@@ -41,10 +41,11 @@ pub fn put_vbyte(v: u64, out: &mut Vec<u8>) -> Result<(), AllocError>
 
 /// The law that each number below 2^64 has exactly one encoding, which is no prefix of another and is read back,
 /// whatever precedes and follows it.
-pub fn vbyte_roundtrip()
+pub fn vbyte_round_trip()
     ensures spelled { (v : ℕ) → v < 2 ^ 64 → VByte (vbyte v) v }
     ensures alone { (text : List ℕ) (v : ℕ) → v < 2 ^ 64 → VByte text v → text ≡ vbyte v }
-    ensures begins_no_other { (a b x y : List ℕ) (m n : ℕ) → VByte a m → VByte b n → a ++ x ≡ b ++ y → (a ≡ b) × (m ≡ n) }
+    ensures begins_no_other { (a b x y : List ℕ) (m n : ℕ) → VByte a m → VByte b n → a ++ x ≡ b ++ y
+        → (a ≡ b) × (m ≡ n) }
     ensures again { (before after : List ℕ) (v : ℕ) → v < 2 ^ 64
         → vbyte_at (before ++ vbyte v ++ after) (length before) ≡ Ok (v, length before + length (vbyte v)) }
 {}

@@ -1,22 +1,17 @@
 -- The sections of triples over an ascending list of strings.
-use Rattle.std.specs.Prelude.{◌≡◌, ◌↔◌, ℕ, Bool, true, false, List, [], length, slice_index, slice_index_or}
+use Rattle.std.specs.Prelude.{◌≡◌, ℕ, Bool, true, false, List, [], length, slice_index, slice_index_or}
 use Rattle.hdt_wire.specs.declared.role.Role.{Role}
 use Rattle.hdt_wire.specs.declared.role.Role.TheVariants.{Subject, Predicate, Object}
 use Rattle.hdt_dict.specs.Split.{IsSplit}
 use Rattle.hdt_triples.specs.TripleSequences.{Triple}
 use Rattle.hdt_triples.specs.Uses.{Uses}
 use Rattle.hdt_build.specs.Graph.{subjects_of, predicates_of, objects_of, string_triples_of}
-use Rattle.hdt_build.specs.Inside.Rewriting.{IsWrittenSection}
-use Rattle.hdt_build.specs.Inside.Ids.{IsIdOf}
+use Rattle.hdt_build.specs.Inside.Rewriting.{IsIdOf, IsWrittenSection}
 use Rattle.hdt_dict.specs.Dictionary.{SectionLists, role_strings}
 
 -- the flag at an index; false past the end
 abbrev pub flag_at : List Bool → ℕ → Bool
 flag_at flags k = slice_index_or flags k false
-
--- the flags are true exactly at the indices that triples use in the role
-abbrev pub AreUseFlags : List Triple → Role → List Bool → Type 0
-AreUseFlags ids role flags = (k : ℕ) → (flag_at flags k ≡ true) ↔ Uses ids role k
 
 -- the section has the string at index k: it is used in one role, and also, or not, in the other
 abbrev pub IsInFilter : List Bool → List Bool → Bool → ℕ → Type 0
@@ -28,12 +23,15 @@ IsFilteredSection xs keeps = IsWrittenSection keeps (λ k. slice_index_or xs k [
 
 -- at each index that triples use in a role, the ID of its string among the terms is stored
 abbrev pub HaveIds : List (List ℕ) → List Triple → Role → List (List ℕ) → List ℕ → Type 0
-HaveIds xs ids role terms numbers = (k : ℕ) → Uses ids role k → IsIdOf terms (slice_index_or xs k []) (slice_index numbers k)
+HaveIds xs triples role terms ids = (k : ℕ) → Uses triples role k
+    → IsIdOf terms (slice_index_or xs k []) (slice_index ids k)
 
 -- The four lists are the sections of the triples, and each string in use has its IDs: one as a subject or an object,
 -- and one as a predicate.
-pub record AreSectionsOf (xs : List (List ℕ)) (ids : List Triple) (d : SectionLists) (nodes predicates : List ℕ) : Type 0 where
-  pub sections : IsSplit (subjects_of (string_triples_of xs ids)) (predicates_of (string_triples_of xs ids)) (objects_of (string_triples_of xs ids)) d
+pub record AreSectionsOf (xs : List (List ℕ)) (ids : List Triple) (d : SectionLists)
+    (nodes predicates : List ℕ) : Type 0 where
+  pub sections : IsSplit (subjects_of (string_triples_of xs ids)) (predicates_of (string_triples_of xs ids))
+      (objects_of (string_triples_of xs ids)) d
   pub subjects_are : HaveIds xs ids Subject (role_strings d Subject) nodes
   pub predicates_are : HaveIds xs ids Predicate (role_strings d Predicate) predicates
   pub objects_are : HaveIds xs ids Object (role_strings d Object) nodes

@@ -50,4 +50,5 @@ IsComparison comparison items x = (comparison.0 ≡ first_order items x) × (com
 -- A comparison of two strings, after one of them advanced to a string that shares `kept` bytes with it. If that is more
 -- than their common prefix, the comparison still holds; else the two have at least `kept` bytes in common.
 abbrev pub IsStaleComparison : ℕ → Ordering × ℕ → List LocatedString → List ℕ → Type 0
-IsStaleComparison kept comparison items x = (comparison.1 < kept → IsComparison comparison items x) × (kept ≤ comparison.1 → kept ≤ first_lcp items x)
+IsStaleComparison kept comparison items x = (comparison.1 < kept → IsComparison comparison items x)
+    × (kept ≤ comparison.1 → kept ≤ first_lcp items x)

@@ -1,5 +1,5 @@
 -- The strings of an arena: their number, the string at an index, and appending one.
-use Rattle.std.proofs.Common.{◌≡◌, ℕ, ◌+◌, ◌-◌, ◌<◌, ◌≤◌, List, [], ◌∷◌, ◌++◌, map, length, get_or, drop, refl, ap, sym, ◌∙◌, inl, inr, arith}
+use Rattle.std.proofs.Common.{◌≡◌, ℕ, ◌+◌, ◌-◌, ◌<◌, ◌≤◌, List, [], ◌∷◌, ◌++◌, map, length, get_or, set, take, drop, refl, ap, sym, ◌∙◌, inl, inr, arith}
 use Rattle.std.specs.List.{range_with_len}
 use Rattle.std.proofs.lemmas.Bool.{cases_lt}
 use Rattle.std.proofs.lemmas.List.{get_or_append_left, get_or_push, length_push, length-append, length-drop, take-append-le, drop-append-le, drop_at, take_all, same_lists}
@@ -10,9 +10,11 @@ pub size : (bytes starts : List ℕ) → length (arena_strings bytes starts) ≡
 unfolding arena_strings
 size bytes starts = length-map-range_with_len (arena_string bytes starts) 0 (length starts - 1)
 
-pub text_is : (bytes starts : List ℕ) (i : ℕ) → i + 1 < length starts → get_or (arena_strings bytes starts) i [] ≡ arena_string bytes starts i
+pub text_is : (bytes starts : List ℕ) (i : ℕ) → i + 1 < length starts
+    → get_or (arena_strings bytes starts) i [] ≡ arena_string bytes starts i
 unfolding arena_strings
-text_is bytes starts i below = get_or-map-range_with_len (arena_string bytes starts) 0 (length starts - 1) i i [] (omega arith) (omega arith)
+text_is bytes starts i below =
+    get_or-map-range_with_len (arena_string bytes starts) 0 (length starts - 1) i i [] (omega arith) (omega arith)
 
 -- an arena without bytes, whose only start is 0, has no strings
 pub none : arena_strings [] (0 ∷ []) ≡ []
@@ -27,11 +29,18 @@ none_starts = record {
   last = refl;
 }
 
-map_range : {X : Type 0} (f g : ℕ → X) (n : ℕ) → ((i : ℕ) → i < n → f i ≡ g i) → map f (range_with_len 0 n) ≡ map g (range_with_len 0 n)
+-- the starts after `clear`
+pub one_start : (starts : List ℕ) → 0 < length starts → set (take 1 starts) 0 0 ≡ 0 ∷ []
+one_start [] some = absurd (omega arith)
+one_start (s ∷ starts) some = refl
+
+map_range : {X : Type 0} (f g : ℕ → X) (n : ℕ) → ((i : ℕ) → i < n → f i ≡ g i)
+    → map f (range_with_len 0 n) ≡ map g (range_with_len 0 n)
 map_range f g n same =
     let long = length-map-range_with_len f 0 n in
     same_lists _ _ (long ∙ sym (length-map-range_with_len g 0 n))
-    (λ k d below. let lt : k < n = omega arith in get_or-map-range_with_len f 0 n k k d lt (omega arith) ∙ same k lt ∙ sym (get_or-map-range_with_len g 0 n k k d lt (omega arith)))
+    (λ k d below. let lt : k < n = omega arith in get_or-map-range_with_len f 0 n k k d lt (omega arith) ∙ same k lt
+    ∙ sym (get_or-map-range_with_len g 0 n k k d lt (omega arith)))
 
 -- appending the bytes x, and the offset e at which they end, appends one string
 module _ (bytes starts x : List ℕ) (e : ℕ) (h : AreStringStarts bytes starts) (end : e ≡ length bytes + length x) where
@@ -69,7 +78,9 @@ module _ (bytes starts x : List ℕ) (e : ℕ) (h : AreStringStarts bytes starts
       let more : length (starts ++ e ∷ []) - 1 ≡ n + 1 = omega (arith, length_push starts e) in
       ap (λ k. map (arena_string (bytes ++ x) (starts ++ e ∷ [])) (range_with_len 0 k)) more
       ∙ map-range_with_len_more (arena_string (bytes ++ x) (starts ++ e ∷ [])) 0 n n (omega arith)
-      ∙ ap (λ l. l ++ arena_string (bytes ++ x) (starts ++ e ∷ []) n ∷ []) (map_range (arena_string (bytes ++ x) (starts ++ e ∷ [])) (arena_string bytes starts) n (λ i below. kept i (omega arith)))
+      ∙ ap (λ l. l ++ arena_string (bytes ++ x) (starts ++ e ∷ []) n
+      ∷ []) (map_range (arena_string (bytes ++ x) (starts ++ e ∷ [])) (arena_string bytes starts) n
+      (λ i below. kept i (omega arith)))
       ∙ ap (λ t. map (arena_string bytes starts) (range_with_len 0 n) ++ t ∷ []) (new n long)
 
   pub starts_push : AreStringStarts (bytes ++ x) (starts ++ e ∷ [])
@@ -80,7 +91,8 @@ module _ (bytes starts x : List ℕ) (e : ℕ) (h : AreStringStarts bytes starts
       record {
         some = omega arith;
         ascend = λ i below.
-            elim (cases_lt (i + 1) (length starts)) as (λ _. get_or (starts ++ e ∷ []) i 0 ≤ get_or (starts ++ e ∷ []) (i + 1) 0) [
+            elim (cases_lt (i + 1) (length starts)) as (λ _. get_or (starts ++ e ∷ []) i 0
+            ≤ get_or (starts ++ e ∷ []) (i + 1) 0) [
               | inl before ↦ rw (front i (omega arith), front (i + 1) before) (h.ascend i before)
               | inr behind ↦
                   let at : i + 1 ≡ length starts = omega arith in

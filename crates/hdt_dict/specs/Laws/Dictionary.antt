@@ -15,7 +15,7 @@ use Rattle.hdt_front.specs.Section.{SectionParts, string_offset, section_at}
 use Rattle.hdt_front.specs.Laws.Section.{section_exact}
 use Rattle.hdt_dict.specs.Strings.{has}
 use Rattle.hdt_dict.specs.Laws.Strings.{has-Contains, Contains-has}
-use Rattle.hdt_dict.specs.Dictionary.{DictionaryParts, AreDisjoint, IsDictionary, disjoint_check, disjoint_at, dictionary_at}
+use Rattle.hdt_dict.specs.Dictionary.{DictionaryParts, AreDisjoint, IsDictionaryAt, disjoint_check, disjoint_at, dictionary_at}
 
 -- ---- strings in two sections
 
@@ -27,19 +27,23 @@ wrong : (b : Bool) → not b ≡ true → b ≡ true → ⊥
 wrong true e f = absurd (cc)
 wrong false e f = absurd (cc)
 
-row_exact : (others : List (List ℕ)) (s : SectionParts) (i : ℕ) → Exactly (disjoint_check others s i) (λ _. Contains others (get_or s.strings i []) → ⊥)
+disjoint_check_exact : (others : List (List ℕ)) (s : SectionParts) (i : ℕ)
+    → Exactly (disjoint_check others s i) (λ _. Contains others (get_or s.strings i []) → ⊥)
 unfolding disjoint_check
-row_exact others s i =
+disjoint_check_exact others s i =
     let x : List ℕ = get_or s.strings i [] in
     record {
-      found = λ u e there. wrong (has others x) (holds_if_ok (not (has others x)) (string_offset s i) SectionsOverlap u e) (Contains-has others x there);
+      found = λ u e there. wrong (has others x)
+          (holds_if_ok (not (has others x)) (string_offset s i) SectionsOverlap u e) (Contains-has others x there);
       only = λ u none. ok_if_holds (not (has others x)) (string_offset s i) SectionsOverlap
           (not-made (has others x) (λ is. none (has-Contains others x is)));
     }
 
-pub apart_exact : (others : List (List ℕ)) (s : SectionParts) → Exactly (disjoint_at others s) (λ _. AreDisjoint others s.strings)
+pub apart_exact : (others : List (List ℕ)) (s : SectionParts)
+    → Exactly (disjoint_at others s) (λ _. AreDisjoint others s.strings)
 apart_exact others s =
-    let rows = item_checks_exact (disjoint_check others s) (length s.strings) (λ i. Contains others (get_or s.strings i []) → ⊥) (λ i lt. row_exact others s i) in
+    let rows = item_checks_exact (disjoint_check others s) (length s.strings)
+    (λ i. Contains others (get_or s.strings i []) → ⊥) (λ i lt. disjoint_check_exact others s i) in
     record {
       found = λ u e x there here.
           let same : get_or s.strings here.0 [] ≡ x = get_or_default s.strings here.0 [] x here.1 ∙ here.2 in
@@ -50,7 +54,8 @@ apart_exact others s =
 
 -- ---- the dictionary
 
-pub dictionary_exact : (bytes : List ℕ) (at : ℕ) → IsBytes bytes → Exactly (dictionary_at bytes at) (λ d. IsDictionary d bytes at)
+pub dictionary_exact : (bytes : List ℕ) (at : ℕ) → IsBytes bytes
+    → Exactly (dictionary_at bytes at) (λ d. IsDictionaryAt d bytes at)
 unfolding dictionary_at
 dictionary_exact bytes at fits = record {
   found = λ d e.
@@ -62,7 +67,7 @@ dictionary_exact bytes at fits = record {
       bind_ok (disjoint_at shared.strings subjects) _ _ e (λ u e6 e.
       bind_ok (disjoint_at (shared.strings ++ subjects.strings) objects) _ _ e (λ v e7 e.
       let apart = (apart_exact (shared.strings ++ subjects.strings) objects).found v e7 in
-      holds_of_ok (λ (d : DictionaryParts). IsDictionary d bytes at) _ _ e (record {
+      holds_of_ok (λ (d : DictionaryParts). IsDictionaryAt d bytes at) _ _ e (record {
         control = control;
         block = (control_exact kinds.Dictionary bytes at fits).found control e1;
         shared = (section_exact bytes control.end fits).found shared e2;

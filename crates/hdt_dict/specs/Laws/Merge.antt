@@ -26,38 +26,43 @@ itself x = tied_itself nat_list_cmp_total x
 
 -- a member of an ascending list is at the first index whose string is not less than it
 module _ (ys : List (List ℕ)) (at : ℕ) (x : List ℕ) (up : IsAscending ys) (below : FirstBelow ys at x) where
-  stands_by : (k : ℕ) → k < length ys → get_or ys k x ≡ x → (at < length ys → string_cmp (get_or ys at x) x ≢ Less) → (at < length ys) × (get_or ys at x ≡ x)
-  stands_by k in' is stops =
+  member_is_at_by : (k : ℕ) → k < length ys → get_or ys k x ≡ x
+      → (at < length ys → string_cmp (get_or ys at x) x ≢ Less) → (at < length ys) × (get_or ys at x ≡ x)
+  member_is_at_by k in' is stops =
       elim (cases_lt k at) as (λ _. (at < length ys) × (get_or ys at x ≡ x)) [
         | inl before ↦ absurd (differs (sym (below k before) ∙ ap (λ y. string_cmp y x) is ∙ itself x))
         | inr behind ↦
             let here : at < length ys = omega arith in
             elim (cases_eq k at) as (λ _. (at < length ys) × (get_or ys at x ≡ x)) [
               | inl same ↦ (here, ap (λ i. get_or ys i x) (sym same) ∙ is)
-              | inr apart ↦ absurd (stops here (ap (λ y. string_cmp (get_or ys at x) y) (sym is) ∙ Less-from_sorted string_cmp ys at k x up (omega arith) in'))
+              | inr apart ↦ absurd (stops here (ap (λ y. string_cmp (get_or ys at x) y) (sym is)
+                  ∙ Less-from_sorted string_cmp ys at k x up (omega arith) in'))
             ]
       ]
     where
       differs : Less ≡ Equal → ⊥
       differs e = cc
 
-  pub stands : (at < length ys → string_cmp (get_or ys at x) x ≢ Less) → Contains ys x → (at < length ys) × (get_or ys at x ≡ x)
-  stands stops h = stands_by h.0 h.1 h.2 stops
+  pub member_is_at : (at < length ys → string_cmp (get_or ys at x) x ≢ Less) → Contains ys x → (at < length ys)
+      × (get_or ys at x ≡ x)
+  member_is_at stops h = member_is_at_by h.0 h.1 h.2 stops
 
   -- the result of the test at that index
-  pub has_here : at < length ys → string_cmp (get_or ys at x) x ≢ Less → (y : List ℕ) → get_or ys at x ≡ y → bytes_eq y x ≡ has ys x
+  pub has_here : at < length ys → string_cmp (get_or ys at x) x ≢ Less → (y : List ℕ) → get_or ys at x ≡ y
+      → bytes_eq y x ≡ has ys x
   has_here here stops y is =
       both_ways _ _
       (λ t. Contains-has ys x (at, here, is ∙ (bytes_eq-Decides y x).0 t))
-      (λ t. (bytes_eq-Decides y x).1 (sym is ∙ (stands (λ _. stops) (has-Contains ys x t)).1))
+      (λ t. (bytes_eq-Decides y x).1 (sym is ∙ (member_is_at (λ _. stops) (has-Contains ys x t)).1))
 
   pub has_past : length ys ≤ at → false ≡ has ys x
   has_past past =
       both_ways _ _
       (λ t. cc)
-      (λ t. absurd (omega (arith, (stands (λ h. absurd (omega arith)) (has-Contains ys x t)).0)))
+      (λ t. absurd (omega (arith, (member_is_at (λ h. absurd (omega arith)) (has-Contains ys x t)).0)))
 
-pub below_or : (z x y : List ℕ) (o : Ordering) → string_cmp x y ≡ o → string_cmp z x ≡ Less → string_cmp y x ≢ Less → string_cmp z y ≡ Less
+pub below_or : (z x y : List ℕ) (o : Ordering) → string_cmp x y ≡ o → string_cmp z x ≡ Less → string_cmp y x ≢ Less
+    → string_cmp z y ≡ Less
 below_or z x y Less e less up = nat_list_cmp_total.trans z x y less e
 below_or z x y Equal e less up = ap (string_cmp z) (sym (exact_bytes x y e)) ∙ less
 below_or z x y Greater e less up = absurd (up (nat_list_cmp_total.antisymm y x ∙ ap ordering_reverse e))

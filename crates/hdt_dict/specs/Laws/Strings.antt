@@ -13,7 +13,8 @@ use Rattle.hdt_front.specs.Canonical.{borrowed_texts}
 use Rattle.hdt_dict.specs.Strings.{has, BorrowedString}
 
 module _ {X Y : Type 0} (f : X → Y) (E : Y → Y → Bool) where
-  map-dedup_from : (k : X) (xs : List X) → map f (dedup_from (λ a b. E (f a) (f b)) k xs) ≡ dedup_from E (f k) (map f xs)
+  map-dedup_from : (k : X) (xs : List X)
+      → map f (dedup_from (λ a b. E (f a) (f b)) k xs) ≡ dedup_from E (f k) (map f xs)
   map-dedup_from k [] = refl
   map-dedup_from k (x ∷ xs) =
       by (E (f x) (f k)) _ _ _ _ (map-dedup_from k xs) (ap (λ l. f k ∷ l) (map-dedup_from x xs))
@@ -26,7 +27,8 @@ module _ {X Y : Type 0} (f : X → Y) (E : Y → Y → Bool) where
   map-dedup [] = refl
   map-dedup (x ∷ xs) = map-dedup_from x xs
 
-pub sorted_map : {X Y : Type 0} (f : X → Y) (R : Y → Y → Ordering) (xs : List X) → IsSorted (λ a b. R (f a) (f b)) xs → IsSorted R (map f xs)
+pub sorted_map : {X Y : Type 0} (f : X → Y) (R : Y → Y → Ordering) (xs : List X) → IsSorted (λ a b. R (f a) (f b)) xs
+    → IsSorted R (map f xs)
 sorted_map f R [] h = λ k d low high. absurd (omega arith)
 sorted_map f R (x ∷ xs) h = λ k d low high.
     let long : k + 1 < length (x ∷ xs) = omega (arith, length-map (x ∷ xs) f) in
@@ -34,7 +36,8 @@ sorted_map f R (x ∷ xs) h = λ k d low high.
     rw (get_or-map f (x ∷ xs) (k + 1) x d long, get_or-map f (x ∷ xs) k x d short) (h k x low long)
 
 -- the string at an index
-pub string_at : (vs : List BorrowedString) (i : ℕ) (v : BorrowedString) (d : List ℕ) → i < length vs → get_or (borrowed_texts vs) i d ≡ (get_or vs i v).now
+pub string_at : (vs : List BorrowedString) (i : ℕ) (v : BorrowedString) (d : List ℕ) → i < length vs
+    → get_or (borrowed_texts vs) i d ≡ (get_or vs i v).now
 string_at vs i v d below = get_or-map (λ (w : BorrowedString). w.now) vs i v d below
 
 -- a string is in the list exactly if it is a member

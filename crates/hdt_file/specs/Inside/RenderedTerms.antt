@@ -15,22 +15,20 @@ use Rattle.hdt_file.specs.declared.term_tables.TermTables.{TermTables}
 
 -- the bytes are the term of the string with what follows it in a line, or empty if the string is not a term of the role
 abbrev pub IsRendered : Role → List ℕ → List ℕ → Type 0
-IsRendered role string rendered = ((term : Term) × IsTermOf role string term × (rendered ≡ render role term)) ⊎ ((rendered ≡ []) × HasNoTerm role string)
+IsRendered role string rendered = ((term : Term) × IsTermOf role string term × (rendered ≡ render role term))
+    ⊎ ((rendered ≡ []) × HasNoTerm role string)
 
 -- whether an ID is marked; an ID out of range counts as marked
 abbrev pub is_marked : List Bool → ℕ → Bool
 is_marked marks n = slice_index_or marks n true
-
--- each ID that the triples have in the role is marked
-abbrev pub AreMarked : Role → List Bool → List Triple → Type 0
-AreMarked role marks ts = (i : ℕ) → i < length ts → is_marked marks (role_component role (slice_index_or ts i (0, 0, 0))) ≡ true
 
 -- one entry for each string, whose IDs go on from n; the entry of a marked ID is its term as written in a line
 abbrev pub AreRendered : Role → List Bool → ℕ → List (List ℕ) → List (List ℕ) → Type 0
 AreRendered role marks n [] [] = ⊤
 AreRendered role marks n [] (y ∷ ys) = ⊥
 AreRendered role marks n (x ∷ xs) [] = ⊥
-AreRendered role marks n (x ∷ xs) (y ∷ ys) = (is_marked marks n ≡ true → IsRendered role x y) × AreRendered role marks (n + 1) xs ys
+AreRendered role marks n (x ∷ xs) (y ∷ ys) = (is_marked marks n ≡ true → IsRendered role x y)
+    × AreRendered role marks (n + 1) xs ys
 
 -- the entry of string n, from 1; empty if there is none
 abbrev pub rendered_string : List (List ℕ) → ℕ → List ℕ
@@ -38,7 +36,9 @@ rendered_string rendered_list n = unwrap_or (string_at_id rendered_list n) []
 
 -- each string that the triples have in the role has its entry
 abbrev pub RendersRole : GraphParts → Role → List Triple → List (List ℕ) → Type 0
-RendersRole g role ts rendered_list = (i : ℕ) → i < length ts → IsRendered role (string_of g role (role_component role (slice_index_or ts i (0, 0, 0)))) (rendered_string rendered_list (role_component role (slice_index_or ts i (0, 0, 0))))
+RendersRole g role ts rendered_list = (i : ℕ) → i < length ts
+    → IsRendered role (string_of g role (role_component role (slice_index_or ts i (0, 0, 0))))
+    (rendered_string rendered_list (role_component role (slice_index_or ts i (0, 0, 0))))
 
 -- the tables have each string of the triples
 pub record AreTables (g : GraphParts) (ts : List Triple) (tables : TermTables) : Type 0 where

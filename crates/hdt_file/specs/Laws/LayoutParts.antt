@@ -9,7 +9,7 @@ use Rattle.hdt_triples.specs.Triples.{TripleParts, bitmap_triples, decode_triple
 use Rattle.hdt_triples.specs.Views.{triple_parts_view, decode_triples}
 use Rattle.hdt_file.specs.Dictionary.{HeadAndDictionary, decode_head_and_dictionary}
 use Rattle.hdt_file.specs.File.{FileParts, GraphParts, dictionary_counts, decode_file, decode_graph, graph_of_file}
-use Rattle.hdt_file.specs.LayoutParts.{LayoutParts, parts_dictionary, parts_of_file, decode_parts, graph_of_parts}
+use Rattle.hdt_file.specs.Graph.{LayoutParts, parts_dictionary, parts_of_file, decode_parts, graph_of_parts}
 use Rattle.hdt_file.specs.Tight.{check_strings_used, decode_tight_graph}
 
 -- the checks of a file, in the order in which the code runs them
@@ -17,26 +17,33 @@ unfoldable pub parts_by_checks : List ℕ → Result LayoutParts Fault
 parts_by_checks bytes = do
   front ← decode_head_and_dictionary bytes
   t ← decode_triples (dictionary_counts front.dictionary) bytes front.dictionary.objects.end
-  _ ← demand (eqb t.1 (length bytes)) t.1 TrailingBytes
-  Ok (front, t.0)
+  _ ← demand (eqb t.2 (length bytes)) t.2 TrailingBytes
+  Ok (record { head = front.head; dictionary = front.dictionary; triples = t.0; widths = t.1 })
 
 -- a step whose results are the views of those of another step
-viewed_step : {A B C : Type 0} (view : B → C) (r : Result A Fault) (f : A → Result C Fault) (g : A → Result B Fault) → ((x : A) → f x ≡ viewed view (g x)) → (r >>= f) ≡ viewed view (r >>= g)
+viewed_step : {A B C : Type 0} (view : B → C) (r : Result A Fault) (f : A → Result C Fault) (g : A → Result B Fault)
+    → ((x : A) → f x ≡ viewed view (g x)) → (r >>= f) ≡ viewed view (r >>= g)
 viewed_step view (Ok x) f g same = same x
 viewed_step view (Err e) f g same = refl
 
 with_triples : (bytes : List ℕ) (front : HeadAndDictionary) (r : Result TripleParts Fault)
-    → (viewed triple_parts_view r >>= λ t. demand (eqb t.1 (length bytes)) t.1 TrailingBytes >>= λ _. (let p : Result LayoutParts Fault = Ok (front, t.0) in p))
-    ≡ viewed parts_of_file (r >>= λ t. demand (eqb t.array_z.end (length bytes)) t.array_z.end TrailingBytes >>= λ _. (let f : Result FileParts Fault = Ok (record { head = front.head; dictionary = front.dictionary; triples = t }) in f))
-with_triples bytes front (Ok t) = viewed_step parts_of_file (demand (eqb t.array_z.end (length bytes)) t.array_z.end TrailingBytes) _ _ (λ _. refl)
+    → (viewed triple_parts_view r >>= λ t. demand (eqb t.2 (length bytes)) t.2 TrailingBytes >>= λ _.
+    (let p : Result LayoutParts Fault =
+    Ok (record { head = front.head; dictionary = front.dictionary; triples = t.0; widths = t.1 }) in p))
+    ≡ viewed parts_of_file (r >>= λ t. demand (eqb t.array_z.end (length bytes)) t.array_z.end TrailingBytes >>= λ _.
+    (let f : Result FileParts Fault =
+    Ok (record { head = front.head; dictionary = front.dictionary; triples = t }) in f))
+with_triples bytes front (Ok t) =
+    viewed_step parts_of_file (demand (eqb t.array_z.end (length bytes)) t.array_z.end TrailingBytes) _ _ (λ _. refl)
 with_triples bytes front (Err e) = refl
 
 -- these checks return the parts of the file
-pub rows_are : (bytes : List ℕ) → parts_by_checks bytes ≡ decode_parts bytes
+pub decode_parts_by_checks : (bytes : List ℕ) → parts_by_checks bytes ≡ decode_parts bytes
 unfolding parts_by_checks decode_file
-rows_are bytes =
+decode_parts_by_checks bytes =
     viewed_step parts_of_file (decode_head_and_dictionary bytes) _ _
-    (λ front. with_triples bytes front (decode_triple_parts (dictionary_counts front.dictionary) bytes front.dictionary.objects.end))
+    (λ front. with_triples bytes front
+    (decode_triple_parts (dictionary_counts front.dictionary) bytes front.dictionary.objects.end))
 
 -- ---- the graph of the parts
 
@@ -53,8 +60,10 @@ tight_by_checks bytes = do
   Ok (graph_of_parts p)
 
 tight_of_parts : (r : Result FileParts Fault)
-    → (viewed parts_of_file r >>= λ p. check_strings_used (parts_dictionary p) (graph_of_parts p).triples >>= λ _. (let g : Result GraphParts Fault = Ok (graph_of_parts p) in g))
-    ≡ (r >>= λ file. check_strings_used file.dictionary (triples_of (bitmap_triples file.triples)) >>= λ _. Ok (graph_of_file file))
+    → (viewed parts_of_file r >>= λ p. check_strings_used (parts_dictionary p) (graph_of_parts p).triples >>= λ _.
+    (let g : Result GraphParts Fault = Ok (graph_of_parts p) in g))
+    ≡ (r >>= λ file. check_strings_used file.dictionary (triples_of (bitmap_triples file.triples)) >>= λ _. Ok
+    (graph_of_file file))
 tight_of_parts (Ok file) = refl
 tight_of_parts (Err e) = refl
 

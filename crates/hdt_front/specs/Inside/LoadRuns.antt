@@ -14,6 +14,6 @@ pub record IsLoadRun (all at n run : ℕ) : Type 0 where
 abbrev pub is_nonzero_ascii : ℕ → Bool
 is_nonzero_ascii c = not (c == 0) && is_ascii c
 
--- The number of such bytes at the front.
+-- The number of such bytes at the start.
 abbrev pub ascii_run : List ℕ → ℕ
 ascii_run bytes = prefix_len is_nonzero_ascii bytes

@@ -28,7 +28,8 @@ unfolding NoZero
 append_no_zero [] ys h k = k
 append_no_zero (c ∷ xs) ys h k = (h.0, append_no_zero xs ys h.1 k)
 
-text_by_test : (c : ℕ) (xs : List ℕ) (b : Bool) → nat_eq c 0 ≡ b → NoZero (take (len_before_zero xs) xs) → NoZero (take (cond (not b) (1 + len_before_zero xs) 0) (c ∷ xs))
+text_by_test : (c : ℕ) (xs : List ℕ) (b : Bool) → nat_eq c 0 ≡ b → NoZero (take (len_before_zero xs) xs)
+    → NoZero (take (cond (not b) (1 + len_before_zero xs) 0) (c ∷ xs))
 unfolding NoZero
 text_by_test c xs true e h = tt
 text_by_test c xs false e h =
@@ -45,10 +46,14 @@ not-false : (b : Bool) → not b ≡ false → b ≡ true
 not-false true e = refl
 not-false false e = sym e
 
-pub split_zero : (t : List ℕ) → len_before_zero t < length t → t ≡ (take (len_before_zero t) t ++ 0 ∷ []) ++ drop (len_before_zero t + 1) t
+pub split_zero : (t : List ℕ) → len_before_zero t < length t
+    → t ≡ (take (len_before_zero t) t ++ 0 ∷ []) ++ drop (len_before_zero t + 1) t
 split_zero t h =
-    let zero_is : get_or t (len_before_zero t) 0 ≡ 0 = eqb-true _ _ (not-false _ (prefix_len_stops (λ n. not (nat_eq n 0)) t 0 h)) in
-    sym (take-append-drop (len_before_zero t + 1) t) ∙ ap (λ (l : List ℕ). l ++ drop (len_before_zero t + 1) t) (take_more t (len_before_zero t) 0 h ∙ ap (λ (c : ℕ). take (len_before_zero t) t ++ c ∷ []) zero_is)
+    let zero_is : get_or t (len_before_zero t) 0 ≡ 0 =
+    eqb-true _ _ (not-false _ (prefix_len_stops (λ n. not (nat_eq n 0)) t 0 h)) in
+    sym (take-append-drop (len_before_zero t + 1) t)
+    ∙ ap (λ (l : List ℕ). l ++ drop (len_before_zero t + 1) t) (take_more t (len_before_zero t) 0 h
+    ∙ ap (λ (c : ℕ). take (len_before_zero t) t ++ c ∷ []) zero_is)
 
 small : (rest : List ℕ) (x : ℕ × ℕ) → vbyte_at rest 0 ≡ Ok x → x.0 < 2 ^ 64
 unfolding vbyte_at
@@ -67,7 +72,8 @@ pub record Piece (h : Bool) (before rest : List ℕ) : Type 0 where
   pub joined : rest ≡ entry ++ after_entry h rest
   pub is : IsEntry h before (decoded_string h before rest) entry
 
-piece_found : (h : Bool) (before rest : List ℕ) → IsBytes rest → (h ≡ false → vbyte_at rest 0 ≡ Ok (value_or (0, 0) (vbyte_at rest 0))) → kept h rest ≤ length before
+piece_found : (h : Bool) (before rest : List ℕ) → IsBytes rest
+    → (h ≡ false → vbyte_at rest 0 ≡ Ok (value_or (0, 0) (vbyte_at rest 0))) → kept h rest ≤ length before
     → len_before_zero (bytes_from_suffix h rest) < length (bytes_from_suffix h rest) → Piece h before rest
 unfolding kept bytes_from_suffix suffix_of decoded_string after_entry
 piece_found true before rest bytes number fits ends = record {
@@ -79,12 +85,16 @@ piece_found false before rest bytes number fits ends =
     let x : ℕ × ℕ = value_or (0, 0) (vbyte_at rest 0) in
     let s = vbyte_found rest 0 (value_or (0, 0) (vbyte_at rest 0)) bytes (number refl) in
     let text : List ℕ = suffix_of false rest in
-    let size : length (take (kept false rest) before) ≡ kept false rest = length-take-le (kept false rest) before fits in
+    let size : length (take (kept false rest) before) ≡ kept false rest =
+    length-take-le (kept false rest) before fits in
     record {
       entry = take (x.1 - 0) rest ++ (text ++ 0 ∷ []);
-      joined = sym (take-append-drop x.1 rest) ∙ ap (λ (l : List ℕ). take x.1 rest ++ l) (split_zero (drop x.1 rest) ends)
-          ∙ sym (append_assoc (take x.1 rest) (text ++ 0 ∷ []) (drop (len_before_zero (drop x.1 rest) + 1) (drop x.1 rest)))
-          ∙ ap (λ (k : ℕ). (take k rest ++ (text ++ 0 ∷ [])) ++ after_entry false rest) (let e : x.1 ≡ x.1 - 0 = omega arith in e);
+      joined = sym (take-append-drop x.1 rest)
+          ∙ ap (λ (l : List ℕ). take x.1 rest ++ l) (split_zero (drop x.1 rest) ends)
+          ∙ sym (append_assoc (take x.1 rest) (text ++ 0
+          ∷ []) (drop (len_before_zero (drop x.1 rest) + 1) (drop x.1 rest)))
+          ∙ ap (λ (k : ℕ). (take k rest ++ (text ++ 0 ∷ [])) ++ after_entry false rest) (let e : x.1 ≡ x.1 - 0 =
+          omega arith in e);
       is = record {
         kept = x.0;
         front = take (x.1 - 0) rest;
@@ -102,15 +112,21 @@ or_right false b h = λ e. h
 
 pub string_no_zero : (h : Bool) (before rest : List ℕ) → NoZero before → NoZero (decoded_string h before rest)
 unfolding decoded_string suffix_of
-string_no_zero h before rest none = append_no_zero (take (kept h rest) before) _ (take_no_zero (kept h rest) before none) (text_no_zero (bytes_from_suffix h rest))
+string_no_zero h before rest none =
+    append_no_zero (take (kept h rest) before) _ (take_no_zero (kept h rest) before none)
+    (text_no_zero (bytes_from_suffix h rest))
 
 after_bytes : (h : Bool) (rest : List ℕ) → IsBytes rest → IsBytes (after_entry h rest)
 unfolding after_entry bytes_from_suffix
 after_bytes true rest b = IsBytes-drop (len_before_zero rest + 1) rest b
-after_bytes false rest b = IsBytes-drop (len_before_zero (drop (value_or (0, 0) (vbyte_at rest 0)).1 rest) + 1) _ (IsBytes-drop (value_or (0, 0) (vbyte_at rest 0)).1 rest b)
+after_bytes false rest b =
+    IsBytes-drop (len_before_zero (drop (value_or (0, 0) (vbyte_at rest 0)).1 rest) + 1) _
+    (IsBytes-drop (value_or (0, 0) (vbyte_at rest 0)).1 rest b)
 
-pub found_from : (p : BlockLayout) (n i at : ℕ) (before rest : List ℕ) → p.size ≡ at + length rest → NoZero before → IsBytes rest → strings_check p n i before rest ≡ Ok tt
-    → IsFrontCodedFrom p.block i at before (decoded_strings p.block n i before rest) rest p.starts × Ascending i before (decoded_strings p.block n i before rest)
+pub found_from : (p : BlockLayout) (n i at : ℕ) (before rest : List ℕ) → p.size ≡ at + length rest → NoZero before
+    → IsBytes rest → strings_check p n i before rest ≡ Ok tt
+    → IsFrontCodedFrom p.block_size i at before (decoded_strings p.block_size n i before rest) rest p.block_offsets
+    × Ascending i before (decoded_strings p.block_size n i before rest)
 unfolding strings_check decoded_strings AreEntries AreBlockStarts Ascending
 found_from p zero i at before rest size none bytes e =
     demand_ok (eqb (length rest) 0) (rest_offset p rest) PackedLength _ _ e (λ h1 e.
@@ -119,7 +135,8 @@ found_from p zero i at before rest size none bytes e =
         entries = [];
         each = tt;
         joined = nil;
-        places = λ some. eqb-true _ _ (or_right (eqb i 0) _ (last _ _ _ e) (not_zero i some)) ∙ size ∙ (omega (arith, ap length nil));
+        places = λ some. eqb-true _ _ (or_right (eqb i 0) _ (last _ _ _ e) (not_zero i some)) ∙ size
+            ∙ (omega (arith, ap length nil));
       },
       tt,
     ))
@@ -132,13 +149,14 @@ found_from p zero i at before rest size none bytes e =
     not_zero i h = grind (arith, nat_tests)
 found_from p (suc n) i at before rest size none bytes e =
     let s = step p n i before rest e in
-    let h : Bool = is_head p.block i in
-    let string : List ℕ = decoded_string (is_head p.block i) before rest in
-    let after : List ℕ = after_entry (is_head p.block i) rest in
-    let f = piece_found (is_head p.block i) before rest bytes s.0.number s.0.fits s.0.ends in
+    let h : Bool = is_head p.block_size i in
+    let string : List ℕ = decoded_string (is_head p.block_size i) before rest in
+    let after : List ℕ = after_entry (is_head p.block_size i) rest in
+    let f = piece_found (is_head p.block_size i) before rest bytes s.0.number s.0.fits s.0.ends in
     let long : length rest ≡ length f.entry + length after = ap length f.joined ∙ length-append f.entry after in
-    let clean = string_no_zero (is_head p.block i) before rest none in
-    let r = found_from p n (i + 1) (at + length f.entry) string after (omega (arith, size, long)) clean (after_bytes (is_head p.block i) rest bytes) s.1 in (
+    let clean = string_no_zero (is_head p.block_size i) before rest none in
+    let r = found_from p n (i + 1) (at + length f.entry) string after (omega (arith, size, long)) clean
+    (after_bytes (is_head p.block_size i) rest bytes) s.1 in (
       record {
         entries = f.entry ∷ r.0.entries;
         each = (f.is, r.0.each);

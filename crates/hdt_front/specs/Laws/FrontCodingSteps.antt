@@ -12,16 +12,19 @@ unfoldable pub AreEntries : ℕ → ℕ → List ℕ → List (List ℕ) → Lis
 AreEntries b i before [] [] = Unit {0}
 AreEntries b i before [] (entry ∷ entries) = ⊥
 AreEntries b i before (string ∷ strings) [] = ⊥
-AreEntries b i before (string ∷ strings) (entry ∷ entries) = IsEntry (is_head b i) before string entry × AreEntries b (i + 1) string strings entries
+AreEntries b i before (string ∷ strings) (entry ∷ entries) = IsEntry (is_head b i) before string entry
+    × AreEntries b (i + 1) string strings entries
 
 -- Each block offset is that of the first entry of its block, and the last one is the end.
 unfoldable pub AreBlockStarts : ℕ → ℕ → ℕ → List (List ℕ) → List ℕ → Type 0
 AreBlockStarts b i at [] starts = 0 < i → get_or starts ((i + (b - 1)) / b) 0 ≡ at
-AreBlockStarts b i at (entry ∷ entries) starts = (is_head b i ≡ true → get_or starts (i / b) 0 ≡ at) × AreBlockStarts b (i + 1) (at + length entry) entries starts
+AreBlockStarts b i at (entry ∷ entries) starts = (is_head b i ≡ true → get_or starts (i / b) 0 ≡ at)
+    × AreBlockStarts b (i + 1) (at + length entry) entries starts
 
 -- The bytes are a front coding of the strings, and `starts` has their block offsets. The first string has index i and
 -- follows the string `before`.
-pub record IsFrontCodedFrom (b i at : ℕ) (before : List ℕ) (strings : List (List ℕ)) (bytes starts : List ℕ) : Type 0 where
+pub record IsFrontCodedFrom (b i at : ℕ) (before : List ℕ) (strings : List (List ℕ))
+    (bytes starts : List ℕ) : Type 0 where
   pub entries : List (List ℕ)
   pub each : AreEntries b i before strings entries
   pub joined : bytes ≡ concat entries
@@ -35,4 +38,5 @@ NoZero (c ∷ cs) = (nat_eq c 0 ≡ false) × NoZero cs
 -- The strings are UTF-8 without zero bytes, and ascend. The first has index i and follows the string `before`.
 unfoldable pub Ascending : ℕ → List ℕ → List (List ℕ) → Type 0
 Ascending i before [] = Unit {0}
-Ascending i before (string ∷ strings) = (is_utf8 string ≡ true) × NoZero string × ((nat_eq i 0 || precedes before string) ≡ true) × Ascending (i + 1) string strings
+Ascending i before (string ∷ strings) = (is_utf8 string ≡ true) × NoZero string
+    × ((nat_eq i 0 || precedes before string) ≡ true) × Ascending (i + 1) string strings

@@ -9,12 +9,13 @@ use Rattle.hdt_front.specs.Iteration.{LocatedAscend, strings, located_from}
 use Rattle.hdt_front.specs.Laws.IterationSteps.{ascends_from}
 use Rattle.hdt_front.specs.SectionIteration.{located_strings}
 
-pub strings_from : (p : BlockLayout) (n i : ℕ) (before rest : List ℕ) → strings (located_from p n i before rest) ≡ decoded_strings p.block n i before rest
+pub strings_from : (p : BlockLayout) (n i : ℕ) (before rest : List ℕ)
+    → strings (located_from p n i before rest) ≡ decoded_strings p.block_size n i before rest
 unfolding located_from decoded_strings
 strings_from p zero i before rest = refl
 strings_from p (suc n) i before rest =
-    let s : List ℕ = decoded_string (is_head p.block i) before rest in
-    ap (λ l. s ∷ l) (strings_from p n (i + 1) s (after_entry (is_head p.block i) rest))
+    let s : List ℕ = decoded_string (is_head p.block_size i) before rest in
+    ap (λ l. s ∷ l) (strings_from p n (i + 1) s (after_entry (is_head p.block_size i) rest))
 
 -- The iterated strings are those of the section.
 pub located_are_strings : (s : Section) → strings (located_strings s) ≡ strings_of s

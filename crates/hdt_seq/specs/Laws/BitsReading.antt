@@ -13,12 +13,12 @@ use Rattle.hdt_seq.specs.Laws.LittleEndian.{length-bits}
 use Rattle.hdt_seq.specs.Laws.Packing.{length-packed_bits, IsBytes-packed_bits, bits_packed}
 use Rattle.hdt_seq.specs.Sequence.{Sequence, with_crcs, byte_at, crc8_at, packed_at}
 use Rattle.hdt_seq.specs.Laws.Sequence.{byte_found, byte_only, crc8_found, with_crcs_found, with_crcs_only, packed_bytes, has_slice_if_encoded, encoded_if_has_slice, begins}
-use Rattle.hdt_seq.specs.Bits.{EncodesBits, bits_at, bits_offsets_at, bits_encoding}
+use Rattle.hdt_seq.specs.Bits.{EncodesBits, bits_at, expected_bits_offsets, bits_encoding}
 
 -- the bits are encoded from the offset up to the end, with the offsets of the format
 pub record BitsFound (bytes : List ℕ) (at : ℕ) (s : Sequence Bool) : Type 0 where
   pub spelled : EncodedAt EncodesBits bytes at s.items s.end
-  pub has_offsets : s.places ≡ bits_offsets_at at (length s.items)
+  pub has_offsets : s.offsets ≡ expected_bits_offsets at (length s.items)
 
 abbrev ok_sequence : Sequence Bool → Result (Sequence Bool) Fault
 ok_sequence x = Ok x
@@ -27,13 +27,21 @@ same_sequence : (x y : Sequence Bool) → ok_sequence x ≡ ok_sequence y → x 
 same_sequence x y e = cc
 
 -- the parts that were read are a bitmap
-together : (bytes : List ℕ) (at : ℕ) (kind count : ℕ × ℕ) (start : ℕ) (packed : List ℕ × ℕ) → IsBytes bytes → kind.0 ≡ 1 → 0 < count.0
-    → byte_at bytes at ≡ Ok kind → vbyte_at bytes kind.1 ≡ Ok count → crc8_at bytes at count.1 ≡ Ok start → packed_at count.0 bytes start ≡ Ok packed
-    → BitsFound bytes at (record { items = bits packed.0 count.0; places = record { count = kind.1; packed = start; width = 1 }; end = packed.1 })
+together : (bytes : List ℕ) (at : ℕ) (kind count : ℕ × ℕ) (start : ℕ) (packed : List ℕ × ℕ) → IsBytes bytes → kind.0 ≡ 1
+    → 0 < count.0
+    → byte_at bytes at ≡ Ok kind → vbyte_at bytes kind.1 ≡ Ok count → crc8_at bytes at count.1 ≡ Ok start
+    → packed_at count.0 bytes start ≡ Ok packed
+    → BitsFound bytes at (record {
+      items = bits packed.0 count.0;
+      offsets =
+          record { count = kind.1; packed = start; width = 1 };
+      end = packed.1;
+    })
 together bytes at kind count start packed fits one some e1 e3 e4 e5 =
     let n : ℕ = count.0 in
     let text : List ℕ = slice_range bytes kind.1 count.1 in
-    let s1 : HasSlice bytes at (1 ∷ []) kind.1 = subst (λ (b : ℕ). HasSlice bytes at (b ∷ []) kind.1) one (byte_found bytes at kind e1) in
+    let s1 : HasSlice bytes at (1 ∷ []) kind.1 =
+    subst (λ (b : ℕ). HasSlice bytes at (b ∷ []) kind.1) one (byte_found bytes at kind e1) in
     let v = vbyte_found bytes kind.1 count fits e3 in
     let b = vbyte_bounded bytes kind.1 count e3 in
     let s3 = has_slice_if_encoded VByte bytes kind.1 n count.1 v in
@@ -52,14 +60,16 @@ together bytes at kind count start packed fits one some e1 e3 e4 e5 =
       whole = refl;
     } in
     let p1 : kind.1 ≡ at + 1 = s1.end_is in
-    let p3 : start ≡ at + 2 + length (vbyte n) = omega (arith, p1, s3.end_is, s4.end_is, ap length (vbyte_unique text n b.value v.spelled)) in
+    let p3 : start ≡ at + 2 + length (vbyte n) =
+    omega (arith, p1, s3.end_is, s4.end_is, ap length (vbyte_unique text n b.value v.spelled)) in
     record {
       spelled = encoded_if_has_slice EncodesBits bytes at _ _ packed.1 f.0 is;
       has_offsets = rw (size, p1, p3) refl;
     }
 
 -- what is returned is encoded there
-pub bits_found : (bytes : List ℕ) (at : ℕ) (s : Sequence Bool) → IsBytes bytes → bits_at bytes at ≡ Ok s → BitsFound bytes at s
+pub bits_found : (bytes : List ℕ) (at : ℕ) (s : Sequence Bool) → IsBytes bytes → bits_at bytes at ≡ Ok s
+    → BitsFound bytes at s
 unfolding bits_at
 bits_found bytes at s fits e =
     bind_ok (byte_at bytes at) _ s e (λ kind e1 e. demand_ok (eqb kind.0 1) at BitsKind _ s e (λ h1 e.
@@ -70,22 +80,26 @@ bits_found bytes at s fits e =
     subst (BitsFound bytes at) (same_sequence _ _ e) made))))))
 
 -- what is encoded there is returned
-encoding_read : (bytes : List ℕ) (at : ℕ) (text : List ℕ) (xs : List Bool) (end : ℕ) (s : EncodesBits text xs) → IsBytes s.packed → HasSlice bytes at text end
-    → bits_at bytes at ≡ Ok (record { items = xs; places = bits_offsets_at at (length xs); end = end })
+encoding_read : (bytes : List ℕ) (at : ℕ) (text : List ℕ) (xs : List Bool) (end : ℕ) (s : EncodesBits text xs)
+    → IsBytes s.packed → HasSlice bytes at text end
+    → bits_at bytes at ≡ Ok (record { items = xs; offsets = expected_bits_offsets at (length xs); end = end })
 unfolding bits_at
 encoding_read bytes at text xs end s fits h =
     let head : List ℕ = 1 ∷ s.count in
-    let stands = subst (λ (t : List ℕ). HasSlice bytes at t end) s.whole h in
-    let f = with_crcs_only (length xs) bytes at head s.packed end fits s.size stands in
+    let slice = subst (λ (t : List ℕ). HasSlice bytes at t end) s.whole h in
+    let f = with_crcs_only (length xs) bytes at head s.packed end fits s.size slice in
     let r1 = byte_only bytes at 1 (at + 1) (HasSlice-front bytes at (1 ∷ []) s.count _ f.head_is) in
     let t1 = HasSlice-back bytes at (1 ∷ []) s.count _ f.head_is in
-    let r3 = vbyte_only bytes (at + 1) (length xs) (at + length head) s.counted (encoded_if_has_slice VByte bytes (at + 1) s.count (length xs) _ t1 s.counts) in
-    let p3 : at + length head + 1 ≡ at + 2 + length (vbyte (length xs)) = omega (arith, ap length (vbyte_unique s.count (length xs) s.counted s.counts)) in
+    let r3 = vbyte_only bytes (at + 1) (length xs) (at + length head) s.counted
+    (encoded_if_has_slice VByte bytes (at + 1) s.count (length xs) _ t1 s.counts) in
+    let p3 : at + length head + 1 ≡ at + 2 + length (vbyte (length xs)) =
+    omega (arith, ap length (vbyte_unique s.count (length xs) s.counted s.counts)) in
     let some : ltb 0 (length xs) ≡ true = lt-ltb 0 (length xs) s.some in
     rw (r1, r3, f.code_is, some, f.packed_is, s.holds, p3) refl
 
-pub bits_only : (bytes : List ℕ) (at : ℕ) (xs : List Bool) (end : ℕ) → IsBytes bytes → EncodedAt EncodesBits bytes at xs end
-    → bits_at bytes at ≡ Ok (record { items = xs; places = bits_offsets_at at (length xs); end = end })
+pub bits_only : (bytes : List ℕ) (at : ℕ) (xs : List Bool) (end : ℕ) → IsBytes bytes
+    → EncodedAt EncodesBits bytes at xs end
+    → bits_at bytes at ≡ Ok (record { items = xs; offsets = expected_bits_offsets at (length xs); end = end })
 bits_only bytes at xs end fits h =
     let s = h.spelled in
     let here = has_slice_if_encoded EncodesBits bytes at xs end h in
@@ -111,21 +125,31 @@ bits_encodes xs some lt = record {
 -- it is read back, whatever precedes and follows it
 pub bits_again : (before after : List ℕ) (xs : List Bool) → 0 < length xs → length xs < 2 ^ 64
     → bits_at (before ++ bits_encoding xs ++ after) (length before)
-    ≡ Ok (record { items = xs; places = bits_offsets_at (length before) (length xs); end = length before + length (bits_encoding xs) })
+    ≡ Ok (record {
+      items = xs;
+      offsets = expected_bits_offsets (length before) (length xs);
+      end =
+          length before + length (bits_encoding xs);
+    })
 unfolding bits_encodes
 bits_again before after xs some lt =
-    encoding_read (before ++ bits_encoding xs ++ after) (length before) (bits_encoding xs) xs _ (bits_encodes xs some lt) (IsBytes-packed_bits xs)
+    encoding_read (before ++ bits_encoding xs ++ after) (length before) (bits_encoding xs) xs _
+    (bits_encodes xs some lt) (IsBytes-packed_bits xs)
     (HasSlice-after before (bits_encoding xs) after)
 
 -- ---- unique decoding
 
 -- an encoding is that of one list, and no prefix of another encoding
-pub bits_begin_no_other : (a b x y : List ℕ) (xs ys : List Bool) → IsBytes (a ++ x) → EncodesBits a xs → EncodesBits b ys → a ++ x ≡ b ++ y → (a ≡ b) × (xs ≡ ys)
+pub bits_begin_no_other : (a b x y : List ℕ) (xs ys : List Bool) → IsBytes (a ++ x) → EncodesBits a xs
+    → EncodesBits b ys → a ++ x ≡ b ++ y → (a ≡ b) × (xs ≡ ys)
 bits_begin_no_other a b x y xs ys fits h k e =
     let sa = begins a x in
-    let sb : HasSlice (a ++ x) 0 b (length b) = subst (λ (t : List ℕ). HasSlice t 0 b (length b)) (sym e) (begins b y) in
-    let ra = bits_only (a ++ x) 0 xs (length a) fits (encoded_if_has_slice EncodesBits (a ++ x) 0 a xs (length a) sa h) in
-    let rb = bits_only (a ++ x) 0 ys (length b) fits (encoded_if_has_slice EncodesBits (a ++ x) 0 b ys (length b) sb k) in
+    let sb : HasSlice (a ++ x) 0 b (length b) =
+    subst (λ (t : List ℕ). HasSlice t 0 b (length b)) (sym e) (begins b y) in
+    let ra = bits_only (a ++ x) 0 xs (length a) fits
+    (encoded_if_has_slice EncodesBits (a ++ x) 0 a xs (length a) sa h) in
+    let rb = bits_only (a ++ x) 0 ys (length b) fits
+    (encoded_if_has_slice EncodesBits (a ++ x) 0 b ys (length b) sb k) in
     let same = same_sequence _ _ (sym ra ∙ rb) in
     let size : length a ≡ length b = ap (λ (s : Sequence Bool). s.end) same in
     (sym sa.here ∙ ap (λ (n : ℕ). slice_range (a ++ x) 0 n) size ∙ sb.here, ap (λ (s : Sequence Bool). s.items) same)

@@ -24,7 +24,8 @@ pub byte_exact : (bytes : List ℕ) (at : ℕ) → Exactly (byte_at bytes at) (�
 byte_exact bytes at = record { found = byte_found bytes at; only = λ x h. byte_only bytes at x.0 x.1 h }
 
 -- the CRC-8 of the bytes from a start up to an offset
-pub crc8_exact : (bytes : List ℕ) (start at : ℕ) → Exactly (crc8_at bytes start at) (λ end. HasSlice bytes at (crc8 (slice_range bytes start at) ∷ []) end)
+pub crc8_exact : (bytes : List ℕ) (start at : ℕ)
+    → Exactly (crc8_at bytes start at) (λ end. HasSlice bytes at (crc8 (slice_range bytes start at) ∷ []) end)
 unfolding crc8_at
 crc8_exact bytes start at = record {
   found = λ end e.
@@ -33,32 +34,38 @@ crc8_exact bytes start at = record {
       holds_of_ok (λ (y : ℕ). HasSlice bytes at (crc8 (slice_range bytes start at) ∷ []) y) _ _ e
       (subst (λ (b : ℕ). HasSlice bytes at (b ∷ []) code.1) (eqb-true _ _ h) (byte_found bytes at code e1))));
   only = λ end h.
-      let same : eqb (crc8 (slice_range bytes start at)) (crc8 (slice_range bytes start at)) ≡ true = (Decides-eqb _ _).1 refl in
+      let same : eqb (crc8 (slice_range bytes start at)) (crc8 (slice_range bytes start at)) ≡ true =
+      (Decides-eqb _ _).1 refl in
       rw (byte_only bytes at (crc8 (slice_range bytes start at)) end h, same) refl;
 }
 
 -- a given number of bytes, and their CRC-32C
 pub packed_exact : (size : ℕ) (bytes : List ℕ) (at : ℕ) → IsBytes bytes
-    → Exactly (packed_at (8 * size) bytes at) (λ x. HasSlice bytes at (x.0 ++ little_bytes 4 (crc32 x.0)) x.1 × (length x.0 ≡ size))
+    → Exactly (packed_at (8 * size) bytes at) (λ x. HasSlice bytes at (x.0 ++ little_bytes 4 (crc32 x.0)) x.1
+    × (length x.0 ≡ size))
 packed_exact size bytes at fits =
     let whole : bytes_for (8 * size) ≡ size = omega arith in
     record {
       found = λ x e. let f = packed_found (8 * size) bytes at x fits e in (f.0, f.1 ∙ whole);
-      only = λ x h. packed_only (8 * size) bytes at x.0 x.1 (slice_is_bytes bytes at x.0 _ fits (HasSlice-front bytes at x.0 _ x.1 h.0)) (h.1 ∙ sym whole) h.0;
+      only = λ x h. packed_only (8 * size) bytes at x.0 x.1
+          (slice_is_bytes bytes at x.0 _ fits (HasSlice-front bytes at x.0 _ x.1 h.0)) (h.1 ∙ sym whole) h.0;
     }
 
-pub numbers_exact : (bytes : List ℕ) (at : ℕ) → IsBytes bytes → Exactly (numbers_at bytes at) (λ s. IsLogSequenceAt s bytes at)
+pub numbers_exact : (bytes : List ℕ) (at : ℕ) → IsBytes bytes
+    → Exactly (numbers_at bytes at) (λ s. IsLogSequenceAt s bytes at)
 numbers_exact bytes at fits = record {
-  found = λ s e. let f = numbers_found bytes at s fits e in record { spelled = f.spelled; places = f.has_offsets };
+  found = λ s e. let f = numbers_found bytes at s fits e in record { spelled = f.spelled; offsets = f.has_offsets };
   only = λ s h.
       let reads = numbers_only bytes at s.items s.end fits h.spelled in
       let has_offsets = (numbers_found bytes at _ fits reads).has_offsets in
-      reads ∙ ap (λ (p : SequenceOffsets). Ok (record { items = s.items; places = p; end = s.end })) (has_offsets ∙ sym h.places);
+      reads ∙ ap (λ (p : SequenceOffsets). Ok (record { items = s.items; offsets = p; end = s.end })) (has_offsets
+      ∙ sym h.offsets);
 }
 
 pub bits_exact : (bytes : List ℕ) (at : ℕ) → IsBytes bytes → Exactly (bits_at bytes at) (λ s. IsBitmapAt s bytes at)
 bits_exact bytes at fits = record {
-  found = λ s e. let f = bits_found bytes at s fits e in record { spelled = f.spelled; places = f.has_offsets };
+  found = λ s e. let f = bits_found bytes at s fits e in record { spelled = f.spelled; offsets = f.has_offsets };
   only = λ s h.
-      bits_only bytes at s.items s.end fits h.spelled ∙ ap (λ (p : SequenceOffsets). Ok (record { items = s.items; places = p; end = s.end })) (sym h.places);
+      bits_only bytes at s.items s.end fits h.spelled
+      ∙ ap (λ (p : SequenceOffsets). Ok (record { items = s.items; offsets = p; end = s.end })) (sym h.offsets);
 }

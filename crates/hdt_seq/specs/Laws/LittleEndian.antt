@@ -78,7 +78,8 @@ get_or-bits bytes n i d lt = get_or-map-range_with_len (bit bytes) 0 n i i d lt 
 -- byte k of the number
 pub little_byte : (bs : List ℕ) (k : ℕ) → IsBytes bs → little bs / 2 ^ (8 * k) % 2 ^ 8 ≡ get_or bs k 0
 little_byte [] k small = ap (λ n. n % 2 ^ 8) (zero-div (2 ^ (8 * k)))
-little_byte (b ∷ bs) zero small = ap (λ n. n % 2 ^ 8) (div-one (b + 256 * little bs)) ∙ head_last b (little bs) (small 0)
+little_byte (b ∷ bs) zero small = ap (λ n. n % 2 ^ 8) (div-one (b + 256 * little bs))
+    ∙ head_last b (little bs) (small 0)
 little_byte (b ∷ bs) (suc k) small =
     let more : 8 * suc k ≡ 8 + 8 * k = omega arith in
     ap (λ n. (b + 256 * little bs) / 2 ^ n % 2 ^ 8) more

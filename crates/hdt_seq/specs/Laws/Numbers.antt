@@ -15,9 +15,11 @@ pub numbers_below : (s : Numbers) → length (numbers_of s) < 2 ^ 64
 numbers_below s = omega (arith, numbers_len s, s.counted)
 
 -- entry i of the list is entry i of the packed bytes
-pub numbers_get : (s : Numbers) (i : ℕ) → i < length (numbers_of s) → get_or (numbers_of s) i 0 ≡ entry s.packed.now s.width i
+pub numbers_get : (s : Numbers) (i : ℕ) → i < length (numbers_of s)
+    → get_or (numbers_of s) i 0 ≡ entry s.packed.now s.width i
 unfolding numbers_of
-numbers_get s i lt = get_or-entries s.packed.now s.width s.count i (omega (arith, length-entries s.packed.now s.width s.count, lt))
+numbers_get s i lt = get_or-entries s.packed.now s.width s.count i
+    (omega (arith, length-entries s.packed.now s.width s.count, lt))
 
 -- an entry begins within the packed bytes
 pub number_within : (s : Numbers) (i : ℕ) → i < length (numbers_of s) → s.width * i ≤ 8 * length s.packed.now

@@ -33,7 +33,8 @@ pow256 (suc n) =
 shift_byte : (k x : ℕ) → x / 256 ^ suc k ≡ x / 256 ^ k / 256
 shift_byte k x =
     let e : 8 * suc k ≡ 8 * k + 8 = omega arith in
-    ap (λ (p : ℕ). x / p) (pow256 (suc k) ∙ ap (λ (n : ℕ). 2 ^ n) e) ∙ sym (shr-shr x (8 * k) 8) ∙ ap (λ (p : ℕ). x / p / 256) (sym (pow256 k))
+    ap (λ (p : ℕ). x / p) (pow256 (suc k) ∙ ap (λ (n : ℕ). 2 ^ n) e) ∙ sym (shr-shr x (8 * k) 8)
+    ∙ ap (λ (p : ℕ). x / p / 256) (sym (pow256 k))
 
 low_is : (n k x : ℕ) → bytes_low_first k n x ≡ low n (x / 256 ^ k)
 unfolding low
@@ -51,13 +52,16 @@ low_more zero n x =
 low_more (suc k) n x =
     let next : suc k + n ≡ suc (k + n) = omega arith in
     let wide : 8 + 8 * k ≡ 8 * suc k = omega arith in
-    ap (λ (m : ℕ). low m x) next ∙ ap (λ (t : List ℕ). x % 256 ∷ t) (low_more k n (x / 256) ∙ ap (λ (m : ℕ). low k (x / 256) ++ low n m) (shr-shr x 8 (8 * k) ∙ ap (λ (m : ℕ). x / 2 ^ m) wide))
+    ap (λ (m : ℕ). low m x) next
+    ∙ ap (λ (t : List ℕ). x % 256 ∷ t) (low_more k n (x / 256)
+    ∙ ap (λ (m : ℕ). low k (x / 256) ++ low n m) (shr-shr x 8 (8 * k) ∙ ap (λ (m : ℕ). x / 2 ^ m) wide))
 
 low_above : (k x m : ℕ) → low k (x + m * 2 ^ (8 * k)) ≡ low k x
 unfolding low
 low_above zero x m = refl
 low_above (suc k) x m =
-    let wide : 2 ^ (8 * suc k) ≡ 2 ^ (8 * k) * 256 = (let e : 8 * suc k ≡ 8 * k + 8 = omega arith in ap (λ (n : ℕ). 2 ^ n) e ∙ pow-add 2 (8 * k) 8) in
+    let wide : 2 ^ (8 * suc k) ≡ 2 ^ (8 * k) * 256 =
+    (let e : 8 * suc k ≡ 8 * k + 8 = omega arith in ap (λ (n : ℕ). 2 ^ n) e ∙ pow-add 2 (8 * k) 8) in
     let y : ℕ = m * 2 ^ (8 * k) in
     let split : m * 2 ^ (8 * suc k) ≡ y * 256 = rw wide (omega arith) in
     let last : (x + m * 2 ^ (8 * suc k)) % 256 ≡ x % 256 = omega (arith, split) in
@@ -74,7 +78,8 @@ bytes_front n m x le =
     let split : m ≡ n + (m - n) = omega (arith, le) in
     let size : length (little_bytes n x) ≡ n = length-bytes_low_first 0 n x in
     ap (λ (k : ℕ). take n (little_bytes k x)) split ∙ ap (take n) (bytes_more n (m - n) x)
-    ∙ ap (λ (k : ℕ). take k (little_bytes n x ++ little_bytes (m - n) (x / 2 ^ (8 * n)))) (sym size) ∙ take-append_seam (little_bytes n x) (little_bytes (m - n) (x / 2 ^ (8 * n)))
+    ∙ ap (λ (k : ℕ). take k (little_bytes n x ++ little_bytes (m - n) (x / 2 ^ (8 * n)))) (sym size)
+    ∙ take-append_seam (little_bytes n x) (little_bytes (m - n) (x / 2 ^ (8 * n)))
 
 -- adding a multiple of 2 ^ (8 * k) leaves the lowest k bytes unchanged
 pub bytes_above : (k x m : ℕ) → little_bytes k (x + m * 2 ^ (8 * k)) ≡ little_bytes k x
@@ -96,7 +101,8 @@ unfolding low
 little_low zero x = sym (mod-one x)
 little_low (suc n) x =
     let wide : 8 * suc n ≡ 8 * n + 8 = omega arith in
-    let split : x % 2 ^ (8 * suc n) ≡ (x / 256 % 2 ^ (8 * n)) * 256 + x % 256 = ap (λ (m : ℕ). x % 2 ^ m) wide ∙ mod-pow-add x (8 * n) 8 in
+    let split : x % 2 ^ (8 * suc n) ≡ (x / 256 % 2 ^ (8 * n)) * 256 + x % 256 = ap (λ (m : ℕ). x % 2 ^ m) wide
+    ∙ mod-pow-add x (8 * n) 8 in
     omega (arith, little_low n (x / 256), split)
 
 pub little-little_bytes : (n x : ℕ) → x < 2 ^ (8 * n) → little (little_bytes n x) ≡ x
@@ -105,37 +111,51 @@ little-little_bytes n x lt = rw (bytes_are n x) (little_low n x ∙ mod-eq_of_lt
 -- ---- entries as digits of one number
 
 scaled : (a j x p : ℕ) → a * (j + x * p) ≡ a * j + x * (a * p)
-scaled a j x p = mul-add a j (x * p) ∙ ap (λ (n : ℕ). a * j + n) (sym (mul_assoc a x p) ∙ ap (λ (n : ℕ). n * p) (mul_comm a x) ∙ mul_assoc x a p)
+scaled a j x p = mul-add a j (x * p)
+    ∙ ap (λ (n : ℕ). a * j + n) (sym (mul_assoc a x p) ∙ ap (λ (n : ℕ). n * p) (mul_comm a x) ∙ mul_assoc x a p)
 
 wider : (width n : ℕ) → 2 ^ (width * suc n) ≡ 2 ^ width * 2 ^ (width * n)
-wider width n = let e : width * suc n ≡ width + width * n = omega arith in ap (λ (m : ℕ). 2 ^ m) e ∙ pow-add 2 width (width * n)
+wider width n = let e : width * suc n ≡ width + width * n = omega arith in ap (λ (m : ℕ). 2 ^ m) e
+    ∙ pow-add 2 width (width * n)
 
 none : (width : ℕ) → 2 ^ (width * 0) ≡ 1
 none width = let e : width * 0 ≡ 0 = omega arith in ap (λ (m : ℕ). 2 ^ m) e
 
 -- one entry more
-pub packed_number_push : (width : ℕ) (xs : List ℕ) (x : ℕ) → packed_number width (xs ++ x ∷ []) ≡ packed_number width xs + x * 2 ^ (width * length xs)
+pub packed_number_push : (width : ℕ) (xs : List ℕ) (x : ℕ)
+    → packed_number width (xs ++ x ∷ []) ≡ packed_number width xs + x * 2 ^ (width * length xs)
 packed_number_push width [] x = rw (none width) (omega arith)
 packed_number_push width (y ∷ ys) x =
-    rw (packed_number_push width ys x, wider width (length ys), scaled (2 ^ width) (packed_number width ys) x (2 ^ (width * length ys))) (omega arith)
+    rw (
+      packed_number_push width ys x,
+      wider width (length ys),
+      scaled (2 ^ width) (packed_number width ys) x (2 ^ (width * length ys)),
+    ) (omega arith)
 
-pub packed_number_below : (width : ℕ) (xs : List ℕ) → EachFits width xs → packed_number width xs < 2 ^ (width * length xs)
+pub packed_number_below : (width : ℕ) (xs : List ℕ) → EachFits width xs
+    → packed_number width xs < 2 ^ (width * length xs)
 packed_number_below width [] fits = rw (none width) (omega arith)
 packed_number_below width (x ∷ xs) fits =
-    let rest : packed_number width xs + 1 ≤ 2 ^ (width * length xs) = omega (arith, packed_number_below width xs (λ i. fits (suc i))) in
-    rw (wider width (length xs)) (omega (arith, fits 0, mul-le-mul_left (2 ^ width) rest, mul-add (2 ^ width) (packed_number width xs) 1))
+    let rest : packed_number width xs + 1 ≤ 2 ^ (width * length xs) =
+    omega (arith, packed_number_below width xs (λ i. fits (suc i))) in
+    rw (wider width (length xs))
+    (omega (arith, fits 0, mul-le-mul_left (2 ^ width) rest, mul-add (2 ^ width) (packed_number width xs) 1))
 
-pub packed_number_entry : (width : ℕ) (xs : List ℕ) (i : ℕ) → EachFits width xs → i < length xs → packed_number width xs / 2 ^ (width * i) % 2 ^ width ≡ get_or xs i 0
+pub packed_number_entry : (width : ℕ) (xs : List ℕ) (i : ℕ) → EachFits width xs → i < length xs
+    → packed_number width xs / 2 ^ (width * i) % 2 ^ width ≡ get_or xs i 0
 packed_number_entry width [] i fits lt = absurd (omega (arith, lt))
 packed_number_entry width (x ∷ xs) zero fits lt =
-    rw (none width) (ap (λ (n : ℕ). n % 2 ^ width) (div-one (x + 2 ^ width * packed_number width xs)) ∙ add-mul-mod_self_left x (2 ^ width) (packed_number width xs) ∙ mod-eq_of_lt (fits 0))
+    rw (none width) (ap (λ (n : ℕ). n % 2 ^ width) (div-one (x + 2 ^ width * packed_number width xs))
+    ∙ add-mul-mod_self_left x (2 ^ width) (packed_number width xs) ∙ mod-eq_of_lt (fits 0))
 packed_number_entry width (x ∷ xs) (suc i) fits lt =
     let rest : ℕ = packed_number width xs in
     let order : x + 2 ^ width * rest ≡ rest * 2 ^ width + x = omega (arith, mul_comm (2 ^ width) rest) in
-    let first : (x + 2 ^ width * rest) / 2 ^ width ≡ rest = ap (λ (n : ℕ). n / 2 ^ width) order ∙ shr_high rest width x (fits 0) in
+    let first : (x + 2 ^ width * rest) / 2 ^ width ≡ rest = ap (λ (n : ℕ). n / 2 ^ width) order
+    ∙ shr_high rest width x (fits 0) in
     let place : width * suc i ≡ width + width * i = omega arith in
     ap (λ (n : ℕ). (x + 2 ^ width * rest) / 2 ^ n % 2 ^ width) place
-    ∙ ap (λ (n : ℕ). n % 2 ^ width) (sym (shr-shr (x + 2 ^ width * rest) width (width * i)) ∙ ap (λ (n : ℕ). n / 2 ^ (width * i)) first)
+    ∙ ap (λ (n : ℕ). n % 2 ^ width) (sym (shr-shr (x + 2 ^ width * rest) width (width * i))
+    ∙ ap (λ (n : ℕ). n / 2 ^ (width * i)) first)
     ∙ packed_number_entry width xs i (λ j. fits (suc j)) (omega (arith, lt))
 
 -- ---- packed entries
@@ -160,7 +180,8 @@ pub entries_packed : (width : ℕ) (xs : List ℕ) → EachFits width xs → ent
 unfolding entries entry
 entries_packed width xs fits =
     let number = little-packed width xs fits in
-    sym (fill_by_all (entry (packed width xs) width) xs (length xs) 0 refl (λ k lt. sym (ap (λ (n : ℕ). n / 2 ^ (width * k) % 2 ^ width) number ∙ packed_number_entry width xs k fits lt)))
+    sym (fill_by_all (entry (packed width xs) width) xs (length xs) 0 refl
+    (λ k lt. sym (ap (λ (n : ℕ). n / 2 ^ (width * k) % 2 ^ width) number ∙ packed_number_entry width xs k fits lt)))
 
 bit_small : (b : Bool) → bit_number b < 2
 bit_small true = omega arith
@@ -192,7 +213,8 @@ bit_packed xs k lt =
     let inside : k < length ns = omega (arith, length-map xs bit_number, lt) in
     let one : 1 * k ≡ k = omega arith in
     let number : little (packed 1 ns) / 2 ^ k % 2 ≡ bit_number (get_or xs k false) =
-    ap (λ (n : ℕ). n / 2 ^ k % 2) (little-packed 1 ns (bits_fit xs)) ∙ ap (λ (n : ℕ). packed_number 1 ns / 2 ^ n % 2 ^ 1) (sym one)
+    ap (λ (n : ℕ). n / 2 ^ k % 2) (little-packed 1 ns (bits_fit xs))
+    ∙ ap (λ (n : ℕ). packed_number 1 ns / 2 ^ n % 2 ^ 1) (sym one)
     ∙ packed_number_entry 1 ns k (bits_fit xs) inside ∙ get_or-map bit_number xs k false 0 lt in
     ap (λ (n : ℕ). eqb n 1) number ∙ bit_back (get_or xs k false)
 
@@ -209,29 +231,37 @@ pub record Packs (width : ℕ) (xs : List ℕ) (word filled : ℕ) (before out :
   pub out_is : out ≡ before ++ little_bytes (8 * (width * length xs / 64)) (packed_number width xs)
 
 -- the word has no more bits than `filled`
-pub Packs-word : (width : ℕ) (xs : List ℕ) (word filled : ℕ) (before out : List ℕ) → EachFits width xs → Packs width xs word filled before out → word < 2 ^ filled
+pub Packs-word : (width : ℕ) (xs : List ℕ) (word filled : ℕ) (before out : List ℕ) → EachFits width xs
+    → Packs width xs word filled before out → word < 2 ^ filled
 Packs-word width xs word filled before out fits h =
     let n : ℕ = width * length xs in
     let split : n ≡ n % 64 + 8 * (8 * (n / 64)) = omega arith in
-    let below : packed_number width xs < 2 ^ (n % 64 + 8 * (8 * (n / 64))) = subst (λ (m : ℕ). packed_number width xs < 2 ^ m) split (packed_number_below width xs fits) in
+    let below : packed_number width xs < 2 ^ (n % 64 + 8 * (8 * (n / 64))) =
+    subst (λ (m : ℕ). packed_number width xs < 2 ^ m) split (packed_number_below width xs fits) in
     rw (h.word_is, h.filled_is) (shr_below (packed_number width xs) (n % 64) (8 * (8 * (n / 64))) below)
 
 -- one entry more
-pub Packs-more : (width : ℕ) (xs : List ℕ) (word filled : ℕ) (before out : List ℕ) (x : ℕ) → Packs width xs word filled before out
-    → Packs width (xs ++ x ∷ []) ((word + x * 2 ^ filled) / 2 ^ (8 * (8 * ((filled + width) / 64)))) ((filled + width) % 64) before (out ++ little_bytes (8 * ((filled + width) / 64)) (word + x * 2 ^ filled))
+pub Packs-more : (width : ℕ) (xs : List ℕ) (word filled : ℕ) (before out : List ℕ) (x : ℕ)
+    → Packs width xs word filled before out
+    → Packs width (xs ++ x ∷ []) ((word + x * 2 ^ filled) / 2 ^ (8 * (8 * ((filled + width) / 64))))
+    ((filled + width) % 64) before (out ++ little_bytes (8 * ((filled + width) / 64)) (word + x * 2 ^ filled))
 Packs-more width xs word filled before out x h =
     let n : ℕ = width * length xs in
     let k : ℕ = 8 * (n / 64) in
     let m : ℕ = 8 * ((filled + width) / 64) in
     let v : ℕ = packed_number width xs in
     let v' : ℕ = packed_number width (xs ++ x ∷ []) in
-    let size : width * length (xs ++ x ∷ []) ≡ n + width = (let e : length (xs ++ x ∷ []) ≡ suc (length xs) = omega (arith, length-append xs (x ∷ [])) in rw e (omega arith)) in
+    let size : width * length (xs ++ x ∷ []) ≡ n + width =
+    (let e : length (xs ++ x ∷ []) ≡ suc (length xs) = omega (arith, length-append xs (x ∷ [])) in
+    rw e (omega arith)) in
     let split : n ≡ filled + 8 * k = omega (arith, h.filled_is) in
     let place : 2 ^ n ≡ 2 ^ filled * 2 ^ (8 * k) = ap (λ (i : ℕ). 2 ^ i) split ∙ pow-add 2 filled (8 * k) in
-    let high : x * 2 ^ n ≡ x * 2 ^ filled * 2 ^ (8 * k) = ap (λ (i : ℕ). x * i) place ∙ sym (mul_assoc x (2 ^ filled) (2 ^ (8 * k))) in
+    let high : x * 2 ^ n ≡ x * 2 ^ filled * 2 ^ (8 * k) = ap (λ (i : ℕ). x * i) place
+    ∙ sym (mul_assoc x (2 ^ filled) (2 ^ (8 * k))) in
     let more : v' ≡ v + x * 2 ^ filled * 2 ^ (8 * k) = packed_number_push width xs x ∙ ap (λ (i : ℕ). v + i) high in
     let above : v' / 2 ^ (8 * k) ≡ word + x * 2 ^ filled =
-    ap (λ (i : ℕ). i / 2 ^ (8 * k)) more ∙ add-mul-div_right v (x * 2 ^ filled) (pow_pos (8 * k)) ∙ ap (λ (i : ℕ). i + x * 2 ^ filled) (sym h.word_is) in
+    ap (λ (i : ℕ). i / 2 ^ (8 * k)) more ∙ add-mul-div_right v (x * 2 ^ filled) (pow_pos (8 * k))
+    ∙ ap (λ (i : ℕ). i + x * 2 ^ filled) (sym h.word_is) in
     let k' : 8 * ((n + width) / 64) ≡ k + m = omega (arith, h.filled_is) in
     let r' : (filled + width) % 64 ≡ (n + width) % 64 = omega (arith, h.filled_is) in
     let wide : 8 * k + 8 * m ≡ 8 * (k + m) = omega arith in
@@ -239,18 +269,31 @@ Packs-more width xs word filled before out x h =
     record {
       filled_is = rw size r';
       word_is = rw (size, k', ← wide) (ap (λ (i : ℕ). i / 2 ^ (8 * m)) (sym above) ∙ shr-shr v' (8 * k) (8 * m));
-      out_is = rw (size, k', bytes_more k m v', above, same, h.out_is) (append_assoc before (little_bytes k v) (little_bytes m (word + x * 2 ^ filled)));
+      out_is = rw (
+        size,
+        k',
+        bytes_more k m v',
+        above,
+        same,
+        h.out_is,
+      ) (append_assoc before (little_bytes k v) (little_bytes m (word + x * 2 ^ filled)));
     }
 
 -- appending the remaining bytes completes the packed bytes
-pub Packs-all : (width : ℕ) (xs : List ℕ) (word filled : ℕ) (before out : List ℕ) → Packs width xs word filled before out
+pub Packs-all : (width : ℕ) (xs : List ℕ) (word filled : ℕ) (before out : List ℕ)
+    → Packs width xs word filled before out
     → out ++ little_bytes ((filled + 7) / 8) word ≡ before ++ packed width xs
 unfolding packed
 Packs-all width xs word filled before out h =
     let n : ℕ = width * length xs in
     let k : ℕ = 8 * (n / 64) in
     let whole : bytes_for n ≡ k + (filled + 7) / 8 = omega (arith, h.filled_is) in
-    rw (whole, bytes_more k ((filled + 7) / 8) (packed_number width xs), ← h.word_is, h.out_is) (append_assoc before (little_bytes k (packed_number width xs)) (little_bytes ((filled + 7) / 8) word))
+    rw (
+      whole,
+      bytes_more k ((filled + 7) / 8) (packed_number width xs),
+      ← h.word_is,
+      h.out_is,
+    ) (append_assoc before (little_bytes k (packed_number width xs)) (little_bytes ((filled + 7) / 8) word))
 
 -- ---- the invariant of the loop over the entries
 
@@ -261,16 +304,24 @@ EachFits-take width i xs fits k =
       | inr le ↦ rw (get_or_past (take i xs) k 0 (omega (arith, length-take i xs))) (pow_pos width)
     ]
 
-pub Packs-next : (width i : ℕ) (xs : List ℕ) (word filled : ℕ) (before out : List ℕ) (word' filled' : ℕ) (out' : List ℕ) (x : ℕ) → i < length xs → x ≡ get_or xs i 0
-    → Packs width (take i xs) word filled before out → word' ≡ (word + x * 2 ^ filled) / 2 ^ (8 * (8 * ((filled + width) / 64))) → filled' ≡ (filled + width) % 64
-    → out' ≡ out ++ little_bytes (8 * ((filled + width) / 64)) (word + x * 2 ^ filled) → Packs width (take (i + 1) xs) word' filled' before out'
+pub Packs-next : (width i : ℕ) (xs : List ℕ) (word filled : ℕ) (before out : List ℕ) (word' filled' : ℕ) (out' : List ℕ)
+    (x : ℕ) → i < length xs → x ≡ get_or xs i 0
+    → Packs width (take i xs) word filled before out
+    → word' ≡ (word + x * 2 ^ filled) / 2 ^ (8 * (8 * ((filled + width) / 64))) → filled' ≡ (filled + width) % 64
+    → out' ≡ out ++ little_bytes (8 * ((filled + width) / 64)) (word + x * 2 ^ filled)
+    → Packs width (take (i + 1) xs) word' filled' before out'
 Packs-next width i xs word filled before out word' filled' out' x lt is h e1 e2 e3 =
     rw (take_more xs i 0 lt, ← is, e1, e2, e3) (Packs-more width (take i xs) word filled before out x h)
 
-pub Packs-end : (width i : ℕ) (xs : List ℕ) (word filled : ℕ) (before out : List ℕ) (count : ℕ) (out' : List ℕ) → length xs ≤ i → count ≡ (filled + 7) / 8
-    → Packs width (take i xs) word filled before out → out' ≡ out ++ little_bytes count word → out' ≡ before ++ packed width xs
+pub Packs-end : (width i : ℕ) (xs : List ℕ) (word filled : ℕ) (before out : List ℕ) (count : ℕ) (out' : List ℕ)
+    → length xs ≤ i → count ≡ (filled + 7) / 8
+    → Packs width (take i xs) word filled before out → out' ≡ out ++ little_bytes count word
+    → out' ≡ before ++ packed width xs
 Packs-end width i xs word filled before out count out' le is h e =
-    e ∙ ap (λ (n : ℕ). out ++ little_bytes n word) is ∙ Packs-all width (take i xs) word filled before out h ∙ ap (λ (t : List ℕ). before ++ packed width t) (take_all i xs le)
+    e ∙ ap (λ (n : ℕ). out ++ little_bytes n word) is ∙ Packs-all width (take i xs) word filled before out h
+    ∙ ap (λ (t : List ℕ). before ++ packed width t) (take_all i xs le)
 
-pub Packs-keeps : (width : ℕ) (xs : List ℕ) (word filled : ℕ) (before out out' : List ℕ) → Packs width xs word filled before out → out' ≡ out → IsPrefixOf before out'
-Packs-keeps width xs word filled before out out' h e = ap (take (length before)) (e ∙ h.out_is) ∙ take-append_seam before (little_bytes (8 * (width * length xs / 64)) (packed_number width xs))
+pub Packs-keeps : (width : ℕ) (xs : List ℕ) (word filled : ℕ) (before out out' : List ℕ)
+    → Packs width xs word filled before out → out' ≡ out → IsPrefixOf before out'
+Packs-keeps width xs word filled before out out' h e = ap (take (length before)) (e ∙ h.out_is)
+    ∙ take-append_seam before (little_bytes (8 * (width * length xs / 64)) (packed_number width xs))

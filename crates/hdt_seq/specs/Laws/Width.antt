@@ -30,19 +30,22 @@ halvings_fit : (f n : ℕ) → n ≤ f → n < 2 ^ halvings f n
 unfolding halvings
 halvings_fit zero n h = omega (arith, h)
 halvings_fit (suc f) zero h = omega arith
-halvings_fit (suc f) (suc n) h = omega (arith, halvings_fit f (suc n / 2) (omega arith), pow-suc 2 (halvings f (suc n / 2)))
+halvings_fit (suc f) (suc n) h =
+    omega (arith, halvings_fit f (suc n / 2) (omega arith), pow-suc 2 (halvings f (suc n / 2)))
 
 halvings_reached : (f n : ℕ) → n ≤ f → 2 ^ halvings f n ≤ max 1 (2 * n)
 unfolding halvings
 halvings_reached zero n h = omega (arith, h)
 halvings_reached (suc f) zero h = omega arith
-halvings_reached (suc f) (suc n) h = omega (arith, halvings_reached f (suc n / 2) (omega arith), pow-suc 2 (halvings f (suc n / 2)))
+halvings_reached (suc f) (suc n) h =
+    omega (arith, halvings_reached f (suc n / 2) (omega arith), pow-suc 2 (halvings f (suc n / 2)))
 
 -- a positive number has one digit more than its half
 pub digits_half : (n : ℕ) → 0 < n → digits n ≡ digits (n / 2) + 1
 unfolding digits halvings
 digits_half zero h = absurd (omega (arith, h))
-digits_half (suc n) h = ap suc (halvings_enough n (suc n / 2) (suc n / 2) (omega arith) (omega arith)) ∙ sym (add-one (halvings (suc n / 2) (suc n / 2)))
+digits_half (suc n) h = ap suc (halvings_enough n (suc n / 2) (suc n / 2) (omega arith) (omega arith))
+    ∙ sym (add-one (halvings (suc n / 2) (suc n / 2)))
 
 pub digits_mono : (a b : ℕ) → a ≤ b → digits a ≤ digits b
 unfolding digits
@@ -76,7 +79,11 @@ pub digits_by_zeros : (n : ℕ) → n < 2 ^ 64 → count_leading_zeros 64 n + di
 digits_by_zeros n lt =
     let le = digits_least n 64 lt in
     let whole : 64 - digits n + digits n ≡ 64 = omega (arith, le) in
-    omega (arith, leading_unique 64 n (64 - digits n) (digits n) whole (digits_fit n) (omega (arith, digits_reached n)), whole)
+    omega (
+      arith,
+      leading_unique 64 n (64 - digits n) (digits n) whole (digits_fit n) (omega (arith, digits_reached n)),
+      whole,
+    )
 
 -- ---- the greatest entry
 
@@ -91,7 +98,8 @@ above_each a (x ∷ xs) (suc i) = above_each (max a x) xs i
 
 below_bound : (a : ℕ) (xs : List ℕ) (bound : ℕ) → a < bound → ((i : ℕ) → get_or xs i 0 < bound) → fold max a xs < bound
 below_bound a [] bound small each = small
-below_bound a (x ∷ xs) bound small each = below_bound (max a x) xs bound (omega (arith, small, each 0)) (λ i. each (suc i))
+below_bound a (x ∷ xs) bound small each =
+    below_bound (max a x) xs bound (omega (arith, small, each 0)) (λ i. each (suc i))
 
 -- ---- the width
 
@@ -103,7 +111,8 @@ width_fits xs i =
 
 -- no smaller positive width fits each entry
 pub width_least : (xs : List ℕ) (w : ℕ) → 1 ≤ w → ((i : ℕ) → get_or xs i 0 < 2 ^ w) → width_of xs ≤ w
-width_least xs w some each = omega (arith, digits_least (greatest xs) w (below_bound 0 xs (2 ^ w) (omega (arith, each 0)) each), some)
+width_least xs w some each =
+    omega (arith, digits_least (greatest xs) w (below_bound 0 xs (2 ^ w) (omega (arith, each 0)) each), some)
 
 pub width_narrow : (xs : List ℕ) → ((i : ℕ) → get_or xs i 0 < 2 ^ 64) → width_of xs ≤ 64
 width_narrow xs each = width_least xs 64 (omega arith) each

@@ -13,22 +13,26 @@ AppendsInput old new before after = (more : List ℕ) × (new ≡ old ++ more) �
 -- The index of the first line end, or None without one.
 abbrev pub IsFirstLineEnd : List ℕ → Option ℕ → Type 0
 IsFirstLineEnd bytes None = HasNoLineEnd bytes
-IsFirstLineEnd bytes (Some n) = (n < length bytes) × (is_line_end (slice_index bytes n) ≡ true) × HasNoLineEnd (take n bytes)
+IsFirstLineEnd bytes (Some n) = (n < length bytes) × (is_line_end (slice_index bytes n) ≡ true)
+    × HasNoLineEnd (take n bytes)
 
 -- One read appends n bytes, 0 only at the end of the input. It appends nothing if the reader failed or memory ran out.
 abbrev pub ReadOnce : Result ℕ LineReason → List ℕ → List ℕ → Option (List ℕ) → Option (List ℕ) → Type 0
-ReadOnce (Ok n) old new before after = AppendsInput old new before after × (length new ≡ length old + n) × (n ≡ 0 → IsAtEnd after)
+ReadOnce (Ok n) old new before after = AppendsInput old new before after × (length new ≡ length old + n)
+    × (n ≡ 0 → IsAtEnd after)
 ReadOnce (Err Read) old new before after = (new ≡ old) × Keeps before after
 ReadOnce (Err OutOfMemory) old new before after = (new ≡ old) × Keeps before after
 ReadOnce (Err other) old new before after = ⊥
 
 -- One read up to a length of most: whether there were more bytes.
 abbrev pub ReadMore : Result Bool LineReason → List ℕ → List ℕ → Option (List ℕ) → Option (List ℕ) → ℕ → Type 0
-ReadMore (Ok true) old new before after most = AppendsInput old new before after × (length old < length new) × (length new ≤ most)
+ReadMore (Ok true) old new before after most = AppendsInput old new before after × (length old < length new)
+    × (length new ≤ most)
 ReadMore (Ok false) old new before after most = AppendsInput old new before after × (new ≡ old) × IsAtEnd after
 ReadMore (Err Read) old new before after most = (new ≡ old) × Keeps before after
 ReadMore (Err OutOfMemory) old new before after most = (new ≡ old) × Keeps before after
-ReadMore (Err TooLong) old new before after most = (new ≡ old) × (length new ≡ most) × ((past : List ℕ) × (0 < length past) × Consumes before after past)
+ReadMore (Err TooLong) old new before after most = (new ≡ old) × (length new ≡ most)
+    × ((past : List ℕ) × (0 < length past) × Consumes before after past)
 ReadMore (Err other) old new before after most = ⊥
 
 -- The first n bytes are the text of a line: its end follows, or the input has ended.
@@ -38,14 +42,19 @@ pub record IsFirstLineLength (n : ℕ) (bytes : List ℕ) (after : Option (List 
 
 -- new is old followed by what the reader gave, and the reader gave more.
 abbrev pub ExceedsLimit : List ℕ → List ℕ → Option (List ℕ) → Option (List ℕ) → Type 0
-ExceedsLimit old new before after = (more : List ℕ) × (past : List ℕ) × (new ≡ old ++ more) × (0 < length past) × Consumes before after (more ++ past)
+ExceedsLimit old new before after = (more : List ℕ) × (past : List ℕ) × (new ≡ old ++ more) × (0 < length past)
+    × Consumes before after (more ++ past)
 
 -- Reading until the buffer starts with a complete line of n bytes of text.
 abbrev pub BuffersLine : Result ℕ LineReason → List ℕ → List ℕ → Option (List ℕ) → Option (List ℕ) → ℕ → Type 0
-BuffersLine (Ok n) old new before after most = AppendsInput old new before after × IsFirstLineLength n new after × (length new ≤ most)
-BuffersLine (Err Read) old new before after most = AppendsInput old new before after × HasNoLineEnd new × (length new ≤ most)
-BuffersLine (Err OutOfMemory) old new before after most = AppendsInput old new before after × HasNoLineEnd new × (length new ≤ most)
-BuffersLine (Err TooLong) old new before after most = ExceedsLimit old new before after × HasNoLineEnd new × (length new ≡ most)
+BuffersLine (Ok n) old new before after most = AppendsInput old new before after × IsFirstLineLength n new after
+    × (length new ≤ most)
+BuffersLine (Err Read) old new before after most = AppendsInput old new before after × HasNoLineEnd new
+    × (length new ≤ most)
+BuffersLine (Err OutOfMemory) old new before after most = AppendsInput old new before after × HasNoLineEnd new
+    × (length new ≤ most)
+BuffersLine (Err TooLong) old new before after most = ExceedsLimit old new before after × HasNoLineEnd new
+    × (length new ≡ most)
 BuffersLine (Err other) old new before after most = ⊥
 
 -- The length without the flag that says whether the text is known to be UTF-8.

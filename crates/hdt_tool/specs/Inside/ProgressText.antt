@@ -10,7 +10,8 @@ progress_line read (Some size) = codes "hdt: read " ++ decimal read ++ codes " o
 -- The megabytes read, and if the length of the input is known, their percentage and the megabytes of the input.
 abbrev pub reading_text : ℕ → Option ℕ → List ℕ
 reading_text read None = codes "hdt: reading, " ++ decimal (read / 1000000) ++ codes " MB"
-reading_text read (Some size) = codes "hdt: reading " ++ decimal (read * 100 / max size 1) ++ codes "%, " ++ decimal (read / 1000000) ++ codes " of "
+reading_text read (Some size) = codes "hdt: reading " ++ decimal (read * 100 / max size 1) ++ codes "%, "
+    ++ decimal (read / 1000000) ++ codes " of "
     ++ decimal (size / 1000000) ++ codes " MB"
 
 -- What is done after reading, and a number of megabytes.

@@ -4,7 +4,7 @@ use Rattle.hdt_triples.specs.TripleSequences.{BitmapTriples, pair_of, subject_at
 use Rattle.hdt_triples.specs.Patterns.{agrees}
 use Rattle.hdt_triples.specs.Scanning.{IsTriplePosition}
 use Rattle.hdt_triples.specs.declared.pattern.Pattern.{Pattern}
-use Rattle.hdt_triples.specs.declared.triple_position.TriplePosition.{TriplePosition}
+use Rattle.hdt_triples.specs.declared.triples.TriplePosition.{TriplePosition}
 
 -- Pair q has this subject and this predicate.
 abbrev pub IsPairOf : BitmapTriples → ℕ → ℕ → ℕ → Type 0

@@ -10,6 +10,7 @@ unfolding triples_of
 length-triples f = length-map-range_with_len (triple_at f) 0 (length f.array_z)
 
 -- Element j of the list is triple j.
-pub triple_is : (f : BitmapTriples) (j : ℕ) → j < length f.array_z → slice_index_or (triples_of f) j (0, 0, 0) ≡ triple_at f j
+pub triple_is : (f : BitmapTriples) (j : ℕ) → j < length f.array_z
+    → slice_index_or (triples_of f) j (0, 0, 0) ≡ triple_at f j
 unfolding triples_of
 triple_is f j lt = get_or-map-range_with_len (triple_at f) 0 (length f.array_z) j j (0, 0, 0) lt (omega arith)

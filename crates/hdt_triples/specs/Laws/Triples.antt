@@ -23,8 +23,9 @@ use Rattle.hdt_wire.specs.Exact.{Exactly}
 use Rattle.hdt_wire.specs.Laws.Exact.{holds_of_ok, holds_if_ok, item_checks_exact}
 use Rattle.hdt_seq.specs.Laws.ExactSequences.{numbers_exact, bits_exact}
 use Rattle.hdt_wire.specs.Laws.ExactPrimitives.{control_exact}
-use Rattle.hdt_triples.specs.TripleSequences.{AreAscendingGroups, AreValidSequences, Counts}
-use Rattle.hdt_triples.specs.Triples.{TripleParts, IsTriples, bitmap_triples_of_sequences, sequence_checks, is_spo_order, previous_in_group, entry_checks, pair_checks, last_bit, all_pair_checks, all_object_checks, decode_triple_parts}
+use Rattle.hdt_triples.specs.TripleSequences.{AreAscendingGroups, AreValidSequences}
+use Rattle.hdt_triples.specs.declared.pattern.Counts.{Counts}
+use Rattle.hdt_triples.specs.Triples.{TripleParts, IsTriplesAt, bitmap_triples_of_sequences, sequence_checks, is_spo_order, previous_in_group, entry_checks, pair_checks, last_bit, all_pair_checks, all_object_checks, decode_triple_parts}
 
 -- ---- the property `order`, and the last bits
 
@@ -50,30 +51,41 @@ record EntryHolds (marks : List Bool) (xs : List ℕ) (count i : ℕ) : Type 0 w
   to : slice_index xs i ≤ count
   later : previous_in_group marks xs i < slice_index xs i
 
-entry_exact : (marks : List Bool) (xs : List ℕ) (places : SequenceOffsets) (count : ℕ) (range ascent : Reason) (i : ℕ) → Exactly (entry_checks marks xs places count range ascent i) (λ _. EntryHolds marks xs count i)
+entry_exact : (marks : List Bool) (xs : List ℕ) (offsets : SequenceOffsets) (count : ℕ) (range ascent : Reason) (i : ℕ)
+    → Exactly (entry_checks marks xs offsets count range ascent i) (λ _. EntryHolds marks xs count i)
 unfolding entry_checks
-entry_exact marks xs places count range ascent i =
+entry_exact marks xs offsets count range ascent i =
     let x : ℕ = slice_index xs i in
     record {
       found = λ u e.
-          demand_ok (leb 1 x && leb x count) (entry_offset places i) range _ u e (λ h e.
+          demand_ok (leb 1 x && leb x count) (entry_offset offsets i) range _ u e (λ h e.
           let both = and_parts (leb 1 x) (leb x count) h in
-          record { from = leb-true 1 x both.0; to = leb-true x count both.1; later = ltb-true _ _ (holds_if_ok (ltb (previous_in_group marks xs i) x) (entry_offset places i) ascent u e) });
+          record {
+            from = leb-true 1 x both.0;
+            to = leb-true x count both.1;
+            later =
+                ltb-true _ _ (holds_if_ok (ltb (previous_in_group marks xs i) x) (entry_offset offsets i) ascent u e);
+          });
       only = λ u h. rw (le-leb 1 x h.from, le-leb x count h.to, lt-ltb (previous_in_group marks xs i) x h.later) refl;
     }
 
-earlier_by : (marks : List Bool) (xs : List ℕ) (i : ℕ) (b : Bool) → get_or marks i false ≡ b → previous_in_group marks xs (i + 1) ≡ cond b 0 (slice_index xs i)
+earlier_by : (marks : List Bool) (xs : List ℕ) (i : ℕ) (b : Bool) → get_or marks i false ≡ b
+    → previous_in_group marks xs (i + 1) ≡ cond b 0 (slice_index xs i)
 unfolding previous_in_group
 earlier_by marks xs i b h = ap (previous_in_group marks xs) (add-one i) ∙ ap (λ b. cond b 0 (slice_index xs i)) h
 
 -- Entry i + 1 continues the group of entry i, or begins one.
-ascend_by : (marks : List Bool) (xs : List ℕ) (i : ℕ) (b : Bool) → i < length marks → get_or marks i false ≡ b → previous_in_group marks xs (i + 1) < slice_index xs (i + 1)
+ascend_by : (marks : List Bool) (xs : List ℕ) (i : ℕ) (b : Bool) → i < length marks → get_or marks i false ≡ b
+    → previous_in_group marks xs (i + 1) < slice_index xs (i + 1)
     → ones_before marks i ≡ ones_before marks (i + 1) → slice_index xs i < slice_index xs (i + 1)
-ascend_by marks xs i true lt is later same = absurd (omega (arith, same, ones_before_after_1_bit marks i (mark_here marks i is)))
+ascend_by marks xs i true lt is later same =
+    absurd (omega (arith, same, ones_before_after_1_bit marks i (mark_here marks i is)))
 ascend_by marks xs i false lt is later same = omega (arith, later, earlier_by marks xs i false is)
 
-later_by : (marks : List Bool) (xs : List ℕ) (i : ℕ) (b : Bool) → i < length marks → get_or marks i false ≡ b → 1 ≤ slice_index xs (i + 1)
-    → (ones_before marks i ≡ ones_before marks (i + 1) → slice_index xs i < slice_index xs (i + 1)) → previous_in_group marks xs (i + 1) < slice_index xs (i + 1)
+later_by : (marks : List Bool) (xs : List ℕ) (i : ℕ) (b : Bool) → i < length marks → get_or marks i false ≡ b
+    → 1 ≤ slice_index xs (i + 1)
+    → (ones_before marks i ≡ ones_before marks (i + 1) → slice_index xs i < slice_index xs (i + 1))
+    → previous_in_group marks xs (i + 1) < slice_index xs (i + 1)
 later_by marks xs i true lt is from ascend = omega (arith, from, earlier_by marks xs i true is)
 later_by marks xs i false lt is from ascend =
     let same = ones_before_after_0_bit marks i (slice_get-get_or marks i false lt ∙ ap (λ (b : Bool). Some b) is) in
@@ -83,23 +95,28 @@ first_later : (marks : List Bool) (xs : List ℕ) → 1 ≤ slice_index xs 0 →
 unfolding previous_in_group
 first_later marks xs h = h
 
-each_later : (marks : List Bool) (xs : List ℕ) (count : ℕ) → length marks ≡ length xs → AreAscendingGroups marks xs count → (i : ℕ) → i < length xs → previous_in_group marks xs i < slice_index xs i
+each_later : (marks : List Bool) (xs : List ℕ) (count : ℕ) → length marks ≡ length xs
+    → AreAscendingGroups marks xs count → (i : ℕ) → i < length xs → previous_in_group marks xs i < slice_index xs i
 each_later marks xs count same h zero lt = first_later marks xs (h.from 0 lt)
 each_later marks xs count same h (suc i) lt =
     let next : i + 1 ≡ suc i = add-one i in
     let below : i + 1 < length xs = omega (arith, lt) in
     subst (λ (k : ℕ). previous_in_group marks xs k < slice_index xs k) next
-    (later_by marks xs i (get_or marks i false) (omega (arith, same, lt)) refl (h.from (i + 1) below) (h.ascend i below))
+    (later_by marks xs i (get_or marks i false) (omega (arith, same, lt)) refl (h.from (i + 1) below)
+    (h.ascend i below))
 
-grouped_found : (marks : List Bool) (xs : List ℕ) (count : ℕ) → length marks ≡ length xs → ((i : ℕ) → i < length xs → EntryHolds marks xs count i) → AreAscendingGroups marks xs count
+grouped_found : (marks : List Bool) (xs : List ℕ) (count : ℕ) → length marks ≡ length xs
+    → ((i : ℕ) → i < length xs → EntryHolds marks xs count i) → AreAscendingGroups marks xs count
 grouped_found marks xs count same each = record {
   from = λ i lt. (each i lt).from;
   to = λ i lt. (each i lt).to;
   ascend = λ i lt. ascend_by marks xs i (get_or marks i false) (omega (arith, same, lt)) refl (each (i + 1) lt).later;
 }
 
-grouped_only : (marks : List Bool) (xs : List ℕ) (count : ℕ) → length marks ≡ length xs → AreAscendingGroups marks xs count → (i : ℕ) → i < length xs → EntryHolds marks xs count i
-grouped_only marks xs count same h i lt = record { from = h.from i lt; to = h.to i lt; later = each_later marks xs count same h i lt }
+grouped_only : (marks : List Bool) (xs : List ℕ) (count : ℕ) → length marks ≡ length xs
+    → AreAscendingGroups marks xs count → (i : ℕ) → i < length xs → EntryHolds marks xs count i
+grouped_only marks xs count same h i lt =
+    record { from = h.from i lt; to = h.to i lt; later = each_later marks xs count same h i lt }
 
 -- ---- pairs and triples
 
@@ -111,7 +128,8 @@ record PairHolds (counts : Counts) (bitmap_y : List Bool) (array_y : List ℕ) (
   subject : ones_before bitmap_y q + 1 ≤ counts.subjects
   predicate : EntryHolds bitmap_y array_y counts.predicates q
 
-pair_exact : (counts : Counts) (bitmap_y : List Bool) (a : SequenceOffsets) (array_y : List ℕ) (b : SequenceOffsets) (q : ℕ) → Exactly (pair_checks counts bitmap_y a array_y b q) (λ _. PairHolds counts bitmap_y array_y q)
+pair_exact : (counts : Counts) (bitmap_y : List Bool) (a : SequenceOffsets) (array_y : List ℕ) (b : SequenceOffsets)
+    (q : ℕ) → Exactly (pair_checks counts bitmap_y a array_y b q) (λ _. PairHolds counts bitmap_y array_y q)
 unfolding pair_checks
 pair_exact counts bitmap_y a array_y b q =
     let entry = entry_exact bitmap_y array_y b counts.predicates PredicateRange PredicatesNotAscending q in
@@ -122,21 +140,32 @@ pair_exact counts bitmap_y a array_y b q =
       only = λ u h. rw (le-leb (ones_before bitmap_y q + 1) counts.subjects h.subject, entry.only tt h.predicate) refl;
     }
 
-pairs_exact : (counts : Counts) (bitmap_y : List Bool) (a : SequenceOffsets) (array_y : List ℕ) (b : SequenceOffsets) → length bitmap_y ≡ length array_y → Exactly (all_pair_checks counts bitmap_y a array_y b) (λ _. ArePairs counts bitmap_y array_y)
+pairs_exact : (counts : Counts) (bitmap_y : List Bool) (a : SequenceOffsets) (array_y : List ℕ) (b : SequenceOffsets)
+    → length bitmap_y ≡ length array_y
+    → Exactly (all_pair_checks counts bitmap_y a array_y b) (λ _. ArePairs counts bitmap_y array_y)
 pairs_exact counts bitmap_y a array_y b same =
-    let rows = item_checks_exact (pair_checks counts bitmap_y a array_y b) (length array_y) (PairHolds counts bitmap_y array_y) (λ q lt. pair_exact counts bitmap_y a array_y b q) in
+    let rows = item_checks_exact (pair_checks counts bitmap_y a array_y b) (length array_y)
+    (PairHolds counts bitmap_y array_y) (λ q lt. pair_exact counts bitmap_y a array_y b q) in
     record {
       found = λ u e. let each = rows.found u e in record {
         subjects = λ q lt. (each q lt).subject;
         predicates = grouped_found bitmap_y array_y counts.predicates same (λ q lt. (each q lt).predicate);
       };
-      only = λ u h. rows.only u (λ q lt. record { subject = h.subjects q lt; predicate = grouped_only bitmap_y array_y counts.predicates same h.predicates q lt });
+      only = λ u h. rows.only u
+          (λ q lt. record {
+            subject = h.subjects q lt;
+            predicate =
+                grouped_only bitmap_y array_y counts.predicates same h.predicates q lt;
+          });
     }
 
-objects_exact : (bitmap_z : List Bool) (array_z : List ℕ) (places : SequenceOffsets) (count : ℕ) → length bitmap_z ≡ length array_z → Exactly (all_object_checks bitmap_z array_z places count) (λ _. AreAscendingGroups bitmap_z array_z count)
-objects_exact bitmap_z array_z places count same =
-    let rows = item_checks_exact (entry_checks bitmap_z array_z places count ObjectRange ObjectsNotAscending) (length array_z) (EntryHolds bitmap_z array_z count)
-    (λ j lt. entry_exact bitmap_z array_z places count ObjectRange ObjectsNotAscending j) in
+objects_exact : (bitmap_z : List Bool) (array_z : List ℕ) (offsets : SequenceOffsets) (count : ℕ)
+    → length bitmap_z ≡ length array_z
+    → Exactly (all_object_checks bitmap_z array_z offsets count) (λ _. AreAscendingGroups bitmap_z array_z count)
+objects_exact bitmap_z array_z offsets count same =
+    let rows = item_checks_exact (entry_checks bitmap_z array_z offsets count ObjectRange ObjectsNotAscending)
+    (length array_z) (EntryHolds bitmap_z array_z count)
+    (λ j lt. entry_exact bitmap_z array_z offsets count ObjectRange ObjectsNotAscending j) in
     record {
       found = λ u e. grouped_found bitmap_z array_z count same (rows.found u e);
       only = λ u h. rows.only u (grouped_only bitmap_z array_z count same h);
@@ -144,17 +173,23 @@ objects_exact bitmap_z array_z places count same =
 
 -- ---- the four sequences together
 
-pub sequence_checks_exact : (counts : Counts) (bitmap_y bitmap_z : Sequence Bool) (array_y array_z : Sequence ℕ) → Exactly (sequence_checks counts bitmap_y bitmap_z array_y array_z) (λ _. AreValidSequences counts (bitmap_triples_of_sequences bitmap_y bitmap_z array_y array_z))
+pub sequence_checks_exact : (counts : Counts) (bitmap_y bitmap_z : Sequence Bool) (array_y array_z : Sequence ℕ)
+    → Exactly (sequence_checks counts bitmap_y bitmap_z array_y array_z)
+    (λ _. AreValidSequences counts (bitmap_triples_of_sequences bitmap_y bitmap_z array_y array_z))
 unfolding sequence_checks
 sequence_checks_exact counts bitmap_y bitmap_z array_y array_z = record {
   found = λ u e.
-      demand_ok (eqb (length bitmap_y.items) (length array_y.items)) array_y.places.count LengthsDiffer _ _ e (λ h2 e.
-      demand_ok (eqb (length bitmap_z.items) (length array_z.items)) array_z.places.count LengthsDiffer _ _ e (λ h3 e.
-      demand_ok (last_bit bitmap_y.items) (entry_offset bitmap_y.places (length bitmap_y.items - 1)) LastMark _ _ e (λ h4 e.
-      demand_ok (last_bit bitmap_z.items) (entry_offset bitmap_z.places (length bitmap_z.items - 1)) LastMark _ _ e (λ h5 e.
-      demand_ok (eqb (ones_before bitmap_z.items (length bitmap_z.items)) (length array_y.items)) bitmap_z.places.count MarkCount _ _ e (λ h6 e.
-      bind_ok (all_pair_checks counts bitmap_y.items bitmap_y.places array_y.items array_y.places) _ _ e (λ v e6 e.
-      let pairs = (pairs_exact counts bitmap_y.items bitmap_y.places array_y.items array_y.places (eqb-true _ _ h2)).found v e6 in
+      demand_ok (eqb (length bitmap_y.items) (length array_y.items)) array_y.offsets.count LengthsDiffer _ _ e (λ h2 e.
+      demand_ok (eqb (length bitmap_z.items) (length array_z.items)) array_z.offsets.count LengthsDiffer _ _ e (λ h3 e.
+      demand_ok (last_bit bitmap_y.items) (entry_offset bitmap_y.offsets (length bitmap_y.items - 1)) LastMark _ _ e
+      (λ h4 e.
+      demand_ok (last_bit bitmap_z.items) (entry_offset bitmap_z.offsets (length bitmap_z.items - 1)) LastMark _ _ e
+      (λ h5 e.
+      demand_ok (eqb (ones_before bitmap_z.items (length bitmap_z.items)) (length array_y.items)) bitmap_z.offsets.count
+      MarkCount _ _ e (λ h6 e.
+      bind_ok (all_pair_checks counts bitmap_y.items bitmap_y.offsets array_y.items array_y.offsets) _ _ e (λ v e6 e.
+      let pairs = (pairs_exact counts bitmap_y.items bitmap_y.offsets array_y.items array_y.offsets
+      (eqb-true _ _ h2)).found v e6 in
       record {
         marked = record {
           pairs = eqb-true _ _ h2;
@@ -165,7 +200,8 @@ sequence_checks_exact counts bitmap_y bitmap_z array_y array_z = record {
         };
         subjects = pairs.subjects;
         predicates = pairs.predicates;
-        objects = (objects_exact bitmap_z.items array_z.items array_z.places counts.objects (eqb-true _ _ h3)).found u e;
+        objects = (objects_exact bitmap_z.items array_z.items array_z.offsets counts.objects (eqb-true _ _ h3)).found u
+            e;
       }))))));
   only = λ u h.
       let m = h.marked in
@@ -173,31 +209,38 @@ sequence_checks_exact counts bitmap_y bitmap_z array_y array_z = record {
       let t3 : eqb (length bitmap_z.items) (length array_z.items) ≡ true = (Decides-eqb _ _).1 m.triples in
       let t4 = get_or_from_slice_get bitmap_y.items (length bitmap_y.items - 1) true false m.last_pair in
       let t5 = get_or_from_slice_get bitmap_z.items (length bitmap_z.items - 1) true false m.last_triple in
-      let t6 : eqb (ones_before bitmap_z.items (length bitmap_z.items)) (length array_y.items) ≡ true = (Decides-eqb _ _).1 m.each_pair in
-      let r6 = (pairs_exact counts bitmap_y.items bitmap_y.places array_y.items array_y.places m.pairs).only tt (record { subjects = h.subjects; predicates = h.predicates }) in
-      let r7 = (objects_exact bitmap_z.items array_z.items array_z.places counts.objects m.triples).only u h.objects in
+      let t6 : eqb (ones_before bitmap_z.items (length bitmap_z.items)) (length array_y.items) ≡ true =
+      (Decides-eqb _ _).1 m.each_pair in
+      let r6 = (pairs_exact counts bitmap_y.items bitmap_y.offsets array_y.items array_y.offsets m.pairs).only tt
+      (record { subjects = h.subjects; predicates = h.predicates }) in
+      let r7 = (objects_exact bitmap_z.items array_z.items array_z.offsets counts.objects m.triples).only u h.objects in
       rw (t2, t3, t4, t5, t6, r6, r7) refl;
 }
 
 -- What the four sequences satisfy if no check fails.
-pub sequence_checks_found : (counts : Counts) (bitmap_y bitmap_z : Sequence Bool) (array_y array_z : Sequence ℕ) (r : Result (Unit {0}) Fault) → r ≡ sequence_checks counts bitmap_y bitmap_z array_y array_z → OnOk r (AreValidSequences counts (bitmap_triples_of_sequences bitmap_y bitmap_z array_y array_z))
-sequence_checks_found counts bitmap_y bitmap_z array_y array_z (Ok u) e = (sequence_checks_exact counts bitmap_y bitmap_z array_y array_z).found u (sym e)
+pub sequence_checks_found : (counts : Counts) (bitmap_y bitmap_z : Sequence Bool) (array_y array_z : Sequence ℕ)
+    (r : Result (Unit {0}) Fault) → r ≡ sequence_checks counts bitmap_y bitmap_z array_y array_z
+    → OnOk r (AreValidSequences counts (bitmap_triples_of_sequences bitmap_y bitmap_z array_y array_z))
+sequence_checks_found counts bitmap_y bitmap_z array_y array_z (Ok u) e =
+    (sequence_checks_exact counts bitmap_y bitmap_z array_y array_z).found u (sym e)
 sequence_checks_found counts bitmap_y bitmap_z array_y array_z (Err f) e = tt
 
 -- ---- the triples
 
-pub triples_exact : (counts : Counts) (bytes : List ℕ) (at : ℕ) → IsBytes bytes → Exactly (decode_triple_parts counts bytes at) (λ t. IsTriples counts t bytes at)
+pub triples_exact : (counts : Counts) (bytes : List ℕ) (at : ℕ) → IsBytes bytes
+    → Exactly (decode_triple_parts counts bytes at) (λ t. IsTriplesAt counts t bytes at)
 unfolding decode_triple_parts
 triples_exact counts bytes at fits = record {
   found = λ t e.
       bind_ok (control_at kinds.Triples bytes at) _ _ e (λ block e1 e.
-      demand_ok (is_spo_order (property_value block.properties (codes "order"))) block.properties_at TripleOrder _ _ e (λ h1 e.
+      demand_ok (is_spo_order (property_value block.properties (codes "order"))) block.properties_at TripleOrder _ _ e
+      (λ h1 e.
       bind_ok (bits_at bytes block.end) _ _ e (λ bitmap_y e2 e.
       bind_ok (bits_at bytes bitmap_y.end) _ _ e (λ bitmap_z e3 e.
       bind_ok (numbers_at bytes bitmap_z.end) _ _ e (λ array_y e4 e.
       bind_ok (numbers_at bytes array_y.end) _ _ e (λ array_z e5 e.
       bind_ok (sequence_checks counts bitmap_y bitmap_z array_y array_z) _ _ e (λ u e6 e.
-      holds_of_ok (λ (t : TripleParts). IsTriples counts t bytes at) _ _ e (record {
+      holds_of_ok (λ (t : TripleParts). IsTriplesAt counts t bytes at) _ _ e (record {
         block = (control_exact kinds.Triples bytes at fits).found block e1;
         order = one_found _ h1;
         bitmap_y = (bits_exact bytes block.end fits).found bitmap_y e2;

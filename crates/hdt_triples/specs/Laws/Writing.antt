@@ -15,16 +15,17 @@ use Rattle.hdt_seq.specs.Laws.RankSelect.{ones_before_le}
 use Rattle.hdt_seq.specs.Width.{width_of}
 use Rattle.hdt_seq.specs.PackedBits.{EachFits}
 use Rattle.hdt_seq.specs.Laws.Sequence.{byte_is, encoded_if_has_slice}
-use Rattle.hdt_seq.specs.Numbers.{EncodesNumbers, numbers_encoding, numbers_offsets_at}
+use Rattle.hdt_seq.specs.Numbers.{EncodesNumbers, numbers_encoding, expected_numbers_offsets}
 use Rattle.hdt_seq.specs.Laws.NumbersReading.{numbers_encodes}
-use Rattle.hdt_seq.specs.Bits.{EncodesBits, bits_encoding, bits_offsets_at}
+use Rattle.hdt_seq.specs.Bits.{EncodesBits, bits_encoding, expected_bits_offsets}
 use Rattle.hdt_seq.specs.Laws.BitsReading.{bits_encodes}
 use Rattle.hdt_seq.specs.ExactSequences.{IsLogSequenceAt, IsBitmapAt}
-use Rattle.hdt_triples.specs.TripleSequences.{Triple, BitmapTriples, Counts, triple_at, triples_of, AreConsistentSequences, AreAscendingGroups, AreValidSequences}
+use Rattle.hdt_triples.specs.TripleSequences.{Triple, BitmapTriples, triple_at, triples_of, AreConsistentSequences, AreAscendingGroups, AreValidSequences}
+use Rattle.hdt_triples.specs.declared.pattern.Counts.{Counts}
 use Rattle.hdt_triples.specs.Order.{nth_triple, TripleLess, CountsFit64, AreAtMostCounts, AreWritable}
 use Rattle.hdt_triples.specs.Groups.{group_end_bits}
 use Rattle.hdt_triples.specs.Laws.Group.{length-group_end_bits, last_end_bit_is_set, group_at, group_within, groups, linked_groups, first_group, counted, all_groups, get_or-map_any}
-use Rattle.hdt_triples.specs.Triples.{IsTriples}
+use Rattle.hdt_triples.specs.Triples.{IsTriplesAt}
 use Rattle.hdt_triples.specs.Writing.{pair_eq, all_pairs, distinct_pairs, sequences_of, order_property, canonical_sequences, sequences_parts, canonical_triples, canonical_triples_parts}
 
 pub pair_exact : (x y : ℕ × ℕ) → pair_eq x y ≡ true → x ≡ y
@@ -35,7 +36,8 @@ pair_exact x y h =
     same : (a b c d : ℕ) → a ≡ b → c ≡ d → let l : ℕ × ℕ = (a, c) in let r : ℕ × ℕ = (b, d) in l ≡ r
     same a b c d p q = cc
 
-same_triple : (a b c d e f : ℕ) → a ≡ b → c ≡ d → e ≡ f → let l : Triple = (a, c, e) in let r : Triple = (b, d, f) in l ≡ r
+same_triple : (a b c d e f : ℕ) → a ≡ b → c ≡ d → e ≡ f → let l : Triple = (a, c, e) in let r : Triple = (b, d, f) in
+    l ≡ r
 same_triple a b c d e f p q r = cc
 
 -- ---- neighbouring pairs
@@ -60,10 +62,12 @@ both_true true true e f h = cc
 both_true true false e f h = cc
 both_true false y e f h = cc
 
-predicate_rises : (a b : Triple) → TripleLess a b → pair_eq (pair_of_triple b) (pair_of_triple a) ≡ false → a.0 ≡ b.0 → a.1 < b.1
+predicate_rises : (a b : Triple) → TripleLess a b → pair_eq (pair_of_triple b) (pair_of_triple a) ≡ false → a.0 ≡ b.0
+    → a.1 < b.1
 predicate_rises a b (inl lt) apart same = absurd (omega (arith, lt, same))
 predicate_rises a b (inr (first, inl lt)) apart same = lt
-predicate_rises a b (inr (first, inr one)) apart same = absurd (both_true (nat_eq b.0 a.0) (nat_eq b.1 a.1) (eq-eqb b.0 a.0 (sym first)) (eq-eqb b.1 a.1 (sym one.0)) apart)
+predicate_rises a b (inr (first, inr one)) apart same =
+    absurd (both_true (nat_eq b.0 a.0) (nat_eq b.1 a.1) (eq-eqb b.0 a.0 (sym first)) (eq-eqb b.1 a.1 (sym one.0)) apart)
 
 object_rises : (a b : Triple) → TripleLess a b → a.0 ≡ b.0 → a.1 ≡ b.1 → a.2 < b.2
 object_rises a b (inl lt) same alike = absurd (omega (arith, lt, same))
@@ -85,7 +89,8 @@ module _ (ts : List Triple) (can : AreWritable ts) where
 
   -- ---- the pairs
 
-  pairs_follow : (i : ℕ) (d : ℕ × ℕ) → i + 1 < length (all_pairs ts) → pair_eq (get_or (all_pairs ts) (i + 1) d) (get_or (all_pairs ts) i d) ≡ false
+  pairs_follow : (i : ℕ) (d : ℕ × ℕ) → i + 1 < length (all_pairs ts)
+      → pair_eq (get_or (all_pairs ts) (i + 1) d) (get_or (all_pairs ts) i d) ≡ false
       → Follows (get_or (all_pairs ts) i d) (get_or (all_pairs ts) (i + 1) d)
   pairs_follow i d lt =
       let size = size_is in
@@ -96,7 +101,8 @@ module _ (ts : List Triple) (can : AreWritable ts) where
         predicate = predicate_rises (nth_triple ts i) (nth_triple ts (i + 1)) less apart;
       })
 
-  groups_follow : (i : ℕ) (d : ℕ × ℕ) → i + 1 < length (distinct_pairs ts) → Follows (get_or (distinct_pairs ts) i d) (get_or (distinct_pairs ts) (i + 1) d)
+  groups_follow : (i : ℕ) (d : ℕ × ℕ) → i + 1 < length (distinct_pairs ts)
+      → Follows (get_or (distinct_pairs ts) i d) (get_or (distinct_pairs ts) (i + 1) d)
   groups_follow = linked_groups pair_eq pair_exact Follows (all_pairs ts) pairs_follow
 
   many_subjects : length subjects ≡ length (distinct_pairs ts)
@@ -105,7 +111,8 @@ module _ (ts : List Triple) (can : AreWritable ts) where
   many_predicates : length (map (λ (p : ℕ × ℕ). p.1) (distinct_pairs ts)) ≡ length (distinct_pairs ts)
   many_predicates = length-map (distinct_pairs ts) (λ (p : ℕ × ℕ). p.1)
 
-  subjects_rise : (i d : ℕ) → i + 1 < length subjects → (get_or subjects i d ≤ get_or subjects (i + 1) d) × (get_or subjects (i + 1) d ≤ get_or subjects i d + 1)
+  subjects_rise : (i d : ℕ) → i + 1 < length subjects → (get_or subjects i d ≤ get_or subjects (i + 1) d)
+      × (get_or subjects (i + 1) d ≤ get_or subjects i d + 1)
   subjects_rise i d h =
       let size = many_subjects in
       let here = get_or-map (λ (p : ℕ × ℕ). p.0) (distinct_pairs ts) i (0, 0) d (omega arith) in
@@ -121,9 +128,11 @@ module _ (ts : List Triple) (can : AreWritable ts) where
       ∙ can.first
 
   -- The subject of pair q, by counting 1-bits.
-  subject_is : (q : ℕ) → q < length (distinct_pairs ts) → ones_before f.bitmap_y q + 1 ≡ (get_or (distinct_pairs ts) q (0, 0)).0
+  subject_is : (q : ℕ) → q < length (distinct_pairs ts)
+      → ones_before f.bitmap_y q + 1 ≡ (get_or (distinct_pairs ts) q (0, 0)).0
   unfolding sequences_of
-  subject_is q lt = sym (counted subjects subjects_first subjects_rise q 0 (omega (arith, many_subjects, lt))) ∙ get_or-map_any (λ (p : ℕ × ℕ). p.0) (distinct_pairs ts) q (0, 0)
+  subject_is q lt = sym (counted subjects subjects_first subjects_rise q 0 (omega (arith, many_subjects, lt)))
+      ∙ get_or-map_any (λ (p : ℕ × ℕ). p.0) (distinct_pairs ts) q (0, 0)
 
   predicate_is : (q : ℕ) → get_or f.array_y q 0 ≡ (get_or (distinct_pairs ts) q (0, 0)).1
   unfolding sequences_of
@@ -139,9 +148,11 @@ module _ (ts : List Triple) (can : AreWritable ts) where
   unfolding sequences_of
   pair_there j lt = group_within pair_eq pair_exact (all_pairs ts) j (omega (arith, size_is, lt))
 
-  pair_at_index : (j : ℕ) → j < length ts → get_or (distinct_pairs ts) (ones_before f.bitmap_z j) (0, 0) ≡ pair_of_triple (nth_triple ts j)
+  pair_at_index : (j : ℕ) → j < length ts → get_or (distinct_pairs ts) (ones_before f.bitmap_z j) (0, 0)
+      ≡ pair_of_triple (nth_triple ts j)
   unfolding sequences_of
-  pair_at_index j lt = group_at pair_eq pair_exact (all_pairs ts) j (0, 0) (omega (arith, size_is, lt)) ∙ pair_is j (0, 0) lt
+  pair_at_index j lt = group_at pair_eq pair_exact (all_pairs ts) j (0, 0) (omega (arith, size_is, lt))
+      ∙ pair_is j (0, 0) lt
 
   counted_triple : (j : ℕ) → j < length ts → triple_at f j ≡ nth_triple ts j
   counted_triple j lt =
@@ -161,8 +172,10 @@ module _ (ts : List Triple) (can : AreWritable ts) where
   triples_are =
       let size = many_objects in
       same_lists (triples_of f) ts (length-map-range_with_len (triple_at f) 0 (length f.array_z) ∙ size) (λ k d below.
-      let within : k < length ts = omega (arith, size, length-map-range_with_len (triple_at f) 0 (length f.array_z), below) in
-      get_or-map-range_with_len (triple_at f) 0 (length f.array_z) k k d (omega (arith, size, within)) (omega arith) ∙ counted_triple k within ∙ get_or_default ts k (0, 0, 0) d within)
+      let within : k < length ts =
+      omega (arith, size, length-map-range_with_len (triple_at f) 0 (length f.array_z), below) in
+      get_or-map-range_with_len (triple_at f) 0 (length f.array_z) k k d (omega (arith, size, within)) (omega arith)
+      ∙ counted_triple k within ∙ get_or_default ts k (0, 0, 0) d within)
 
   -- ---- the sequences are consistent
 
@@ -187,13 +200,15 @@ module _ (ts : List Triple) (can : AreWritable ts) where
   pairs_few =
       let here = pair_there 0 can.some in
       let each = groups pair_eq pair_exact (all_pairs ts) in
-      let most = ones_before_le (group_end_bits pair_eq (all_pairs ts)) (length (group_end_bits pair_eq (all_pairs ts))) in
+      let most = ones_before_le (group_end_bits pair_eq (all_pairs ts))
+      (length (group_end_bits pair_eq (all_pairs ts))) in
       let size = length-group_end_bits pair_eq (all_pairs ts) ∙ size_is in
       (omega (arith, many_predicates, here), omega (arith, many_predicates, each, most, size))
 
   -- Neither bitmap is empty.
   pub some_marks : (0 < length f.bitmap_y) × (0 < length f.bitmap_z)
-  some_marks = let m = marked in let pairs = pairs_few in let size = many_objects in let some = can.some in (omega (arith, m.pairs, pairs.0), omega (arith, m.triples, size, some))
+  some_marks = let m = marked in let pairs = pairs_few in let size = many_objects in let some = can.some in
+      (omega (arith, m.pairs, pairs.0), omega (arith, m.triples, size, some))
 
   module _ (counts : Counts) (within : AreAtMostCounts counts ts) where
     abbrev HasRange : ℕ × ℕ → Type 0
@@ -216,7 +231,8 @@ module _ (ts : List Triple) (can : AreWritable ts) where
       ascend = λ q lt same.
           let here = many q (omega (arith, lt)) in
           let next = many (q + 1) lt in
-          let alike : (get_or (distinct_pairs ts) q (0, 0)).0 ≡ (get_or (distinct_pairs ts) (q + 1) (0, 0)).0 = omega (arith, same, subject_is q here, subject_is (q + 1) next) in
+          let alike : (get_or (distinct_pairs ts) q (0, 0)).0 ≡ (get_or (distinct_pairs ts) (q + 1) (0, 0)).0 =
+          omega (arith, same, subject_is q here, subject_is (q + 1) next) in
           omega (arith, predicate_is q, predicate_is (q + 1), (groups_follow q (0, 0) next).predicate alike);
     }
 
@@ -229,14 +245,22 @@ module _ (ts : List Triple) (can : AreWritable ts) where
           ascend = λ j lt same.
               let next : j + 1 < length ts = omega (arith, size, lt) in
               let one : pair_of_triple (nth_triple ts j) ≡ pair_of_triple (nth_triple ts (j + 1)) =
-              sym (pair_at_index j (omega (arith, next))) ∙ ap (λ (q : ℕ). get_or (distinct_pairs ts) q (0, 0)) same ∙ pair_at_index (j + 1) next in
-              omega (arith, object_is j, object_is (j + 1), object_rises (nth_triple ts j) (nth_triple ts (j + 1)) (can.ascend j next) (ap (λ (p : ℕ × ℕ). p.0) one) (ap (λ (p : ℕ × ℕ). p.1) one));
+              sym (pair_at_index j (omega (arith, next))) ∙ ap (λ (q : ℕ). get_or (distinct_pairs ts) q (0, 0)) same
+              ∙ pair_at_index (j + 1) next in
+              omega (
+                arith,
+                object_is j,
+                object_is (j + 1),
+                object_rises (nth_triple ts j) (nth_triple ts (j + 1)) (can.ascend j next)
+                    (ap (λ (p : ℕ × ℕ). p.0) one) (ap (λ (p : ℕ × ℕ). p.1) one),
+              );
         }
 
     pub sequences_valid : AreValidSequences counts f
     sequences_valid = record {
       marked = marked;
-      subjects = λ q lt. let r = (groups_range q (0, 0) (many q lt)).0 in let e = subject_is q (many q lt) in omega (arith, r, e);
+      subjects = λ q lt. let r = (groups_range q (0, 0) (many q lt)).0 in let e = subject_is q (many q lt) in
+          omega (arith, r, e);
       predicates = pairs_grouped;
       objects = objects_grouped;
     }
@@ -244,7 +268,8 @@ module _ (ts : List Triple) (can : AreWritable ts) where
     most_numbers : counts.predicates < 2 ^ 64 → EachFits 64 f.array_y
     most_numbers low = λ q. elim (cases_lt q (length (distinct_pairs ts))) [
       | inl lt ↦ let r = (groups_range q (0, 0) lt).2 in let e = predicate_is q in omega (arith, r, e, low)
-      | inr le ↦ let e = predicate_is q ∙ ap (λ (p : ℕ × ℕ). p.1) (get_or_past (distinct_pairs ts) q (0, 0) le) in omega (arith, e)
+      | inr le ↦ let e = predicate_is q ∙ ap (λ (p : ℕ × ℕ). p.1) (get_or_past (distinct_pairs ts) q (0, 0) le) in
+          omega (arith, e)
     ]
 
     most_objects : counts.objects < 2 ^ 64 → EachFits 64 f.array_z
@@ -257,28 +282,39 @@ module _ (ts : List Triple) (can : AreWritable ts) where
 
 -- The property text has no zero byte.
 pub ordered_no_zero : HasNoZero order_property
-ordered_no_zero = λ k d lt. eqb-false _ _ (not-true _ (AllPass-from_list_all (λ b. not (eqb b 0)) order_property refl k d lt))
+ordered_no_zero = λ k d lt. eqb-false _ _
+    (not-true _ (AllPass-from_list_all (λ b. not (eqb b 0)) order_property refl k d lt))
 
 ordered_is : property_value order_property (codes "order") ≡ Some (codes "1")
 unfolding property_value
 ordered_is = refl
 
-width_stands : (bytes : List ℕ) (at end : ℕ) (xs : List ℕ) → HasSlice bytes at (numbers_encoding xs) end → get_or bytes (at + 1) 0 ≡ width_of xs
+width_stands : (bytes : List ℕ) (at end : ℕ) (xs : List ℕ) → HasSlice bytes at (numbers_encoding xs) end
+    → get_or bytes (at + 1) 0 ≡ width_of xs
 unfolding numbers_encoding
-width_stands bytes at end xs h = byte_is bytes (at + 1) (width_of xs) (at + 1 + 1) (HasSlice-front bytes (at + 1) (width_of xs ∷ []) _ end (HasSlice-back bytes at (1 ∷ []) _ end h))
+width_stands bytes at end xs h =
+    byte_is bytes (at + 1) (width_of xs) (at + 1 + 1)
+    (HasSlice-front bytes (at + 1) (width_of xs ∷ []) _ end (HasSlice-back bytes at (1 ∷ []) _ end h))
 
-numbers_stand : (bytes : List ℕ) (at end : ℕ) (xs : List ℕ) → length xs < 2 ^ 64 → EachFits 64 xs → HasSlice bytes at (numbers_encoding xs) end
-    → IsLogSequenceAt (record { items = xs; places = numbers_offsets_at at (width_of xs) (length xs); end = end }) bytes at
+numbers_stand : (bytes : List ℕ) (at end : ℕ) (xs : List ℕ) → length xs < 2 ^ 64 → EachFits 64 xs
+    → HasSlice bytes at (numbers_encoding xs) end
+    → IsLogSequenceAt (record {
+      items = xs;
+      offsets = expected_numbers_offsets at (width_of xs) (length xs);
+      end =
+          end;
+    }) bytes at
 numbers_stand bytes at end xs few fits h = record {
   spelled = encoded_if_has_slice EncodesNumbers bytes at (numbers_encoding xs) xs end h (numbers_encodes xs few fits);
-  places = ap (λ (w : ℕ). numbers_offsets_at at w (length xs)) (sym (width_stands bytes at end xs h));
+  offsets = ap (λ (w : ℕ). expected_numbers_offsets at w (length xs)) (sym (width_stands bytes at end xs h));
 }
 
-bits_stand : (bytes : List ℕ) (at end : ℕ) (xs : List Bool) → 0 < length xs → length xs < 2 ^ 64 → HasSlice bytes at (bits_encoding xs) end
-    → IsBitmapAt (record { items = xs; places = bits_offsets_at at (length xs); end = end }) bytes at
+bits_stand : (bytes : List ℕ) (at end : ℕ) (xs : List Bool) → 0 < length xs → length xs < 2 ^ 64
+    → HasSlice bytes at (bits_encoding xs) end
+    → IsBitmapAt (record { items = xs; offsets = expected_bits_offsets at (length xs); end = end }) bytes at
 bits_stand bytes at end xs some few h = record {
   spelled = encoded_if_has_slice EncodesBits bytes at (bits_encoding xs) xs end h (bits_encodes xs some few);
-  places = refl;
+  offsets = refl;
 }
 
 -- Four valid sequences whose lengths and entries are below 2^64.
@@ -291,7 +327,8 @@ record CanStand (counts : Counts) (f : BitmapTriples) : Type 0 where
   predicates_fit : EachFits 64 f.array_y
   objects_fit : EachFits 64 f.array_z
 
-sequences_stand : (counts : Counts) (f : BitmapTriples) (bytes : List ℕ) (at end : ℕ) → CanStand counts f → HasSlice bytes at (canonical_sequences f) end → IsTriples counts (sequences_parts f at) bytes at
+sequences_stand : (counts : Counts) (f : BitmapTriples) (bytes : List ℕ) (at end : ℕ) → CanStand counts f
+    → HasSlice bytes at (canonical_sequences f) end → IsTriplesAt counts (sequences_parts f at) bytes at
 unfolding canonical_sequences sequences_parts
 sequences_stand counts f bytes at end can h =
     let block : List ℕ = control kinds.Triples order_property in
@@ -308,20 +345,25 @@ sequences_stand counts f bytes at end can h =
     let t2 = HasSlice-back bytes a bitmap_y (bitmap_z ++ (array_y ++ array_z)) end t1 in
     let t3 = HasSlice-back bytes b bitmap_z (array_y ++ array_z) end t2 in
     let t4 = HasSlice-back bytes c array_y array_z end t3 in
-    let last : HasSlice bytes d array_z (d + length array_z) = subst (λ (e : ℕ). HasSlice bytes d array_z e) t4.end_is t4 in
+    let last : HasSlice bytes d array_z (d + length array_z) =
+    subst (λ (e : ℕ). HasSlice bytes d array_z e) t4.end_is t4 in
     let m = can.valid.marked in
     record {
       block = record { spelled = front; no_zero = ordered_no_zero; format = refl; properties_at = refl };
       order = ordered_is;
-      bitmap_y = bits_stand bytes a b f.bitmap_y can.some_pairs (omega (arith, m.pairs, can.few_pairs)) (HasSlice-front bytes a bitmap_y (bitmap_z ++ (array_y ++ array_z)) end t1);
-      bitmap_z = bits_stand bytes b c f.bitmap_z can.some_triples (omega (arith, m.triples, can.few_triples)) (HasSlice-front bytes b bitmap_z (array_y ++ array_z) end t2);
-      array_y = numbers_stand bytes c d f.array_y can.few_pairs can.predicates_fit (HasSlice-front bytes c array_y array_z end t3);
+      bitmap_y = bits_stand bytes a b f.bitmap_y can.some_pairs (omega (arith, m.pairs, can.few_pairs))
+          (HasSlice-front bytes a bitmap_y (bitmap_z ++ (array_y ++ array_z)) end t1);
+      bitmap_z = bits_stand bytes b c f.bitmap_z can.some_triples (omega (arith, m.triples, can.few_triples))
+          (HasSlice-front bytes b bitmap_z (array_y ++ array_z) end t2);
+      array_y = numbers_stand bytes c d f.array_y can.few_pairs can.predicates_fit
+          (HasSlice-front bytes c array_y array_z end t3);
       array_z = numbers_stand bytes d (d + length array_z) f.array_z can.few_triples can.objects_fit last;
       valid = can.valid;
     }
 
-pub triples_stand : (ts : List Triple) (counts : Counts) (bytes : List ℕ) (at end : ℕ) → AreWritable ts → AreAtMostCounts counts ts → CountsFit64 counts → length ts < 2 ^ 64
-    → HasSlice bytes at (canonical_triples ts) end → IsTriples counts (canonical_triples_parts ts at) bytes at
+pub triples_stand : (ts : List Triple) (counts : Counts) (bytes : List ℕ) (at end : ℕ) → AreWritable ts
+    → AreAtMostCounts counts ts → CountsFit64 counts → length ts < 2 ^ 64
+    → HasSlice bytes at (canonical_triples ts) end → IsTriplesAt counts (canonical_triples_parts ts at) bytes at
 triples_stand ts counts bytes at end can within low few h =
     let valid = sequences_valid ts can counts within in
     let pairs = pairs_few ts can in

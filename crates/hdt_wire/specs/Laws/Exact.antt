@@ -25,10 +25,12 @@ holds_of_ok Is x y e h = subst Is (ok_is x y e) h
 
 -- ---- one value or one error
 
-pub one_value : {A : Type 0} (checks : Result A Fault) (Is : A → Type 0) (x y : A) → Exactly checks Is → Is x → Is y → x ≡ y
+pub one_value : {A : Type 0} (checks : Result A Fault) (Is : A → Type 0) (x y : A) → Exactly checks Is → Is x → Is y
+    → x ≡ y
 one_value checks Is x y h p q = ok_is x y (sym (h.only x p) ∙ h.only y q)
 
-value_or_fault_of : {A : Type 0} (checks : Result A Fault) (Is : A → Type 0) (r : Result A Fault) → checks ≡ r → Exactly checks Is → UniqueValue checks Is ⊎ UniqueFault checks Is
+value_or_fault_of : {A : Type 0} (checks : Result A Fault) (Is : A → Type 0) (r : Result A Fault) → checks ≡ r
+    → Exactly checks Is → UniqueValue checks Is ⊎ UniqueFault checks Is
 value_or_fault_of checks Is (Ok x) e h = inl (record {
   value = x;
   is = h.found x e;
@@ -42,19 +44,23 @@ value_or_fault_of checks Is (Err f) e h = inr (record {
   no_value = λ x p. let k = h.only x p in absurd (cc);
 })
 
-pub value_or_fault : {A : Type 0} (checks : Result A Fault) (Is : A → Type 0) → Exactly checks Is → UniqueValue checks Is ⊎ UniqueFault checks Is
+pub value_or_fault : {A : Type 0} (checks : Result A Fault) (Is : A → Type 0) → Exactly checks Is
+    → UniqueValue checks Is ⊎ UniqueFault checks Is
 value_or_fault checks Is h = value_or_fault_of checks Is checks refl h
 
 -- exact checks stay exact if their value is mapped
-pub viewed_exact : {A B : Type 0} (view : A → B) (checks : Result A Fault) (Is : A → Type 0) → Exactly checks Is → Exactly (viewed view checks) (IsViewOf view Is)
+pub viewed_exact : {A B : Type 0} (view : A → B) (checks : Result A Fault) (Is : A → Type 0) → Exactly checks Is
+    → Exactly (viewed view checks) (IsViewOf view Is)
 viewed_exact view checks Is h = record {
-  found = λ y e. bind_ok checks _ _ e (λ x e1 e. record { value = x; is = h.found x e1; viewed_as = ok_is (view x) y e });
+  found = λ y e. bind_ok checks _ _ e
+      (λ x e1 e. record { value = x; is = h.found x e1; viewed_as = ok_is (view x) y e });
   only = λ y s. ap (λ r. viewed view r) (h.only s.value s.is) ∙ ap (λ z. done z) s.viewed_as;
 }
 
 -- ---- single checks, and checks of items
 
-pub holds_if_ok : (holds : Bool) (place : ℕ) (reason : Reason) (u : Unit {0}) → demand holds place reason ≡ Ok u → holds ≡ true
+pub holds_if_ok : (holds : Bool) (place : ℕ) (reason : Reason) (u : Unit {0}) → demand holds place reason ≡ Ok u
+    → holds ≡ true
 holds_if_ok true place reason u e = refl
 holds_if_ok false place reason u e = absurd (cc)
 
@@ -62,18 +68,21 @@ pub ok_if_holds : (holds : Bool) (place : ℕ) (reason : Reason) → holds ≡ t
 ok_if_holds true place reason e = refl
 ok_if_holds false place reason e = absurd (cc)
 
-first_or : (check_of : ℕ → Result (Unit {0}) Fault) (i q : ℕ) → check_of i ≡ Ok tt → (i + 1 ≤ q → check_of q ≡ Ok tt) → (i ≡ q) ⊎ (i < q) → check_of q ≡ Ok tt
+first_or : (check_of : ℕ → Result (Unit {0}) Fault) (i q : ℕ) → check_of i ≡ Ok tt → (i + 1 ≤ q → check_of q ≡ Ok tt)
+    → (i ≡ q) ⊎ (i < q) → check_of q ≡ Ok tt
 first_or check_of i q here later (inl e) = subst (λ (k : ℕ). check_of k ≡ Ok tt) e here
 first_or check_of i q here later (inr l) = later (omega (arith, l))
 
-pub each_check : (check_of : ℕ → Result (Unit {0}) Fault) (n i : ℕ) → checks_from check_of i n ≡ Ok tt → (q : ℕ) → i ≤ q → q < i + n → check_of q ≡ Ok tt
+pub each_check : (check_of : ℕ → Result (Unit {0}) Fault) (n i : ℕ) → checks_from check_of i n ≡ Ok tt → (q : ℕ) → i ≤ q
+    → q < i + n → check_of q ≡ Ok tt
 unfolding checks_from
 each_check check_of zero i h q l w = absurd (omega (arith, l, w))
 each_check check_of (suc n) i h q l w =
     bind_ok (check_of i) (λ _. checks_from check_of (i + 1) n) tt h (λ u here more.
     first_or check_of i q here (λ m. each_check check_of n (i + 1) more q m (omega (arith, w))) (eq-or-lt_of_le l))
 
-pub all_checks : (check_of : ℕ → Result (Unit {0}) Fault) (n i : ℕ) → ((q : ℕ) → i ≤ q → q < i + n → check_of q ≡ Ok tt) → checks_from check_of i n ≡ Ok tt
+pub all_checks : (check_of : ℕ → Result (Unit {0}) Fault) (n i : ℕ) → ((q : ℕ) → i ≤ q → q < i + n → check_of q ≡ Ok tt)
+    → checks_from check_of i n ≡ Ok tt
 unfolding checks_from
 all_checks check_of zero i each = refl
 all_checks check_of (suc n) i each =
@@ -81,8 +90,11 @@ all_checks check_of (suc n) i each =
     ∙ all_checks check_of n (i + 1) (λ q l w. each q (omega (arith, l)) (omega (arith, w)))
 
 -- the checks of all items are exact if that of each item is
-pub item_checks_exact : (check_of : ℕ → Result (Unit {0}) Fault) (n : ℕ) (Is : ℕ → Type 0) → ((i : ℕ) → i < n → Exactly (check_of i) (λ _. Is i)) → Exactly (checks_from check_of 0 n) (λ _. (i : ℕ) → i < n → Is i)
+pub item_checks_exact : (check_of : ℕ → Result (Unit {0}) Fault) (n : ℕ) (Is : ℕ → Type 0)
+    → ((i : ℕ) → i < n → Exactly (check_of i) (λ _. Is i))
+    → Exactly (checks_from check_of 0 n) (λ _. (i : ℕ) → i < n → Is i)
 item_checks_exact check_of n Is each = record {
   found = λ u e i lt. (each i lt).found tt (each_check check_of n 0 e i (omega arith) (omega (arith, lt)));
-  only = λ u all. all_checks check_of n 0 (λ i l lt. let small : i < n = omega (arith, lt) in (each i small).only tt (all i small));
+  only = λ u all. all_checks check_of n 0 (λ i l lt. let small : i < n = omega (arith, lt) in
+      (each i small).only tt (all i small));
 }

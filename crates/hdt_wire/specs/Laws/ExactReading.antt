@@ -18,14 +18,17 @@ module _ {X Y : Type 0} (view : X → Y) (checks : Result Y Fault) (Is : Y → T
 
   module _ {E : Type 0} (fault_of : E → Option Fault) where
     -- the same for a reader that may run out of memory
-    pub reads_unless_oom_found : (r : Result X E) → Exactly checks Is → ReadsUnlessOom fault_of view r checks → IfOk r (λ x. Is (view x))
+    pub reads_unless_oom_found : (r : Result X E) → Exactly checks Is → ReadsUnlessOom fault_of view r checks
+        → IfOk r (λ x. Is (view x))
     reads_unless_oom_found (Ok x) h e = h.found (view x) e
     reads_unless_oom_found (Err f) h e = tt
 
-    err_by : (o : Option Fault) (y : Y) → checks ≡ Ok y → IfSome o (λ f. checks ≡ Err f) → IfSome o (λ f. (let r : Result Y Fault = Ok y in r) ≡ Err f)
+    err_by : (o : Option Fault) (y : Y) → checks ≡ Ok y → IfSome o (λ f. checks ≡ Err f)
+        → IfSome o (λ f. (let r : Result Y Fault = Ok y in r) ≡ Err f)
     err_by None y ok e = tt
     err_by (Some f) y ok e = sym ok ∙ e
 
-    pub reads_unless_oom_only : (r : Result X E) → Exactly checks Is → ReadsUnlessOom fault_of view r checks → (y : Y) → Is y → ReadsUnlessOom fault_of view r (Ok y)
+    pub reads_unless_oom_only : (r : Result X E) → Exactly checks Is → ReadsUnlessOom fault_of view r checks → (y : Y)
+        → Is y → ReadsUnlessOom fault_of view r (Ok y)
     reads_unless_oom_only (Ok x) h e y is = sym (h.only y is) ∙ e
     reads_unless_oom_only (Err f) h e y is = err_by (fault_of f) y (h.only y is) e

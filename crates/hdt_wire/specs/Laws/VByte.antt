@@ -38,7 +38,8 @@ spelled_by zero v lt = (omega (arith, lt), refl)
 spelled_by (suc k) v lt =
     elim (cases_lt v 128) [
       | inl low ↦ rw (digits_last (suc k) v low) (low, refl)
-      | inr high ↦ rw (digits_more k v high) (spelled_more (vbyte_up_to k (v / 128)) v high (spelled_by k (v / 128) (below_high k v lt)))
+      | inr high ↦ rw (digits_more k v high)
+          (spelled_more (vbyte_up_to k (v / 128)) v high (spelled_by k (v / 128) (below_high k v lt)))
     ]
 
 -- the encoding of a number encodes it
@@ -55,7 +56,8 @@ only_by (b ∷ c ∷ bs) (suc k) v lt h =
     let top : h.1 ≡ v / 128 = omega (arith, h.0, h.3) in
     let low : b ≡ v % 128 = omega (arith, h.0, h.3) in
     let rest : VByte (c ∷ bs) (v / 128) = rw top at h.4 in
-    rw (digits_more k v high) (ap (λ (n : ℕ). n ∷ c ∷ bs) low ∙ ap (λ (t : List ℕ). v % 128 ∷ t) (only_by (c ∷ bs) k (v / 128) (below_high k v lt) rest))
+    rw (digits_more k v high) (ap (λ (n : ℕ). n ∷ c ∷ bs) low
+    ∙ ap (λ (t : List ℕ). v % 128 ∷ t) (only_by (c ∷ bs) k (v / 128) (below_high k v lt) rest))
 
 -- nothing else encodes it
 pub vbyte_unique : (text : List ℕ) (v : ℕ) → v < 2 ^ 64 → VByte text v → text ≡ vbyte v
@@ -65,7 +67,8 @@ vbyte_unique text v lt h = only_by text 9 v (omega (arith, lt)) h
 -- ---- reading
 
 -- the index of the first byte with its top bit set
-pub first_last : (seen : List ℕ) (i : ℕ) → i < length seen → ((k : ℕ) → k < i → get_or seen k 0 < 128) → 128 ≤ get_or seen i 0
+pub first_last : (seen : List ℕ) (i : ℕ) → i < length seen → ((k : ℕ) → k < i → get_or seen k 0 < 128)
+    → 128 ≤ get_or seen i 0
     → position_or_len (λ b. leb 128 b) seen ≡ i
 first_last seen i lt low high =
     let p : ℕ → Bool = λ b. not (leb 128 b) in
@@ -80,7 +83,8 @@ first_last seen i lt low high =
     ]
 
 -- if the last byte isn't 128, the bytes encode a number that isn't 0
-pub spelled_high : (seen : List ℕ) (i : ℕ) → i < length seen → IsBytes seen → ((k : ℕ) → k < i → get_or seen k 0 < 128) → 128 < get_or seen i 0
+pub spelled_high : (seen : List ℕ) (i : ℕ) → i < length seen → IsBytes seen → ((k : ℕ) → k < i → get_or seen k 0 < 128)
+    → 128 < get_or seen i 0
     → VByte (take (suc i) seen) (base128_value (take (suc i) seen)) × (0 < base128_value (take (suc i) seen))
 spelled_high [] i lt fits low high = absurd (omega arith)
 spelled_high (b ∷ bs) zero lt fits low high = let f = fits 0 in ((omega arith, omega arith), omega arith)
@@ -91,7 +95,8 @@ spelled_high (b ∷ c ∷ bs) (suc i) lt fits low high =
     let n : ℕ = base128_value (take (suc i) (c ∷ bs)) in
     ((small, n, ih.1, omega arith, ih.0), omega (arith, ih.1))
 
-spelled : (seen : List ℕ) (i : ℕ) → i < length seen → IsBytes seen → ((k : ℕ) → k < i → get_or seen k 0 < 128) → 128 ≤ get_or seen i 0 → (i ≡ 0) ⊎ (get_or seen i 0 ≡ 128 → ⊥)
+spelled : (seen : List ℕ) (i : ℕ) → i < length seen → IsBytes seen → ((k : ℕ) → k < i → get_or seen k 0 < 128)
+    → 128 ≤ get_or seen i 0 → (i ≡ 0) ⊎ (get_or seen i 0 ≡ 128 → ⊥)
     → VByte (take (suc i) seen) (base128_value (take (suc i) seen))
 spelled seen i lt fits low high (inr ne) = (spelled_high seen i lt fits low (omega arith)).0
 spelled [] i lt fits low high (inl e) = absurd (omega arith)
@@ -112,7 +117,8 @@ ok_is : (x y : ℕ × ℕ) → done x ≡ done y → x ≡ y
 ok_is x y e = cc
 
 -- what is returned is encoded there
-pub vbyte_found : (bytes : List ℕ) (at : ℕ) (x : ℕ × ℕ) → IsBytes bytes → vbyte_at bytes at ≡ Ok x → EncodedAt VByte bytes at x.0 x.1
+pub vbyte_found : (bytes : List ℕ) (at : ℕ) (x : ℕ × ℕ) → IsBytes bytes → vbyte_at bytes at ≡ Ok x
+    → EncodedAt VByte bytes at x.0 x.1
 unfolding vbyte_at
 vbyte_found bytes at x fits e =
     let seen : List ℕ = window bytes at in
@@ -125,14 +131,19 @@ vbyte_found bytes at x fits e =
     let p : ℕ → Bool = λ n. not (leb 128 n) in
     let low = λ (k : ℕ) (h : k < last). leb-false 128 _ (not-true _ (prefix_len_passes p seen k 0 h)) in
     let high = leb-true 128 _ (not-false _ (prefix_len_stops p seen 0 lt)) in
-    let s = spelled seen last lt (IsBytes-take 10 (drop at bytes) (IsBytes-drop at bytes fits)) low high (overlong last (get_or seen last 0) shortest) in
+    let s = spelled seen last lt (IsBytes-take 10 (drop at bytes) (IsBytes-drop at bytes fits)) low high
+    (overlong last (get_or seen last 0) shortest) in
     let short : last + 1 ≤ 10 = omega (arith, lt, length-take 10 (drop at bytes)) in
-    let within : at + last + 1 ≤ length bytes = omega (arith, lt, length-take 10 (drop at bytes), length-drop at bytes) in
+    let within : at + last + 1 ≤ length bytes =
+    omega (arith, lt, length-take 10 (drop at bytes), length-drop at bytes) in
     let next : suc last ≡ last + 1 = omega arith in
     let size : last + 1 ≡ at + last + 1 - at = omega arith in
-    let s' : VByte (take (last + 1) seen) value = subst (λ (n : ℕ). VByte (take n seen) (base128_value (take n seen))) next s in
-    let same : take (last + 1) seen ≡ slice_range bytes at (at + last + 1) = take-take (last + 1) 10 (drop at bytes) short ∙ ap (λ (n : ℕ). take n (drop at bytes)) size in
-    let made : EncodedAt VByte bytes at value (at + last + 1) = record { in_order = omega arith; within = within; spelled = subst (λ (t : List ℕ). VByte t value) same s' } in
+    let s' : VByte (take (last + 1) seen) value =
+    subst (λ (n : ℕ). VByte (take n seen) (base128_value (take n seen))) next s in
+    let same : take (last + 1) seen ≡ slice_range bytes at (at + last + 1) =
+    take-take (last + 1) 10 (drop at bytes) short ∙ ap (λ (n : ℕ). take n (drop at bytes)) size in
+    let made : EncodedAt VByte bytes at value (at + last + 1) =
+    record { in_order = omega arith; within = within; spelled = subst (λ (t : List ℕ). VByte t value) same s' } in
     subst (λ (y : ℕ × ℕ). EncodedAt VByte bytes at y.0 y.1) (ok_is _ _ e) made)))
 
 -- a number that was read is below 2 ^ 64, has one to ten bytes, and ends within the input
@@ -171,7 +182,8 @@ record Ends (text : List ℕ) (v : ℕ) : Type 0 where
   pub zero_alone : v ≡ 0 → i ≡ 0
   pub large : 0 < v → 128 ^ i ≤ v
 
-low_cons : (b : ℕ) (bs : List ℕ) (i : ℕ) → b < 128 → ((k : ℕ) → k < i → get_or bs k 0 < 128) → (k : ℕ) → k < suc i → get_or (b ∷ bs) k 0 < 128
+low_cons : (b : ℕ) (bs : List ℕ) (i : ℕ) → b < 128 → ((k : ℕ) → k < i → get_or bs k 0 < 128) → (k : ℕ) → k < suc i
+    → get_or (b ∷ bs) k 0 < 128
 low_cons b bs i small low zero lt = small
 low_cons b bs i small low (suc k) lt = low k (omega arith)
 
@@ -214,28 +226,37 @@ canonical : (i byte v : ℕ) → (0 < v → byte ≡ 128 → ⊥) → (v ≡ 0 �
 canonical i byte v shortest zero_alone = grind (arith, common_steps)
 
 -- what is encoded there is returned
-pub vbyte_only : (bytes : List ℕ) (at v end : ℕ) → v < 2 ^ 64 → EncodedAt VByte bytes at v end → vbyte_at bytes at ≡ Ok (v, end)
+pub vbyte_only : (bytes : List ℕ) (at v end : ℕ) → v < 2 ^ 64 → EncodedAt VByte bytes at v end
+    → vbyte_at bytes at ≡ Ok (v, end)
 unfolding vbyte_at
 vbyte_only bytes at v end lt h =
     let text : List ℕ = slice_range bytes at end in
     let rest : List ℕ = drop at bytes in
     let t = ends text v h.spelled in
     let small : t.i < 10 = short_enough t.i v t.large t.zero_alone lt in
-    let size : end - at ≡ t.i + 1 = omega (arith, t.len, length-take (end - at) rest, length-drop at bytes, h.within, h.in_order) in
-    let same : take (t.i + 1) (take 10 rest) ≡ text = take-take (t.i + 1) 10 rest (omega arith) ∙ ap (λ (n : ℕ). take n rest) (sym size) in
-    let inside : t.i < length (take 10 rest) = omega (arith, length-take 10 rest, length-drop at bytes, h.within, h.in_order) in
-    let reads = λ (k : ℕ) (le : k < t.i + 1). ap (λ (xs : List ℕ). get_or xs k 0) (sym same) ∙ get_or-take (t.i + 1) (take 10 rest) k 0 le in
+    let size : end - at ≡ t.i + 1 =
+    omega (arith, t.len, length-take (end - at) rest, length-drop at bytes, h.within, h.in_order) in
+    let same : take (t.i + 1) (take 10 rest) ≡ text = take-take (t.i + 1) 10 rest (omega arith)
+    ∙ ap (λ (n : ℕ). take n rest) (sym size) in
+    let inside : t.i < length (take 10 rest) =
+    omega (arith, length-take 10 rest, length-drop at bytes, h.within, h.in_order) in
+    let reads = λ (k : ℕ) (le : k < t.i + 1). ap (λ (xs : List ℕ). get_or xs k 0) (sym same)
+    ∙ get_or-take (t.i + 1) (take 10 rest) k 0 le in
     let last_reads : get_or text t.i 0 ≡ get_or (take 10 rest) t.i 0 = reads t.i (omega arith) in
-    let last_is : last_digit_index (window bytes at) ≡ t.i = first_last (take 10 rest) t.i inside (λ k le. rw (← reads k (omega arith)) (t.low k le)) (rw (← last_reads) t.high) in
+    let last_is : last_digit_index (window bytes at) ≡ t.i =
+    first_last (take 10 rest) t.i inside (λ k le. rw (← reads k (omega arith)) (t.low k le))
+    (rw (← last_reads) t.high) in
     let number : base128_value (take (t.i + 1) (take 10 rest)) ≡ v = rw same t.number in
     let first : ltb t.i (length (take 10 rest)) ≡ true = lt-ltb _ _ inside in
     let second : ltb v (2 ^ 64) ≡ true = lt-ltb _ _ lt in
-    let third : (eqb t.i 0 || not (eqb (get_or (take 10 rest) t.i 0) 128)) ≡ true = rw (← last_reads) (canonical t.i (get_or text t.i 0) v t.shortest t.zero_alone) in
+    let third : (eqb t.i 0 || not (eqb (get_or (take 10 rest) t.i 0) 128)) ≡ true =
+    rw (← last_reads) (canonical t.i (get_or text t.i 0) v t.shortest t.zero_alone) in
     let place : at + t.i + 1 ≡ end = omega (arith, size, h.in_order) in
     rw (last_is, number, first, second, third, place) refl
 
 -- what was written is read back, whatever precedes and follows it
-pub vbyte_again : (before after : List ℕ) (v : ℕ) → v < 2 ^ 64 → vbyte_at (before ++ vbyte v ++ after) (length before) ≡ Ok (v, length before + length (vbyte v))
+pub vbyte_again : (before after : List ℕ) (v : ℕ) → v < 2 ^ 64 → vbyte_at (before ++ vbyte v ++ after) (length before)
+    ≡ Ok (v, length before + length (vbyte v))
 vbyte_again before after v lt =
     let s = HasSlice-after before (vbyte v) after in
     vbyte_only (before ++ vbyte v ++ after) (length before) v (length before + length (vbyte v)) lt (record {

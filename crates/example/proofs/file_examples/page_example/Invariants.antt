@@ -1,5 +1,5 @@
 use Rattle.std.proofs.Common.{ℕ, ◌+◌, ◌-◌, Option, Some, None, length}
-use Rattle.hdt_file.specs.GraphView.{graph_view}
+use Rattle.hdt_file.specs.Graph.{graph_view}
 use Rattle.example.proofs.file_examples.page_example.Given as goal
 
 -- how many triples there are from the start of the next page on, and 1

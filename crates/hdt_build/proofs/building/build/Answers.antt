@@ -21,8 +21,8 @@ returns-in-Ok-clause-end g c = c.in_ok-bytes.ensures.end
 pub returns-in-Ok-clause-well : goal.returns-in-Ok-clause-well
 returns-in-Ok-clause-well g c = c.in-Ok.ensures.well
 
-pub returns-clause-told : goal.returns-clause-told
-returns-clause-told g c = λ _ other. absurd (other c.in-Err.count refl)
+pub returns-clause-fault : goal.returns-clause-fault
+returns-clause-fault g c = λ _ other. absurd (other c.in-Err.count refl)
 
 pub returns-clause-still : goal.returns-clause-still
 returns-clause-still g c = λ _. c.in_ok-bytes.ensures.count
@@ -48,18 +48,18 @@ returns-clause-unwritten g c = λ other. absurd (other c.in-Err.count refl)
 pub returns-in_err-bytes : goal.returns-in_err-bytes
 returns-in_err-bytes g c =
     let p = err_from_is_err_and c.from_residual.result c.from_residual.ensures.1 in
-    let fault = c.in_err-bytes.ensures in
+    let error = c.in_err-bytes.ensures in
     rw (p.1, p.2) (record {
       written = tt;
       right = tt;
       end = tt;
-      bad = (λ is. fault.bad.0 (cc), λ bad. let is = fault.bad.1 bad in cc);
-      unread = λ is. fault.unread (cc);
-      told = λ other _. fault.told other;
-      read = fault.read;
-      still = fault.still;
+      bad = (λ is. error.bad.0 (cc), λ bad. let is = error.bad.1 bad in cc);
+      unread = λ is. error.unread (cc);
+      fault = λ other _. error.fault other;
+      read = error.read;
+      still = error.still;
       count = tt;
-      write = λ n is. absurd (rw is at (fault.told (λ bad. cc)));
+      write = λ n is. absurd (rw is at (error.fault (λ bad. cc)));
       well = tt;
       unwritten = λ _. refl;
     })

@@ -15,6 +15,12 @@ returns-in-Equal-clause-joined c =
     let x = c.args.text.now in
     let long : length ys ≡ length vs = length-map vs (λ v. v.now) in
     let order = rw c.as_slice.ensures.value at c.cmp_last.ensures in
-    let some : 0 < length vs = elim (cases_lt 0 (length vs)) as (λ _. 0 < length vs) [ inl lt ↦ lt | inr none ↦ let e = order.none (omega (arith, none)) in absurd (cc) ] in
-    let same : string_cmp x (last_of ys) ≡ Equal = ap (λ n. string_cmp x (get_or ys (n - 1) [])) long ∙ sym (order.some some) ∙ c.in-Equal.is in
+    let some : 0 < length vs =
+    elim (cases_lt 0 (length vs)) as (λ _. 0 < length vs) [
+      | inl lt ↦ lt
+      | inr none ↦ let e =
+          order.none (omega (arith, none)) in absurd (cc)
+    ] in
+    let same : string_cmp x (last_of ys) ≡ Equal = ap (λ n. string_cmp x (get_or ys (n - 1) [])) long
+    ∙ sym (order.some some) ∙ c.in-Equal.is in
     inl (refl, (omega (arith, some, long), sym (exact_bytes x (last_of ys) same)))

@@ -1,7 +1,7 @@
 use Rattle.std.proofs.Common.{◌≡◌, ◌-◌, None}
 use Rattle.hdt_wire.specs.Counted.{inner, failures}
 use Rattle.hdt_terms.specs.LinesReader.{left}
-use Rattle.hdt_build.specs.Inside.Documents.{document_graph, IsValidDocument}
+use Rattle.hdt_build.specs.Inside.Collecting.{collected_triples, IsValidCollector}
 use Rattle.hdt_build.specs.Reading.{HasDictionaryStrings}
 use Rattle.hdt_build.proofs.DocumentReading.{IsReadSoFar}
 use Rattle.hdt_build.proofs.reading.read_triples.Given as goal
@@ -9,9 +9,10 @@ use Rattle.hdt_build.proofs.reading.read_triples.Given as goal
 abbrev pub invariant-triples : goal.invariant-triples
 invariant-triples g l = record {
   failed : l.lines.failed ≡ None;
-  sound : IsValidDocument l.document;
-  texts : HasDictionaryStrings (document_graph l.document);
-  run : IsReadSoFar l.lines (g.R.Read.remaining (inner l.fn.input)) (left l.lines (g.R.Read.remaining (inner l.input))) (document_graph l.document);
+  sound : IsValidCollector l.collector;
+  texts : HasDictionaryStrings (collected_triples l.collector);
+  run : IsReadSoFar l.lines (g.R.Read.remaining (inner l.fn.input)) (left l.lines (g.R.Read.remaining (inner l.input)))
+      (collected_triples l.collector);
   count : failures l.input ≡ failures l.fn.input;
 }
 

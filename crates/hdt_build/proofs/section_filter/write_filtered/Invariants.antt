@@ -6,7 +6,10 @@ use Rattle.hdt_build.proofs.section_filter.write_filtered.Given as goal
 
 abbrev pub invariant-loop-at : goal.invariant-loop-at
 invariant-loop-at l = record {
-  filled : InWork (IsInFilter l.fn.filter.used.now l.fn.filter.other.now l.fn.filter.wanted) (λ k. get_or (borrowed_texts l.strings) k []) (Ahead l.at (length (borrowed_texts l.strings)) (length (borrowed_texts l.strings)) (length (borrowed_texts l.strings))) l.fn.count l.out.strings l.fn.numbers.items l.numbers.items;
+  filled : InWork (IsInFilter l.fn.filter.used.now l.fn.filter.other.now l.fn.filter.wanted)
+      (λ k. get_or (borrowed_texts l.strings) k [])
+      (Ahead l.at (length (borrowed_texts l.strings)) (length (borrowed_texts l.strings))
+      (length (borrowed_texts l.strings))) l.fn.ids_before l.out.strings l.fn.ids.items l.ids.items;
   block : l.out.block_size ≡ l.block_size;
   few : length l.out.strings ≤ l.at;
 }

@@ -4,4 +4,5 @@ use Rattle.hdt_build.proofs.Order.{triple_less}
 use Rattle.hdt_build.proofs.triples.are_ascending.Goals as goal
 
 pub returns : goal.returns
-returns c = λ _. λ k lt. triple_less (nth_triple c.args.triples.now k) (nth_triple c.args.triples.now (k + 1)) (c.loop-at.invariant.ascend k (omega (arith, lt, c.loop-at-test.false)))
+returns c = λ _. λ k lt. triple_less (nth_triple c.args.triples.now k) (nth_triple c.args.triples.now (k + 1))
+    (c.loop-at.invariant.ascend k (omega (arith, lt, c.loop-at-test.false)))

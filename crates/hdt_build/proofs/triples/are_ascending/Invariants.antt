@@ -5,5 +5,6 @@ use Rattle.hdt_build.proofs.triples.are_ascending.Given as goal
 
 abbrev pub invariant-loop-at : goal.invariant-loop-at
 invariant-loop-at l = record {
-  ascend : (k : ℕ) → k + 1 < l.at → triple_cmp (get_or l.triples k (0, 0, 0)) (get_or l.triples (k + 1) (0, 0, 0)) ≡ Less;
+  ascend : (k : ℕ) → k + 1 < l.at → triple_cmp (get_or l.triples k (0, 0, 0)) (get_or l.triples (k + 1) (0, 0, 0))
+      ≡ Less;
 }

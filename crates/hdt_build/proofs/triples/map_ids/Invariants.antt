@@ -5,6 +5,8 @@ use Rattle.hdt_build.proofs.triples.map_ids.Given as goal
 abbrev pub invariant-loop-triple : goal.invariant-loop-triple
 invariant-loop-triple l = record {
   long : length l.triple-items ≡ length l.initial.triple-items;
-  done : (k : ℕ) → k < l.triple-index → get_or l.triple-items k (0, 0, 0) ≡ mapped_triple l.subjects l.predicates l.objects (get_or l.initial.triple-items k (0, 0, 0));
+  done : (k : ℕ) → k < l.triple-index
+      → get_or l.triple-items k (0, 0, 0)
+      ≡ mapped_triple l.subjects l.predicates l.objects (get_or l.initial.triple-items k (0, 0, 0));
   left : (k : ℕ) → l.triple-index ≤ k → get_or l.triple-items k (0, 0, 0) ≡ get_or l.initial.triple-items k (0, 0, 0);
 }

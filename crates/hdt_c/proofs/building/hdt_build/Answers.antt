@@ -4,4 +4,10 @@ use Rattle.hdt_build.specs.declared.fault.BuildFault.TheVariants.{OutOfMemory}
 use Rattle.hdt_c.proofs.building.hdt_build.Goals as goal
 
 pub returns-in-Err-put : goal.returns-in-Err-put
-returns-in-Err-put c = inr (record { fault = OutOfMemory; stands = tt; made = c.in-Err-put.ensures.err; is_reported = c.report_of_fault.ensures })
+returns-in-Err-put c = inr (record {
+  fault = OutOfMemory;
+  stands = tt;
+  made = c.in-Err-put.ensures.err;
+  is_reported =
+      c.report_of_fault.ensures;
+})

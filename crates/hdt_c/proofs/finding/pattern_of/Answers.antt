@@ -1,5 +1,5 @@
 -- The matches of the pattern of the given strings.
-use Rattle.hdt_file.specs.GraphView.{graph_view}
+use Rattle.hdt_file.specs.Graph.{graph_view}
 use Rattle.hdt_c.proofs.MatchLaws.{are_matches}
 use Rattle.hdt_c.proofs.finding.pattern_of.Goals as goal
 

@@ -2,4 +2,5 @@
 use Rattle.hdt_c.proofs.names.hdt_reason_name.Goals as goal
 
 pub returns-in-Some-clause-none : goal.returns-in-Some-clause-none
-returns-in-Some-clause-none c = λ never. absurd (never c.in-Some.found ((c.file_reason.ensures c.in-Some.found).0 c.in-Some.is))
+returns-in-Some-clause-none c =
+    λ never. absurd (never c.in-Some.found ((c.file_reason.ensures c.in-Some.found).0 c.in-Some.is))

@@ -1,5 +1,5 @@
 -- The matches of the pattern of the given parts.
-use Rattle.hdt_file.specs.GraphView.{graph_view}
+use Rattle.hdt_file.specs.Graph.{graph_view}
 use Rattle.hdt_c.proofs.MatchLaws.{are_matches}
 use Rattle.hdt_c.proofs.pattern.pattern_of_parts.Goals as goal
 

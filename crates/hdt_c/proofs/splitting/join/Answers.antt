@@ -12,9 +12,14 @@ outs-init c = record { bytes = c.new-bytes.ensures.items; ends = c.new-ends.ensu
 
 pub outs-preserved : goal.outs-preserved
 outs-preserved c =
-    let bytes = bytes_push c.outs.yielded c.in-Some.out c.outs.bytes.items c.extend_from_slice.new.self.items c.outs.invariant.bytes
-    (c.in_ok-extend_from_slice.ensures.items ∙ ap (λ (l : List ℕ). c.outs.bytes.items ++ l) (c.deref.ensures.value ∙ ap (λ (t : Vec ℕ). t.items) c.into_inner-text.ensures)) in
+    let bytes = bytes_push c.outs.yielded c.in-Some.out c.outs.bytes.items c.extend_from_slice.new.self.items
+    c.outs.invariant.bytes
+    (c.in_ok-extend_from_slice.ensures.items
+    ∙ ap (λ (l : List ℕ). c.outs.bytes.items ++ l) (c.deref.ensures.value
+    ∙ ap (λ (t : Vec ℕ). t.items) c.into_inner-text.ensures)) in
     record {
       bytes = bytes;
-      ends = ends_push c.outs.yielded c.in-Some.out c.outs.ends.items c.push.new.self.items c.len.result c.outs.invariant.ends c.in_ok-push.ensures.items (omega (arith, c.len.ensures, c.extend_from_slice.new.self.ok.0, ap (λ (l : List ℕ). length l) bytes));
+      ends = ends_push c.outs.yielded c.in-Some.out c.outs.ends.items c.push.new.self.items c.len.result
+          c.outs.invariant.ends c.in_ok-push.ensures.items
+          (omega (arith, c.len.ensures, c.extend_from_slice.new.self.ok.0, ap (λ (l : List ℕ). length l) bytes));
     }

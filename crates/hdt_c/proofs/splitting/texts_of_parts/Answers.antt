@@ -17,11 +17,25 @@ returns-clause-ok c =
     let known = λ (outs : List (Counted (Vec ℕ))). map (λ (out : Counted (Vec ℕ)). Some (written_text out)) outs in
     let some = λ (texts : List (List ℕ)). map (λ (part : List ℕ). Some part) texts in
     let new : List (Counted (Vec ℕ)) = c.split_document.new.outs in
-    let before : known c.deref_mut.result.now ≡ replicate c.args.parts (Some []) = ap known c.deref_mut.ensures.value ∙ c.in_ok-outs.ensures in
+    let before : known c.deref_mut.result.now ≡ replicate c.args.parts (Some []) = ap known c.deref_mut.ensures.value
+    ∙ c.in_ok-outs.ensures in
     let size : length new ≡ c.in_ok-outs.outs.len =
-    omega (arith, c.in_ok-report.ensures.ok.parts.0, length-map new text, length-map c.deref_mut.result.now text, ap (λ (outs : List (Counted (Vec ℕ))). length outs) c.deref_mut.ensures.value, c.in_ok-outs.outs.ok.0) in
+    omega (
+      arith,
+      c.in_ok-report.ensures.ok.parts.0,
+      length-map new text,
+      length-map c.deref_mut.result.now text,
+      ap (λ (outs : List (Counted (Vec ℕ))). length outs) c.deref_mut.ensures.value,
+      c.in_ok-outs.outs.ok.0,
+    ) in
     let gained = some (written_texts (take c.in_ok-outs.outs.len (new ++ drop (length new) c.in_ok-outs.outs.items))) in
-    let after : known new ≡ gained = known_texts new ∙ ap (λ (l : List (Counted (Vec ℕ))). some (written_texts l)) (sym (whole_buffer c.in_ok-outs.outs.len new c.in_ok-outs.outs.items size)) in
-    subst (λ (input : Option (List ℕ)). SplitsInput c.args.prefix.now input (replicate c.args.parts (Some [])) gained c.in_ok-report.report) (ap (λ (s : BorrowedString). Some s.now) c.new.ensures.inner)
-    (subst (λ (gained : List (Option (List ℕ))). SplitsInput c.args.prefix.now (Some (inner c.new.result).now) (replicate c.args.parts (Some [])) gained c.in_ok-report.report) after
-    (subst (λ (had : List (Option (List ℕ))). SplitsInput c.args.prefix.now (Some (inner c.new.result).now) had (known new) c.in_ok-report.report) before c.in_ok-report.ensures.ok))
+    let after : known new ≡ gained =
+    known_texts new ∙ ap (λ (l : List (Counted (Vec ℕ))). some (written_texts l))
+    (sym (whole_buffer c.in_ok-outs.outs.len new c.in_ok-outs.outs.items size)) in
+    subst (λ (input : Option (List ℕ)). SplitsInput c.args.prefix.now input
+    (replicate c.args.parts (Some [])) gained c.in_ok-report.report)
+    (ap (λ (s : BorrowedString). Some s.now) c.new.ensures.inner)
+    (subst (λ (gained : List (Option (List ℕ))). SplitsInput c.args.prefix.now (Some (inner c.new.result).now)
+    (replicate c.args.parts (Some [])) gained c.in_ok-report.report) after
+    (subst (λ (had : List (Option (List ℕ))). SplitsInput c.args.prefix.now (Some (inner c.new.result).now) had
+    (known new) c.in_ok-report.report) before c.in_ok-report.ensures.ok))

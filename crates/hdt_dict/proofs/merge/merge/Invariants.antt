@@ -12,8 +12,10 @@ invariant-sides l = record {
   xs_passed : ArePassed (borrowed_texts l.xs) l.i (borrowed_texts l.ys) l.j;
   ys_passed : ArePassed (borrowed_texts l.ys) l.j (borrowed_texts l.xs) l.i;
   both : borrowed_texts l.both.items ≡ filter (has (borrowed_texts l.ys)) (take l.i (borrowed_texts l.xs));
-  first : borrowed_texts l.first.items ≡ filter (λ x. not (has (borrowed_texts l.ys) x)) (take l.i (borrowed_texts l.xs));
-  second : borrowed_texts l.second.items ≡ filter (λ y. not (has (borrowed_texts l.xs) y)) (take l.j (borrowed_texts l.ys));
+  first : borrowed_texts l.first.items
+      ≡ filter (λ x. not (has (borrowed_texts l.ys) x)) (take l.i (borrowed_texts l.xs));
+  second : borrowed_texts l.second.items
+      ≡ filter (λ y. not (has (borrowed_texts l.xs) y)) (take l.j (borrowed_texts l.ys));
 }
 
 abbrev pub decreases-sides : goal.decreases-sides

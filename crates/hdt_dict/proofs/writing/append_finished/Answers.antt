@@ -11,4 +11,5 @@ returns-clause-ok c =
     let u = ap (λ (b : ℕ). c.finish.new.out.items ++ canonical b c.args.subjects.strings) c.requires.blocks.0 in
     let p = ap (λ (b : ℕ). c.finish-2.new.out.items ++ canonical b c.args.predicates.strings) c.requires.blocks.1 in
     let o = ap (λ (b : ℕ). c.finish-3.new.out.items ++ canonical b c.args.objects.strings) c.requires.blocks.2 in
-    appended a.shared.block_size d a.out.now.items _ _ _ _ _ c.in_ok-put_control.ensures.ok c.in_ok-finish.ensures.ok (c.in_ok-finish-2.ensures.ok ∙ u) (c.in_ok-finish-3.ensures.ok ∙ p) (c.in_ok-finish-4.ensures.ok ∙ o)
+    appended a.shared.block_size d a.out.now.items _ _ _ _ _ c.in_ok-put_control.ensures.ok c.in_ok-finish.ensures.ok
+    (c.in_ok-finish-2.ensures.ok ∙ u) (c.in_ok-finish-3.ensures.ok ∙ p) (c.in_ok-finish-4.ensures.ok ∙ o)

@@ -7,10 +7,12 @@ use Rattle.hdt_file.proofs.dictionary.read_dictionary.Goals as goal
 
 pub returns-clause-found : goal.returns-clause-found
 returns-clause-found c =
-    reads_unless_oom_found head_and_dictionary_of (decode_head_and_dictionary c.args.bytes.now) (λ f. IsHeadAndDictionary f c.args.bytes.now) open_fault_of c.read_by_checks.result
+    reads_unless_oom_found head_and_dictionary_of (decode_head_and_dictionary c.args.bytes.now)
+    (λ f. IsHeadAndDictionary f c.args.bytes.now) open_fault_of c.read_by_checks.result
     (front_exact c.args.bytes.now (λ i. omega (arith, c.type_inv.bytes i)) (omega arith)) c.read_by_checks.ensures.exact
 
 pub returns-clause-only : goal.returns-clause-only
 returns-clause-only c =
-    reads_unless_oom_only head_and_dictionary_of (decode_head_and_dictionary c.args.bytes.now) (λ f. IsHeadAndDictionary f c.args.bytes.now) open_fault_of c.read_by_checks.result
+    reads_unless_oom_only head_and_dictionary_of (decode_head_and_dictionary c.args.bytes.now)
+    (λ f. IsHeadAndDictionary f c.args.bytes.now) open_fault_of c.read_by_checks.result
     (front_exact c.args.bytes.now (λ i. omega (arith, c.type_inv.bytes i)) (omega arith)) c.read_by_checks.ensures.exact

@@ -5,7 +5,8 @@ use Rattle.hdt_file.proofs.non_terms.append_non_terms.Given as goal
 abbrev pub invariant-strings : goal.invariant-strings
 invariant-strings l =
     record {
-      finds : FindsUpTo l.fn.role l.fn.before l.initial.strings.ahead l.fn.found.items l.number l.strings.ahead l.found.items;
+      finds : FindsUpTo l.fn.role l.fn.before l.initial.strings.ahead l.fn.found.items l.number l.strings.ahead
+          l.found.items;
       fits : l.number + length l.strings.ahead < 2 ^ 64;
     }
 

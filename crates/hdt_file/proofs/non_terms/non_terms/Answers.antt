@@ -5,11 +5,11 @@ use Rattle.hdt_file.specs.NonTerms.{AreNonTermsOf}
 use Rattle.hdt_file.proofs.NonTermLaws.{five, for_layout, objects_fit, shared_count, subjects_fit}
 use Rattle.hdt_file.proofs.non_terms.non_terms.Goals as goal
 
-pub append_non_terms-requires-2-clause-fits : goal.append_non_terms-requires-2-clause-fits
-append_non_terms-requires-2-clause-fits c = subjects_fit c.args.layout.now c.lens.result c.lens.ensures
+pub append_non_terms-requires-2 : goal.append_non_terms-requires-2
+append_non_terms-requires-2 c = subjects_fit c.args.layout.now c.lens.result c.lens.ensures
 
-pub append_non_terms-requires-5-clause-fits : goal.append_non_terms-requires-5-clause-fits
-append_non_terms-requires-5-clause-fits c = objects_fit c.args.layout.now c.lens.result c.lens.ensures
+pub append_non_terms-requires-5 : goal.append_non_terms-requires-5
+append_non_terms-requires-5 c = objects_fit c.args.layout.now c.lens.result c.lens.ensures
 
 pub returns : goal.returns
 returns c =
@@ -32,5 +32,6 @@ returns c =
       are_predicates = three.1;
       are_shared_objects = four.1;
       are_objects = subst (λ (n : ℕ). AreNonTermsOf Object n d.objects last.0) count last.1;
-      whole = five c.new-found.result.items one.0 two.0 three.0 four.0 last.0 _ _ _ _ _ c.new-found.ensures.items one.2 two.2 three.2 four.2 last.2;
+      whole = five c.new-all.result.items one.0 two.0 three.0 four.0 last.0 _ _ _ _ _ c.new-all.ensures.items one.2
+          two.2 three.2 four.2 last.2;
     })

@@ -1,7 +1,7 @@
 use Rattle.std.proofs.Common.{drop}
 use Rattle.hdt_wire.specs.Control.{IsPrefixOf}
 use Rattle.hdt_file.specs.CachedTerms.{CachesTerms}
-use Rattle.hdt_file.specs.LayoutView.{layout_view}
+use Rattle.hdt_file.specs.Graph.{layout_view}
 use Rattle.hdt_file.proofs.TextByLine.{ContinuesText}
 use Rattle.hdt_file.proofs.rendering.append_by_lookup.Given as goal
 

@@ -1,6 +1,6 @@
 use Rattle.std.proofs.Common.{length}
 use Rattle.hdt_wire.specs.Control.{IsPrefixOf}
-use Rattle.hdt_file.specs.LayoutView.{layout_view}
+use Rattle.hdt_file.specs.Graph.{layout_view}
 use Rattle.hdt_file.specs.Inside.RenderedTerms.{AreTables}
 use Rattle.hdt_file.proofs.TextByLine.{ContinuesText}
 use Rattle.hdt_file.proofs.rendering.append_by_tables.Given as goal

@@ -8,6 +8,7 @@ use Rattle.hdt_file.proofs.term_tables.append_lines.Given as goal
 abbrev pub invariant-triples : goal.invariant-triples
 invariant-triples l =
     record {
-      goes_on : (g : GraphParts) → AreTables g l.triples l.fn.tables → ContinuesText g l.triples (drop l.at l.triples) l.fn.out.items l.out.items;
+      goes_on : (g : GraphParts) → AreTables g l.triples l.fn.tables
+          → ContinuesText g l.triples (drop l.at l.triples) l.fn.out.items l.out.items;
       kept : IsPrefixOf l.fn.out.items l.out.items;
     }

@@ -5,4 +5,8 @@ use Rattle.hdt_file.proofs.term_tables.append_rendered.Goals as goal
 
 pub returns-then-is_empty-clause-err : goal.returns-then-is_empty-clause-err
 returns-then-is_empty-clause-err c =
-    λ string is. (refl, refl, no_term c.args.role string c.args.rendered.now (eqb-true _ _ (sym c.is_empty.ensures ∙ c.if-is_empty.true)) is)
+    λ string is. (
+      refl,
+      refl,
+      no_term c.args.role string c.args.rendered.now (eqb-true _ _ (sym c.is_empty.ensures ∙ c.if-is_empty.true)) is,
+    )

@@ -1,8 +1,8 @@
 use Rattle.std.proofs.Common.{length, ◌-◌, ◌≡◌}
 use Rattle.hdt_wire.specs.ItemChecks.{checks_from}
-use Rattle.hdt_file.specs.GraphView.{graph_view}
-use Rattle.hdt_file.specs.LayoutParts.{parts_dictionary, parts_of_graph}
-use Rattle.hdt_file.specs.Tight.{section_by_id, check_string_used}
+use Rattle.hdt_file.specs.Graph.{graph_view, parts_dictionary, parts_of_graph}
+use Rattle.hdt_dict.specs.Dictionary.{section_by_id}
+use Rattle.hdt_file.specs.Tight.{check_string_used}
 use Rattle.hdt_file.proofs.tight.check_section.Given as goal
 
 abbrev pub invariant-strings : goal.invariant-strings

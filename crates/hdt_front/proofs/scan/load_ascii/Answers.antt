@@ -9,5 +9,7 @@ pub returns : goal.returns
 returns c =
     let v = chunk c.args.at 32 c.args.bytes.now in
     let long = length-chunk c.args.at 32 c.args.bytes.now c.requires.inside in
-    load_runs is_nonzero_ascii c.args.bytes.now c.args.at 32 _ _ c.requires.inside (omega arith) c.type_inv.bytes c.requires.so_far c.first_set.ensures _
-    (zip2_of_maps (λ a b. cond (leb a b) 255 0) _ _ v (splat_is_map v 32 _ long) (zip2_splat {Y = ℕ} _ v 32 _ long)) refl
+    load_runs is_nonzero_ascii c.args.bytes.now c.args.at 32 _ _ c.requires.inside
+    (omega arith) c.type_inv.bytes c.requires.so_far c.first_set.ensures _
+    (zip2_of_maps (λ a b. cond (leb a b) 255 0) _ _ v (splat_is_map v 32 _ long) (zip2_splat {Y = ℕ} _ v 32 _ long))
+    refl

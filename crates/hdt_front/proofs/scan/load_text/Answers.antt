@@ -8,5 +8,6 @@ pub returns : goal.returns
 returns c =
     let v = chunk c.args.at 16 c.args.bytes.now in
     let long = length-chunk c.args.at 16 c.args.bytes.now c.requires.inside in
-    load_runs (λ b. not (nat_eq b 0)) c.args.bytes.now c.args.at 16 _ _ c.requires.inside (omega arith) c.type_inv.bytes c.requires.so_far c.first_set.ensures _
+    load_runs (λ b. not (nat_eq b 0)) c.args.bytes.now c.args.at 16 _ _ c.requires.inside
+    (omega arith) c.type_inv.bytes c.requires.so_far c.first_set.ensures _
     (zip2_splat _ v 16 _ long) refl

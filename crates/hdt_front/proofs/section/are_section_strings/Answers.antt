@@ -19,8 +19,10 @@ loop-i-preserved c =
     let left = next_of xs l.i nothing c.loop-i-test.true in
     let rest : List (List ℕ) = drop (l.i + 1) (borrowed_texts xs) in
     record {
-      forth = forth all l.i l.before.now (get_or xs l.i nothing).now (drop l.i (borrowed_texts xs)) rest left (sym c.can_follow.ensures ∙ c.if-not-can_follow.false) l.invariant.forth;
-      back = λ h. (back all l.i l.before.now (get_or xs l.i nothing).now (drop l.i (borrowed_texts xs)) rest left l.invariant.back h).1;
+      forth = forth all l.i l.before.now (get_or xs l.i nothing).now (drop l.i (borrowed_texts xs)) rest left
+          (sym c.can_follow.ensures ∙ c.if-not-can_follow.false) l.invariant.forth;
+      back = λ h. (back all l.i l.before.now (get_or xs l.i nothing).now
+          (drop l.i (borrowed_texts xs)) rest left l.invariant.back h).1;
     }
 
 pub returns-then-not-can_follow-clause-no : goal.returns-then-not-can_follow-clause-no
@@ -31,11 +33,15 @@ returns-then-not-can_follow-clause-no c = λ are.
     let all = Ascending 0 [] (borrowed_texts xs) in
     let left = next_of xs l.i nothing c.loop-i-test.true in
     let rest : List (List ℕ) = drop (l.i + 1) (borrowed_texts xs) in
-    sym c.if-not-can_follow.true ∙ c.can_follow.ensures ∙ (back all l.i l.before.now (get_or xs l.i nothing).now (drop l.i (borrowed_texts xs)) rest left l.invariant.back (strings_ascend (borrowed_texts xs) are)).0
+    sym c.if-not-can_follow.true ∙ c.can_follow.ensures
+    ∙ (back all l.i l.before.now (get_or xs l.i nothing).now
+    (drop l.i (borrowed_texts xs)) rest left l.invariant.back (strings_ascend (borrowed_texts xs) are)).0
 
 pub returns-clause-yes : goal.returns-clause-yes
 returns-clause-yes c = λ _.
     let l = c.loop-i in
     let xs = c.args.strings.now in
     let end : l.i ≡ length xs = omega (arith, c.loop-i-test.false, l.auto.i-end) in
-    strings_are (borrowed_texts xs) (ended (Ascending 0 [] (borrowed_texts xs)) l.i l.before.now (drop l.i (borrowed_texts xs)) (none_left xs l.i end) l.invariant.forth)
+    strings_are (borrowed_texts xs)
+    (ended (Ascending 0 [] (borrowed_texts xs)) l.i l.before.now (drop l.i (borrowed_texts xs))
+    (none_left xs l.i end) l.invariant.forth)

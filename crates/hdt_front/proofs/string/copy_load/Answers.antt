@@ -9,10 +9,12 @@ pub returns-clause-reaches : goal.returns-clause-reaches
 returns-clause-reaches c =
     let v = chunk 0 32 c.args.bytes.now in
     let long = length-chunk 0 32 c.args.bytes.now c.requires.load in
-    load_runs (λ b. not (nat_eq b 0)) c.args.bytes.now 0 32 _ _ c.requires.load (omega arith) c.type_inv.bytes (omega arith) c.first_set.ensures _
+    load_runs (λ b. not (nat_eq b 0)) c.args.bytes.now 0 32 _ _ c.requires.load (omega arith) c.type_inv.bytes
+    (omega arith) c.first_set.ensures _
     (zip2_splat _ v 32 _ long) refl
 
 pub returns-clause-text : goal.returns-clause-text
 returns-clause-text c =
     let long = length-chunk 0 32 c.args.bytes.now c.requires.load in
-    copied c.args.at 32 c.first_set.result c.args.buffer.now c.args.bytes.now (omega (arith, (returns-clause-reaches c).within)) c.requires.within c.requires.load
+    copied c.args.at 32 c.first_set.result c.args.buffer.now c.args.bytes.now
+    (omega (arith, (returns-clause-reaches c).within)) c.requires.within c.requires.load

@@ -8,4 +8,7 @@ nothing = record { ref_ptr = (0, 0); now = [] }
 
 pub push-requires : goal.push-requires
 unfolding nothing
-push-requires c = record { no_zero = no_zero_in c.args.strings.now c.loop-string.string-index nothing c.requires.strings c.loop-string-test.true }
+push-requires c = record {
+  no_zero =
+      no_zero_in c.args.strings.now c.loop-string.string-index nothing c.requires.strings c.loop-string-test.true;
+}

@@ -3,7 +3,7 @@ use Rattle.std.proofs.lemmas.List.{get_or_default, length-map}
 use Rattle.hdt_front.specs.Canonical.{borrowed_texts}
 use Rattle.hdt_dict.specs.Strings.{BorrowedString, empty_string}
 use Rattle.hdt_dict.specs.Laws.Strings.{string_at}
-use Rattle.hdt_dict.specs.DictionaryString.{IsDictionaryString}
+use Rattle.hdt_dict.specs.Strings.{IsDictionaryString}
 use Rattle.hdt_probe_parts.proofs.dict_writing.are_valid_strings.Goals as goal
 
 pub loop-text-preserved : goal.loop-text-preserved

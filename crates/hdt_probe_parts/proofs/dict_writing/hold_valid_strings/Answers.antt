@@ -1,7 +1,7 @@
 use Rattle.std.proofs.Common.{subst}
 use Rattle.std.specs.Prelude.{All}
 use Rattle.hdt_front.specs.Canonical.{borrowed_texts}
-use Rattle.hdt_dict.specs.DictionaryString.{IsDictionaryString}
+use Rattle.hdt_dict.specs.Strings.{IsDictionaryString}
 use Rattle.hdt_probe_parts.proofs.dict_writing.hold_valid_strings.Goals as goal
 
 pub returns : goal.returns

@@ -12,4 +12,5 @@ returns c =
       | else-rest-gt9 w ↦ ap (λ b. b.now) w.near-is ∙ short_whole _ w.if-rest-gt9.false
     ] in
     c.extract_bits.ensures ∙ ap (λ n. n / 2 ^ c.args.shift % 2 ^ c.args.width) c.little_number_of.ensures
-    ∙ of_nine c.args.rest.now c.if-rest-gt9.near.now c.args.shift c.args.width (λ i. omega (arith, c.type_inv.rest i)) near_is c.requires.first c.requires.narrow
+    ∙ of_nine c.args.rest.now c.if-rest-gt9.near.now c.args.shift c.args.width
+    (λ i. omega (arith, c.type_inv.rest i)) near_is c.requires.first c.requires.narrow

@@ -3,7 +3,7 @@ use Rattle.hdt_seq.specs.Laws.RankSelect.{some_select, select_unique, select_asc
 use Rattle.hdt_seq.proofs.directory.rank_select_inverse.Goals as goal
 
 pub returns-clause-number : goal.returns-clause-number
-returns-clause-number c = λ bits i is. record { marked = is; before = refl }
+returns-clause-number c = λ bits i is. record { is_one = is; before = refl }
 
 pub returns-clause-some : goal.returns-clause-some
 returns-clause-some c = some_select

@@ -9,13 +9,15 @@ pub append_bit-requires-clause-small : goal.append_bit-requires-clause-small
 append_bit-requires-clause-small c =
     let l = c.loop-bit in
     let ns : List ℕ = map bit_number c.args.bits.now in
-    Packs-word 1 (take l.bit-index ns) l.rest.word l.rest.filled c.args.out.now.items l.out.items (EachFits-take 1 l.bit-index ns (bits_fit c.args.bits.now)) l.invariant
+    Packs-word 1 (take l.bit-index ns) l.rest.word l.rest.filled c.args.out.now.items l.out.items
+    (EachFits-take 1 l.bit-index ns (bits_fit c.args.bits.now)) l.invariant
 
 pub loop-bit-preserved : goal.loop-bit-preserved
 loop-bit-preserved c =
     let l = c.loop-bit in
     let ns : List ℕ = map bit_number c.args.bits.now in
-    Packs-next 1 l.bit-index ns l.rest.word l.rest.filled c.args.out.now.items l.out.items _ _ _ _ (omega (arith, c.loop-bit-test.true, length-map c.args.bits.now bit_number))
+    Packs-next 1 l.bit-index ns l.rest.word l.rest.filled c.args.out.now.items l.out.items _ _ _ _
+    (omega (arith, c.loop-bit-test.true, length-map c.args.bits.now bit_number))
     (sym (get_or-map bit_number c.args.bits.now l.bit-index false 0 c.loop-bit-test.true)) l.invariant
     c.in_ok-append_bit.ensures.word c.in_ok-append_bit.ensures.rest c.in_ok-append_bit.ensures.ok
 
@@ -26,12 +28,14 @@ returns-clause-ok c =
     let ns : List ℕ = map bit_number c.args.bits.now in
     on_ok_weaker c.append_bytes.result
     (λ e. Packs-end 1 l.bit-index ns l.rest.word l.rest.filled c.args.out.now.items l.out.items c.div_ceil.result _
-    (omega (arith, c.loop-bit-test.false, length-map c.args.bits.now bit_number)) (omega (arith, c.div_ceil.ensures)) l.invariant e)
+    (omega (arith, c.loop-bit-test.false, length-map c.args.bits.now bit_number))
+    (omega (arith, c.div_ceil.ensures)) l.invariant e)
     c.append_bytes.ensures.ok
 
 pub returns-clause-err : goal.returns-clause-err
 returns-clause-err c =
     let l = c.loop-bit in
     on_err_weaker c.append_bytes.result
-    (λ e. Packs-keeps 1 (take l.bit-index (map bit_number c.args.bits.now)) l.rest.word l.rest.filled c.args.out.now.items l.out.items _ l.invariant e)
+    (λ e. Packs-keeps 1 (take l.bit-index (map bit_number c.args.bits.now)) l.rest.word l.rest.filled
+    c.args.out.now.items l.out.items _ l.invariant e)
     c.append_bytes.ensures.err

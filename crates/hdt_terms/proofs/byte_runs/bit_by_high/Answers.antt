@@ -8,4 +8,5 @@ pub swizzle : goal.swizzle
 swizzle c = high_ok c.args.v c.fits-v
 
 pub returns : goal.returns
-returns c = looked_up ROWS (λ x. x / 16) c.args.v _ c.fits-v (zip2_splat down c.args.v 16 4 c.fits-v.0) (λ x h. omega arith)
+returns c = looked_up ROWS (λ x. x / 16) c.args.v _ c.fits-v (zip2_splat down c.args.v 16 4 c.fits-v.0)
+    (λ x h. omega arith)

@@ -9,4 +9,5 @@ pub swizzle : goal.swizzle
 swizzle c = low_ok c.args.v c.fits-v
 
 pub returns : goal.returns
-returns c = looked_up EXCLUDED (λ x. bit_and x 15) c.args.v _ c.fits-v (zip2_splat bit_and c.args.v 16 15 c.fits-v.0) (λ x h. omega (arith, and_le_r x 15))
+returns c = looked_up EXCLUDED (λ x. bit_and x 15) c.args.v _ c.fits-v (zip2_splat bit_and c.args.v 16 15 c.fits-v.0)
+    (λ x h. omega (arith, and_le_r x 15))

@@ -6,10 +6,11 @@ use Rattle.hdt_terms.proofs.line_buffer.fill.Given as goal
 
 abbrev pub invariant-fill : goal.invariant-fill
 invariant-fill g l = record {
-  grew : AppendsInput l.fn.buffered l.buffered (g.R.Read.remaining (inner l.fn.input)) (g.R.Read.remaining (inner l.input));
+  grew : AppendsInput l.fn.buffered l.buffered (g.R.Read.remaining (inner l.fn.input))
+      (g.R.Read.remaining (inner l.input));
   no_end : HasNoLineEnd l.buffered;
   count : failures l.input ≡ failures l.fn.input;
-  room : length l.buffered ≤ l.most;
+  below_limit : length l.buffered ≤ l.most;
 }
 
 abbrev pub decreases-fill : goal.decreases-fill

@@ -1,15 +1,20 @@
 use Rattle.std.proofs.Common.{◌≡◌, ◌+◌, ◌-◌, ◌≤◌, cond, List, length}
 use Rattle.hdt_wire.specs.Counted.{inner, failures}
 use Rattle.hdt_terms.specs.LinesReader.{left}
-use Rattle.hdt_terms.specs.Lint.{DocumentLine, faulty_lines}
+use Rattle.hdt_terms.specs.Documents.{DocumentLine}
+use Rattle.hdt_terms.specs.Lint.{faulty_lines}
 use Rattle.hdt_terms.proofs.DocumentLines.{HasReadLines, Linted}
 use Rattle.hdt_terms.proofs.lint.lint_document.Given as goal
 
 -- The lines that have been checked, what the writers have gained, and what is pending.
 abbrev pub invariant-lines : goal.invariant-lines
 invariant-lines g l = record {
-  linted : (lines : List DocumentLine) × HasReadLines l.lines (g.R.Read.remaining (inner l.fn.input)) (left l.lines (g.R.Read.remaining (inner l.input))) lines
-      × Linted l.keep lines (g.K.Write.contents (inner l.fn.kept)) (g.K.Write.contents (inner l.kept)) (g.T.Write.contents (inner l.fn.reported)) (g.T.Write.contents (inner l.reported)) l.linter.kept.items l.linter.reported.items l.linter.faulty
+  linted : (lines : List DocumentLine)
+      × HasReadLines l.lines (g.R.Read.remaining (inner l.fn.input))
+      (left l.lines (g.R.Read.remaining (inner l.input))) lines
+      × Linted l.keep lines (g.K.Write.contents (inner l.fn.kept)) (g.K.Write.contents (inner l.kept))
+      (g.T.Write.contents (inner l.fn.reported))
+      (g.T.Write.contents (inner l.reported)) l.linter.kept.items l.linter.reported.items l.linter.faulty
       × (l.count ≡ length (faulty_lines lines));
   within : l.count ≤ l.most;
   keep : l.linter.keep ≡ l.keep;

@@ -2,7 +2,7 @@ use Rattle.std.proofs.Common.{◌≡◌, ◌+◌, ◌-◌, ◌<◌, ◌≤◌, c
 use Rattle.std.specs.Int.{from_bool}
 use Rattle.hdt_wire.specs.Counted.{inner, failures}
 use Rattle.hdt_terms.specs.LinesReader.{left}
-use Rattle.hdt_terms.specs.Lint.{DocumentLine}
+use Rattle.hdt_terms.specs.Documents.{DocumentLine}
 use Rattle.hdt_terms.proofs.DocumentLines.{HasReadLines}
 use Rattle.hdt_terms.proofs.SplitLines.{Collected}
 use Rattle.hdt_terms.proofs.split.split_document.Given as goal
@@ -10,8 +10,13 @@ use Rattle.hdt_terms.proofs.split.split_document.Given as goal
 -- The lines that have been split, what the writers have gained, and what is pending.
 abbrev pub invariant-lines : goal.invariant-lines
 invariant-lines g l = record {
-  split : (lines : List DocumentLine) × HasReadLines l.lines (g.R.Read.remaining (inner l.fn.input)) (left l.lines (g.R.Read.remaining (inner l.input))) lines
-      × Collected l.prefix (length (map (λ out. g.W.Write.contents (inner out)) l.fn.outs)) lines (map (λ out. g.W.Write.contents (inner out)) l.fn.outs) (map (λ out. g.W.Write.contents (inner out)) l.outs) (map (λ text. text.items) l.pending.items) (record { number = l.splitter.number; part = l.splitter.part }) l.splitter.report;
+  split : (lines : List DocumentLine)
+      × HasReadLines l.lines (g.R.Read.remaining (inner l.fn.input))
+      (left l.lines (g.R.Read.remaining (inner l.input))) lines
+      × Collected l.prefix (length (map (λ out. g.W.Write.contents (inner out)) l.fn.outs)) lines
+      (map (λ out. g.W.Write.contents (inner out)) l.fn.outs) (map (λ out. g.W.Write.contents (inner out)) l.outs)
+      (map (λ text. text.items) l.pending.items)
+      (record { number = l.splitter.number; part = l.splitter.part }) l.splitter.report;
   count : l.splitter.report.triples ≤ l.lines.taken + from_bool l.lines.ended;
   taken : l.lines.taken < 9223372036854775808;
   parts : l.splitter.parts ≡ length l.fn.outs;

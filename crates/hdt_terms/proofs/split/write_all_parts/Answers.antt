@@ -8,7 +8,8 @@ use Rattle.hdt_terms.proofs.split.write_all_parts.Goals as goal
 pub returns-in_err-write_part-clause-part : goal.returns-in_err-write_part-clause-part
 returns-in_err-write_part-clause-part g c =
     let p = err_from_is_err_and c.from_residual.result c.from_residual.ensures.1 in
-    rw p.1 (each_wrote_prefix _ _ _ (λ part. get_or (map (λ text. text.items) c.args.pending.now) part []) (map (λ text. text.items) c.parts.pending) c.parts.invariant.gains c.in_err-write_part.ensures.part)
+    rw p.1 (each_wrote_prefix _ _ _ (λ part. get_or (map (λ text. text.items) c.args.pending.now) part [])
+    (map (λ text. text.items) c.parts.pending) c.parts.invariant.gains c.in_err-write_part.ensures.part)
 
 pub parts-preserved : goal.parts-preserved
 parts-preserved g c =
@@ -16,8 +17,11 @@ parts-preserved g c =
     let done = c.in_ok-write_part.ensures in
     record {
       gains =
-          each_wrote _ _ _ (λ part. get_or (map (λ text. text.items) c.args.pending.now) part []) (map (λ text. text.items) c.parts.pending) (map (λ text. text.items) c.write_part.new.pending) inv.gains done.ok;
-      empty = empty_on (map (λ text. text.items) c.parts.pending) (map (λ text. text.items) c.write_part.new.pending) c.parts.at inv.empty done.others (done.whole refl);
+          each_wrote _ _ _ (λ part. get_or (map (λ text. text.items) c.args.pending.now) part [])
+          (map (λ text. text.items) c.parts.pending)
+          (map (λ text. text.items) c.write_part.new.pending) inv.gains done.ok;
+      empty = empty_on (map (λ text. text.items) c.parts.pending)
+          (map (λ text. text.items) c.write_part.new.pending) c.parts.at inv.empty done.others (done.whole refl);
       at = omega (arith, c.parts-test.true, inv.outs);
       outs = done.lens.0 ∙ inv.outs;
       pending = done.lens.1 ∙ inv.pending;
@@ -27,5 +31,12 @@ parts-preserved g c =
 pub returns-clause-ok : goal.returns-clause-ok
 returns-clause-ok g c =
     let inv = c.parts.invariant in
-    each_done _ _ (λ part. get_or (map (λ text. text.items) c.args.pending.now) part []) (map (λ text. text.items) c.parts.pending) inv.gains (λ part lt.
-    inv.empty part (omega (arith, lt, length-map c.args.outs.now (λ out. g.W.Write.contents (inner out)), c.parts-test.false, inv.outs)))
+    each_done _ _ (λ part. get_or (map (λ text. text.items) c.args.pending.now) part [])
+    (map (λ text. text.items) c.parts.pending) inv.gains (λ part lt.
+    inv.empty part (omega (
+      arith,
+      lt,
+      length-map c.args.outs.now (λ out. g.W.Write.contents (inner out)),
+      c.parts-test.false,
+      inv.outs,
+    )))

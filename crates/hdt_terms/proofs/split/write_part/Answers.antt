@@ -6,20 +6,29 @@ use Rattle.hdt_terms.proofs.split.write_part.Goals as goal
 
 pub returns-in-Ok-clause-ok : goal.returns-in-Ok-clause-ok
 returns-in-Ok-clause-ok g c =
-    one_written (λ text. text.items) (λ out. g.W.Write.contents (inner out)) c.args.pending.now c.args.outs.now c.args.at c.index-pending-at.result c.write_if_long.new.text c.index-outs-at.result c.write_if_long.new.out c.requires.within.0 c.requires.len c.in-Ok.ensures.ok
+    one_written (λ text. text.items) (λ out. g.W.Write.contents (inner out)) c.args.pending.now c.args.outs.now
+    c.args.at c.index-pending-at.result c.write_if_long.new.text c.index-outs-at.result c.write_if_long.new.out
+    c.requires.within.0 c.requires.len c.in-Ok.ensures.ok
 
 pub returns-in-Ok-clause-others : goal.returns-in-Ok-clause-others
-returns-in-Ok-clause-others g c = λ part other. set_other _ c.args.pending.now c.args.at part c.write_if_long.new.text [] other
+returns-in-Ok-clause-others g c =
+    λ part other. set_other _ c.args.pending.now c.args.at part c.write_if_long.new.text [] other
 
 pub returns-in-Ok-clause-whole : goal.returns-in-Ok-clause-whole
-returns-in-Ok-clause-whole g c = λ least. set_same (λ text. text.items) c.args.pending.now c.args.at c.write_if_long.new.text [] (omega (arith, c.requires.within.0, c.requires.len)) ∙ c.in-Ok.ensures.whole least
+returns-in-Ok-clause-whole g c =
+    λ least. set_same (λ text. text.items) c.args.pending.now c.args.at c.write_if_long.new.text []
+    (omega (arith, c.requires.within.0, c.requires.len)) ∙ c.in-Ok.ensures.whole least
 
 pub returns-in-Ok-clause-well : goal.returns-in-Ok-clause-well
-returns-in-Ok-clause-well g c = map-set_same failures c.args.outs.now c.args.at c.write_if_long.new.out c.index-outs-at.result c.in-Ok.ensures.well
+returns-in-Ok-clause-well g c =
+    map-set_same failures c.args.outs.now c.args.at c.write_if_long.new.out c.index-outs-at.result c.in-Ok.ensures.well
 
 pub returns-in-Err-clause-others : goal.returns-in-Err-clause-others
-returns-in-Err-clause-others g c = λ part other. set_other _ c.args.pending.now c.args.at part c.write_if_long.new.text [] other
+returns-in-Err-clause-others g c =
+    λ part other. set_other _ c.args.pending.now c.args.at part c.write_if_long.new.text [] other
 
 pub returns-in-Err-clause-part : goal.returns-in-Err-clause-part
 returns-in-Err-clause-part g c =
-    one_failed (λ text. text.items) (λ out. g.W.Write.contents (inner out)) c.args.pending.now c.args.outs.now c.args.at c.index-pending-at.result c.index-outs-at.result c.write_if_long.new.out c.requires.within.0 c.requires.len c.in-Err.ensures.part
+    one_failed (λ text. text.items) (λ out. g.W.Write.contents (inner out)) c.args.pending.now c.args.outs.now c.args.at
+    c.index-pending-at.result c.index-outs-at.result c.write_if_long.new.out c.requires.within.0 c.requires.len
+    c.in-Err.ensures.part

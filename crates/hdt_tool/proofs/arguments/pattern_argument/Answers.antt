@@ -10,4 +10,6 @@ returns-in-Some-clause-refused c =
     let text = c.in-Some.text.now in
     let named : first_of c.name.result.now rows ≡ Some text = search rules in
     let entry = subst (λ (id : List ℕ). first_of id rows ≡ Some text) c.name.ensures named in
-    IfErr-weaker c.string_or_any.result _ _ (λ r h. invalid_part c.args.word rows text c.has_flag-raw.result r c.has_flag-raw.ensures.given.0 entry h) c.string_or_any.ensures.refused
+    IfErr-weaker c.string_or_any.result _ _
+    (λ r h. invalid_part c.args.argument rows text c.has_flag-raw.result r c.has_flag-raw.ensures.given.0 entry h)
+    c.string_or_any.ensures.refused

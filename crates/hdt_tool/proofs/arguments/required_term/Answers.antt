@@ -9,4 +9,6 @@ pub returns-in-Some-clause-refused : goal.returns-in-Some-clause-refused
 returns-in-Some-clause-refused c =
     let rows = rows_of (found_of c.args.matches.now) in
     let entry : first_of (codes "TERM") rows ≡ Some c.as_bytes.result.now = search rules in
-    IfErr-weaker c.dictionary_string.result _ _ (λ r h. invalid_term Term rows c.as_bytes.result.now c.has_flag-raw.result r c.has_flag-raw.ensures.given.0 entry h) c.dictionary_string.ensures.refused
+    IfErr-weaker c.dictionary_string.result _ _
+    (λ r h. invalid_term Term rows c.as_bytes.result.now c.has_flag-raw.result r c.has_flag-raw.ensures.given.0
+    entry h) c.dictionary_string.ensures.refused

@@ -9,4 +9,5 @@ wider None n h = h
 wider (Some t) n h = (h.0, omega arith, h.2)
 
 pub returns-in-None-clause-refused : goal.returns-in-None-clause-refused
-returns-in-None-clause-refused c = without _ _ c.missing-in-None.result (λ w. c.in-None.ensures w.0 (wider _ w.0 w.1)) c.missing-in-None.ensures
+returns-in-None-clause-refused c =
+    without _ _ c.missing-in-None.result (λ w. c.in-None.ensures w.0 (wider _ w.0 w.1)) c.missing-in-None.ensures

@@ -7,22 +7,32 @@ pub returns-in-Err-clause-refused : goal.returns-in-Err-clause-refused
 returns-in-Err-clause-refused c =
     let words : List Text = map (λ word. word.now) c.args.words.now in
     told c.args.roles c.requires words c.in-Err.error c.usage_fault.result
-    (refused_by c.args.roles (app_of c.in_ok-command.command) words c.in-Err.error c.in_ok-command.ensures c.in-Err.ensures.kinds) c.usage_fault.ensures
+    (refused_by c.args.roles (app_of c.in_ok-command.command) words c.in-Err.error c.in_ok-command.ensures
+    c.in-Err.ensures.kinds) c.usage_fault.ensures
 
 pub returns-in-Some-clause-ok : goal.returns-in-Some-clause-ok
 returns-in-Some-clause-ok c =
     let words : List Text = map (λ word. word.now) c.args.words.now in
     let name : Text = c.in-Some.name.now in
-    let entered : subcommand_rows_of c.in-Ok.matches ≡ Some (name, rows_of (found_of c.in-Some.entries.now)) = search rules in
-    let is = sym (stated c.args.roles (app_of c.in_ok-command.command) words c.in-Ok.matches c.in_ok-command.ensures c.in-Ok.ensures.matches) ∙ entered in
-    wanted c.args.roles c.requires words name (rows_of (found_of c.in-Some.entries.now)) c.invocation_or_explanation.result
-    (taken c.args.roles (app_of c.in_ok-command.command) words c.in_ok-command.ensures c.in-Ok.ensures.kinds) is c.invocation_or_explanation.ensures.ok c.invocation_or_explanation.ensures.progress c.invocation_or_explanation.ensures.verbose
+    let entered : subcommand_rows_of c.in-Ok.matches ≡ Some (name, rows_of (found_of c.in-Some.entries.now)) =
+    search rules in
+    let is = sym (stated c.args.roles (app_of c.in_ok-command.command) words c.in-Ok.matches c.in_ok-command.ensures
+    c.in-Ok.ensures.matches) ∙ entered in
+    wanted c.args.roles c.requires words name
+    (rows_of (found_of c.in-Some.entries.now)) c.invocation_or_explanation.result
+    (taken c.args.roles (app_of c.in_ok-command.command) words c.in_ok-command.ensures c.in-Ok.ensures.kinds) is
+    c.invocation_or_explanation.ensures.ok c.invocation_or_explanation.ensures.progress
+    c.invocation_or_explanation.ensures.verbose
 
 pub returns-in-Some-clause-refused : goal.returns-in-Some-clause-refused
 returns-in-Some-clause-refused c =
     let words : List Text = map (λ word. word.now) c.args.words.now in
     let name : Text = c.in-Some.name.now in
-    let entered : subcommand_rows_of c.in-Ok.matches ≡ Some (name, rows_of (found_of c.in-Some.entries.now)) = search rules in
-    let is = sym (stated c.args.roles (app_of c.in_ok-command.command) words c.in-Ok.matches c.in_ok-command.ensures c.in-Ok.ensures.matches) ∙ entered in
-    unwanted c.args.roles c.requires words name (rows_of (found_of c.in-Some.entries.now)) c.invocation_or_explanation.result
-    (taken c.args.roles (app_of c.in_ok-command.command) words c.in_ok-command.ensures c.in-Ok.ensures.kinds) is c.invocation_or_explanation.ensures.refused
+    let entered : subcommand_rows_of c.in-Ok.matches ≡ Some (name, rows_of (found_of c.in-Some.entries.now)) =
+    search rules in
+    let is = sym (stated c.args.roles (app_of c.in_ok-command.command) words c.in-Ok.matches c.in_ok-command.ensures
+    c.in-Ok.ensures.matches) ∙ entered in
+    unwanted c.args.roles c.requires words name
+    (rows_of (found_of c.in-Some.entries.now)) c.invocation_or_explanation.result
+    (taken c.args.roles (app_of c.in_ok-command.command) words c.in_ok-command.ensures c.in-Ok.ensures.kinds) is
+    c.invocation_or_explanation.ensures.refused

@@ -5,10 +5,13 @@ use Rattle.hdt_tool.proofs.command_line.request_of.Goals as goal
 
 pub returns-in_default-clause-refused : goal.returns-in_default-clause-refused
 returns-in_default-clause-refused c =
-    IfErr-weaker c.file_request.result _ _
-    (λ r h. of_others c.args.name.now (rows_of (found_of c.args.matches.now)) r c.in_default.not-build c.in_default.not-rewrite h) c.file_request.ensures.refused
+    IfErr-weaker c.query_request.result _ _
+    (λ r h. of_others c.args.name.now
+    (rows_of (found_of c.args.matches.now)) r c.in_default.not-build c.in_default.not-rewrite h)
+    c.query_request.ensures.refused
 
 pub returns-in-build-clause-refused : goal.returns-in-build-clause-refused
 returns-in-build-clause-refused c =
-    IfErr-weaker c.make_request.result _ _
-    (λ r h. of_making c.args.name.now (rows_of (found_of c.args.matches.now)) r c.in-build.is h) c.make_request.ensures.refused
+    IfErr-weaker c.output_request.result _ _
+    (λ r h. of_making c.args.name.now (rows_of (found_of c.args.matches.now)) r c.in-build.is h)
+    c.output_request.ensures.refused

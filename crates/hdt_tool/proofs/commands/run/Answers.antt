@@ -4,14 +4,8 @@ use Rattle.std.proofs.lemmas.Result.{err_from_is_err_and, on_ok_weaker}
 use Rattle.std.specs.declared.alloc.Global.{Global}
 use Rattle.std.specs.declared.vec.Vec.{Vec}
 use Rattle.hdt_wire.specs.Counted.{inner, failures}
-use Rattle.hdt_build.specs.Options.{AreValidOptions}
-use Rattle.hdt_build.specs.declared.options.Options.{Options}
-use Rattle.hdt_tool.specs.Outcomes.{IfBuild, IsFaultOfBytes, IsFaultOfInput, Yields, YieldsAppended}
-use Rattle.hdt_tool.specs.declared.request.Action.{Action}
-use Rattle.hdt_tool.specs.declared.request.Action.TheVariants.{Rewrite}
 use Rattle.hdt_tool.specs.declared.fault.ToolFault.TheVariants.{BadOptions}
-use Rattle.hdt_tool.proofs.InputFaults.{fault_of_input}
-use Rattle.hdt_tool.proofs.Outputs.{IsWriteFault, completes, no_options, not_bad_writing, nothing_built, only_writing, read_only, restored, rewrites, writes_prefix}
+use Rattle.hdt_tool.proofs.Outputs.{IsWriteFault, completes, if_build, no_options, not_bad_writing, nothing_built, only_writing, read_only, restored, writes_prefix}
 use Rattle.hdt_tool.proofs.Rewriting.{not_error, same_error, still_bad}
 use Rattle.hdt_tool.proofs.commands.run.Goals as goal
 
@@ -19,25 +13,37 @@ pub returns-in_err-line-in-Build-clause-bad : goal.returns-in_err-line-in-Build-
 returns-in_err-line-in-Build-clause-bad g c =
     let p = err_from_is_err_and c.from_residual.result c.from_residual.ensures.1 in
     let fault = c.in_err-line-in-Build.field-0.0 in
-    rw (p.1, p.2) (still_bad {T = Vec ℕ Global} {U = Unit {0}} c.args.request.now.action (Err fault) (Err fault) (same_error fault BadOptions) (same_error fault BadOptions)
-    (subst (λ (a : Action). IfBuild a (λ (options : Options). IsErrOf {T = Vec ℕ Global} (Err fault) BadOptions ↔ (AreValidOptions options → ⊥))) (sym c.in-Build.is)
-    c.in_err-line-in-Build.ensures.bad))
+    rw (p.1, p.2) (still_bad {T = Vec ℕ Global} {U =
+    Unit {0}} c.args.request.now.action (Err fault) (Err fault) (same_error fault BadOptions)
+    (same_error fault BadOptions) c.in_err-line-in-Build.ensures.bad)
+
+pub returns-in_err-line-in-Build-clause-unread : goal.returns-in_err-line-in-Build-clause-unread
+returns-in_err-line-in-Build-clause-unread g c =
+    let p = err_from_is_err_and c.from_residual.result c.from_residual.ensures.1 in
+    let fault = c.in_err-line-in-Build.field-0.0 in
+    rw (p.1, p.2) (if_build c.args.request.now.action _ _
+    (λ options unread is. unread (same_error {T = Unit {0}} {U = Vec ℕ Global} fault BadOptions is))
+    c.in_err-line-in-Build.ensures.unread)
 
 pub returns-in_ok-line-in-Build-clause-ok : goal.returns-in_ok-line-in-Build-clause-ok
 returns-in_ok-line-in-Build-clause-ok g c =
     let left = g.R.Read.remaining in
     let before = left (inner c.args.input.now) in
-    let after = left (inner c.build_file.new.input) in
+    let after = left (inner c.make_file.new.input) in
     let old = g.W.Write.contents (inner c.args.out.now) in
     let new = g.W.Write.contents (inner c.write_text.new.out) in
     let made = c.args.made.now.items in
     let line = c.in_ok-line-in-Build.line.items in
     let result = c.truncate_on_error.result in
     let same = c.truncate_on_error.ensures.same in
-    completes result c.args.request.now.action before after old new line made c.build_file.new.made.items c.truncate_on_error.new.out.items
-    (subst (λ (a : Action). YieldsAppended a before after line made c.build_file.new.made.items) (sym c.in-Build.is) c.in_ok-line-in-Build.ensures.ok)
-    (subst (λ r. OnOk r (Appends old new line)) (sym same) (subst (λ (text : List ℕ). OnOk c.write_text.result (Appends old new text)) c.deref.ensures.value c.write_text.ensures.ok))
-    (subst (λ r. OnOk r (c.truncate_on_error.new.out.items ≡ c.build_file.new.made.items)) (sym same) (on_ok_weaker c.write_text.result (ap (λ v. v.items)) c.truncate_on_error.ensures.ok))
+    completes result c.args.request.now.action before after old new line made c.make_file.new.made.items
+    c.truncate_on_error.new.out.items
+    c.in_ok-line-in-Build.ensures.ok
+    (subst (λ r. OnOk r (Appends old new line)) (sym same)
+    (subst (λ (text : List ℕ). OnOk c.write_text.result (Appends old new text)) c.deref.ensures.value
+    c.write_text.ensures.ok))
+    (subst (λ r. OnOk r (c.truncate_on_error.new.out.items ≡ c.make_file.new.made.items)) (sym same)
+    (on_ok_weaker c.write_text.result (ap (λ v. v.items)) c.truncate_on_error.ensures.ok))
 
 pub returns-in_ok-line-in-Build-clause-bad : goal.returns-in_ok-line-in-Build-clause-bad
 returns-in_ok-line-in-Build-clause-bad g c =
@@ -46,23 +52,34 @@ returns-in_ok-line-in-Build-clause-bad g c =
     let line = c.in_ok-line-in-Build.line in
     let same = c.truncate_on_error.ensures.same in
     still_bad c.args.request.now.action (Ok line) c.truncate_on_error.result (not_error line BadOptions)
-    (λ is. absurd (not_bad_writing c.write_text.result old new c.deref.result.now (failures c.args.out.now) (failures c.write_text.new.out) c.write_text.ensures.failed (sym same ∙ is)))
-    (subst (λ (a : Action). IfBuild a (λ (options : Options). IsErrOf (Ok line) BadOptions ↔ (AreValidOptions options → ⊥))) (sym c.in-Build.is) c.in_ok-line-in-Build.ensures.bad)
+    (λ is. absurd (not_bad_writing c.write_text.result old new c.deref.result.now (failures c.args.out.now)
+    (failures c.write_text.new.out) c.write_text.ensures.failed (sym same ∙ is)))
+    c.in_ok-line-in-Build.ensures.bad
+
+pub returns-in_ok-line-in-Build-clause-unread : goal.returns-in_ok-line-in-Build-clause-unread
+returns-in_ok-line-in-Build-clause-unread g c =
+    let old = g.W.Write.contents (inner c.args.out.now) in
+    let new = g.W.Write.contents (inner c.write_text.new.out) in
+    if_build c.args.request.now.action _ _
+    (λ options _ is. absurd (not_bad_writing c.write_text.result old new c.deref.result.now
+    (failures c.args.out.now) (failures c.write_text.new.out) c.write_text.ensures.failed
+    (sym c.truncate_on_error.ensures.same ∙ is))) c.in_ok-line-in-Build.ensures.unread
 
 pub returns-in_ok-line-in-Build-clause-write : goal.returns-in_ok-line-in-Build-clause-write
 returns-in_ok-line-in-Build-clause-write g c =
     let left = g.R.Read.remaining in
     let before = left (inner c.args.input.now) in
-    let after = left (inner c.build_file.new.input) in
+    let after = left (inner c.make_file.new.input) in
     let old = g.W.Write.contents (inner c.args.out.now) in
     let new = g.W.Write.contents (inner c.write_text.new.out) in
     let f = failures c.args.out.now in
     let f' = failures c.write_text.new.out in
     let line = c.in_ok-line-in-Build.line.items in
     let makes = c.in_ok-line-in-Build.ensures.ok in
-    let fails = subst (λ (text : List ℕ). IfErr c.write_text.result (IsWriteFault text old new f f')) c.deref.ensures.value c.write_text.ensures.failed in
+    let fails = subst (λ (text : List ℕ). IfErr c.write_text.result (IsWriteFault text old new f f'))
+    c.deref.ensures.value c.write_text.ensures.failed in
     writes_prefix c.truncate_on_error.result c.args.request.now.action before after old new line makes.built f f'
-    (subst (λ (a : Action). Yields a before after line makes.built) (sym c.in-Build.is) makes.yields)
+    makes.yields
     (subst (λ r. IfErr r (IsWriteFault line old new f f')) (sym c.truncate_on_error.ensures.same) fails)
 
 pub returns-in_ok-line-in-Build-clause-unwritten : goal.returns-in_ok-line-in-Build-clause-unwritten
@@ -72,80 +89,19 @@ returns-in_ok-line-in-Build-clause-unwritten g c =
     let f = failures c.args.out.now in
     let f' = failures c.write_text.new.out in
     only_writing _ c.truncate_on_error.result old new c.deref.result.now f f'
-    (subst (λ r. IfErr r (IsWriteFault c.deref.result.now old new f f')) (sym c.truncate_on_error.ensures.same) c.write_text.ensures.failed)
+    (subst (λ r. IfErr r (IsWriteFault c.deref.result.now old new f f'))
+    (sym c.truncate_on_error.ensures.same) c.write_text.ensures.failed)
 
-pub returns-in_err-line-in-Rewrite-clause-told : goal.returns-in_err-line-in-Rewrite-clause-told
-returns-in_err-line-in-Rewrite-clause-told g c =
-    let left = g.R.Read.remaining in
-    let before = left (inner c.args.input.now) in
-    let after = left (inner c.read_all.new.input) in
-    let b = c.in-Rewrite.block_size in
-    let bytes = c.in_ok-bytes-in-Rewrite.bytes.items in
-    let fault = c.in_err-line-in-Rewrite.field-0.0 in
-    let p = err_from_is_err_and c.from_residual-in_err-line-in-Rewrite.result c.from_residual-in_err-line-in-Rewrite.ensures.1 in
-    rw (p.1, p.2) (subst (λ (a : Action). IsFaultOfInput a before after fault) (sym c.in-Rewrite.is)
-    (fault_of_input (Rewrite b) before after bytes fault c.in_ok-bytes-in-Rewrite.ensures.ok
-    (subst (λ (bytes : List ℕ). IsFaultOfBytes (Rewrite b) bytes fault) c.deref-in-Rewrite.ensures.value c.in_err-line-in-Rewrite.ensures.told)))
-
-pub returns-in_ok-line-in-Rewrite-clause-ok : goal.returns-in_ok-line-in-Rewrite-clause-ok
-returns-in_ok-line-in-Rewrite-clause-ok g c =
-    let left = g.R.Read.remaining in
-    let before = left (inner c.args.input.now) in
-    let after = left (inner c.read_all.new.input) in
-    let old = g.W.Write.contents (inner c.args.out.now) in
-    let new = g.W.Write.contents (inner c.write_text-in-Rewrite.new.out) in
+pub returns-in_ok-line-in-Build-clause-unchanged : goal.returns-in_ok-line-in-Build-clause-unchanged
+returns-in_ok-line-in-Build-clause-unchanged g c =
     let made = c.args.made.now.items in
-    let more = c.rewrite_file.new.made.items in
-    let line = c.in_ok-line-in-Rewrite.line.items in
-    let last = c.truncate_on_error-in-Rewrite.new.out.items in
-    let same = c.truncate_on_error-in-Rewrite.ensures.same in
-    completes c.truncate_on_error-in-Rewrite.result c.args.request.now.action before after old new line made more last
-    (subst (λ (a : Action). YieldsAppended a before after line made more) (sym c.in-Rewrite.is)
-    (rewrites c.in-Rewrite.block_size before after c.in_ok-bytes-in-Rewrite.bytes.items c.deref-in-Rewrite.result.now line made more c.in_ok-bytes-in-Rewrite.ensures.ok
-    c.deref-in-Rewrite.ensures.value c.in_ok-line-in-Rewrite.ensures.ok))
-    (subst (λ r. OnOk r (Appends old new line)) (sym same)
-    (subst (λ (text : List ℕ). OnOk c.write_text-in-Rewrite.result (Appends old new text)) c.deref-in-Rewrite-2.ensures.value c.write_text-in-Rewrite.ensures.ok))
-    (subst (λ r. OnOk r (last ≡ more)) (sym same) (on_ok_weaker c.write_text-in-Rewrite.result (ap (λ v. v.items)) c.truncate_on_error-in-Rewrite.ensures.ok))
-
-pub returns-in_ok-line-in-Rewrite-clause-write : goal.returns-in_ok-line-in-Rewrite-clause-write
-returns-in_ok-line-in-Rewrite-clause-write g c =
-    let left = g.R.Read.remaining in
-    let before = left (inner c.args.input.now) in
-    let after = left (inner c.read_all.new.input) in
-    let old = g.W.Write.contents (inner c.args.out.now) in
-    let new = g.W.Write.contents (inner c.write_text-in-Rewrite.new.out) in
-    let f = failures c.args.out.now in
-    let f' = failures c.write_text-in-Rewrite.new.out in
-    let line = c.in_ok-line-in-Rewrite.line.items in
-    let makes =
-    rewrites c.in-Rewrite.block_size before after c.in_ok-bytes-in-Rewrite.bytes.items c.deref-in-Rewrite.result.now line c.args.made.now.items c.rewrite_file.new.made.items
-    c.in_ok-bytes-in-Rewrite.ensures.ok c.deref-in-Rewrite.ensures.value c.in_ok-line-in-Rewrite.ensures.ok in
-    let fails =
-    subst (λ (text : List ℕ). IfErr c.write_text-in-Rewrite.result (IsWriteFault text old new f f')) c.deref-in-Rewrite-2.ensures.value c.write_text-in-Rewrite.ensures.failed in
-    writes_prefix c.truncate_on_error-in-Rewrite.result c.args.request.now.action before after old new line makes.built f f'
-    (subst (λ (a : Action). Yields a before after line makes.built) (sym c.in-Rewrite.is) makes.yields)
-    (subst (λ r. IfErr r (IsWriteFault line old new f f')) (sym c.truncate_on_error-in-Rewrite.ensures.same) fails)
-
-pub returns-in_ok-line-in-Rewrite-clause-unwritten : goal.returns-in_ok-line-in-Rewrite-clause-unwritten
-returns-in_ok-line-in-Rewrite-clause-unwritten g c =
-    let old = g.W.Write.contents (inner c.args.out.now) in
-    let new = g.W.Write.contents (inner c.write_text-in-Rewrite.new.out) in
-    let f = failures c.args.out.now in
-    let f' = failures c.write_text-in-Rewrite.new.out in
-    let line = c.deref-in-Rewrite-2.result.now in
-    only_writing _ c.truncate_on_error-in-Rewrite.result old new line f f'
-    (subst (λ r. IfErr r (IsWriteFault line old new f f')) (sym c.truncate_on_error-in-Rewrite.ensures.same) c.write_text-in-Rewrite.ensures.failed)
-
-pub returns-in_ok-line-in-Rewrite-clause-kept : goal.returns-in_ok-line-in-Rewrite-clause-kept
-returns-in_ok-line-in-Rewrite-clause-kept g c =
-    let made = c.args.made.now.items in
-    let more = c.rewrite_file.new.made.items in
-    let last = c.truncate_on_error-in-Rewrite.new.out.items in
-    let start = c.len-start-in-Rewrite.result in
+    let more = c.make_file.new.made.items in
+    let last = c.truncate_on_error.new.out.items in
+    let start = c.len-start.result in
     let long : length made ≡ start = search rules in
-    let made_more = c.in_ok-line-in-Rewrite.ensures.ok in
-    subst (λ r. OnErr r (last ≡ made)) (sym c.truncate_on_error-in-Rewrite.ensures.same)
-    (restored c.write_text-in-Rewrite.result start made made_more.0 more last long made_more.2 c.truncate_on_error-in-Rewrite.ensures.err)
+    let makes = c.in_ok-line-in-Build.ensures.ok in
+    subst (λ r. OnErr r (last ≡ made)) (sym c.truncate_on_error.ensures.same)
+    (restored c.write_text.result start made makes.built more last long makes.made c.truncate_on_error.ensures.err)
 
 pub print_output-requires : goal.print_output-requires
 print_output-requires g c = read_only _ c.in_default.not-Build c.in_default.not-Rewrite
@@ -153,7 +109,9 @@ print_output-requires g c = read_only _ c.in_default.not-Build c.in_default.not-
 pub returns-in_default-clause-ok : goal.returns-in_default-clause-ok
 returns-in_default-clause-ok g c =
     let only = read_only _ c.in_default.not-Build c.in_default.not-Rewrite in
-    on_ok_weaker c.print_output.result (λ h. record { text = h.0; makes = nothing_built _ only _ _ h.0 _ h.1; written = h.2 }) c.print_output.ensures.ok
+    on_ok_weaker c.print_output.result
+    (λ h. record { text = h.0; makes = nothing_built _ only _ _ h.0 _ h.1; written = h.2 })
+    c.print_output.ensures.ok
 
 pub returns-in_default-clause-bad : goal.returns-in_default-clause-bad
 returns-in_default-clause-bad g c = no_options _ _ (read_only _ c.in_default.not-Build c.in_default.not-Rewrite)

@@ -1,5 +1,5 @@
 use Rattle.std.proofs.Common.{length}
-use Rattle.hdt_file.specs.GraphView.{graph_view}
+use Rattle.hdt_file.specs.Graph.{graph_view}
 use Rattle.hdt_tool.proofs.CountLines.{AreWalked}
 use Rattle.hdt_tool.proofs.counts.all_lines.Given as goal
 

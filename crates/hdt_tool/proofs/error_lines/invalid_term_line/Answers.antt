@@ -3,4 +3,6 @@ use Rattle.std.proofs.lemmas.Result.{IfOk-weaker}
 use Rattle.hdt_tool.proofs.error_lines.invalid_term_line.Goals as goal
 
 pub returns : goal.returns
-returns c = IfOk-weaker c.format.result _ _ (λ s h. simp append_assoc (simp (c.name-word.ensures, c.name-name.ensures, c.number-number.ensures) at h)) c.format.ensures.ok
+returns c = IfOk-weaker c.format.result _ _
+    (λ s h. simp append_assoc (simp (c.name-argument.ensures, c.name-name.ensures, c.number-number.ensures) at h))
+    c.format.ensures.ok

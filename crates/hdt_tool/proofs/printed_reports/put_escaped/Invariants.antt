@@ -1,5 +1,5 @@
 use Rattle.std.proofs.Common.{◌≡◌, ◌++◌, take}
-use Rattle.hdt_tool.specs.Escaping.{escaped}
+use Rattle.hdt_tool.specs.PrintedReports.{escaped}
 use Rattle.hdt_tool.proofs.printed_reports.put_escaped.Given as goal
 
 abbrev pub invariant-bytes : goal.invariant-bytes

@@ -2,7 +2,7 @@ use Rattle.std.proofs.Common.{◌≡◌, ◌∷◌, ℕ, List, [], Option, None,
 use Rattle.std.specs.Vec.Iter.{into_iter_items}
 use Rattle.std.proofs.lemmas.Result.{err_from_is_err_and}
 use Rattle.hdt_wire.specs.Counted.{inner}
-use Rattle.hdt_tool.specs.SplitInputs.{SplitsInTurn, StopsHere, StopsInTurn}
+use Rattle.hdt_tool.specs.SplitInputs.{SplitsInTurn, IsFaultOfInputAt, StopsInTurn}
 use Rattle.hdt_tool.proofs.SplitRuns.{alone, mixed, none_left}
 use Rattle.hdt_tool.proofs.splitting.split_inputs.Goals as goal
 
@@ -14,14 +14,17 @@ returns-in_err-report-clause-stopped g c =
     let after = map (λ out. g.W.Write.contents (inner out)) c.split_input.new.outs in
     let fault = c.in_err-report.field-0.0 in
     let all : into_iter_items c.into_iter-input-iterator.result ≡ c.args.inputs.items = search rules in
-    let here : into_iter_items c.inputs.input-iterator ≡ c.in-Some.input ∷ into_iter_items c.next.new.self = search rules in
+    let here : into_iter_items c.inputs.input-iterator ≡ c.in-Some.input ∷ into_iter_items c.next.new.self =
+    search rules in
     let read = ap (λ input. g.R.Read.remaining input) c.new-input.ensures.inner in
     let p = err_from_is_err_and c.from_residual.result c.from_residual.ensures.1 in
     rw (p.1, p.2)
     (subst (λ items. StopsInTurn mode None 0 (map (λ input. g.R.Read.remaining input) items) old after fault) all
     (c.inputs.invariant.1 after fault
-    (subst (λ items. StopsInTurn mode c.inputs.first c.inputs.number (map (λ input. g.R.Read.remaining input) items) before after fault) (sym here)
-    (inl (subst (λ (i : Option (List ℕ)). StopsHere mode c.inputs.first c.inputs.number i before after fault) read
+    (subst (λ items. StopsInTurn mode c.inputs.first c.inputs.number
+    (map (λ input. g.R.Read.remaining input) items) before after fault) (sym here)
+    (inl (subst (λ (i : Option (List ℕ)). IsFaultOfInputAt mode c.inputs.first c.inputs.number i before after fault)
+    read
     (alone mode c.inputs.first c.inputs.number _ before after fault c.in_err-report.ensures.stopped))))))
 
 pub returns-in_err-first-clause-stopped : goal.returns-in_err-first-clause-stopped
@@ -32,15 +35,19 @@ returns-in_err-first-clause-stopped g c =
     let after = map (λ out. g.W.Write.contents (inner out)) c.split_input.new.outs in
     let fault = c.in_err-first.field-0.0 in
     let all : into_iter_items c.into_iter-input-iterator.result ≡ c.args.inputs.items = search rules in
-    let here : into_iter_items c.inputs.input-iterator ≡ c.in-Some.input ∷ into_iter_items c.next.new.self = search rules in
+    let here : into_iter_items c.inputs.input-iterator ≡ c.in-Some.input ∷ into_iter_items c.next.new.self =
+    search rules in
     let read = ap (λ input. g.R.Read.remaining input) c.new-input.ensures.inner in
     let p = err_from_is_err_and c.from_residual-in_err-first.result c.from_residual-in_err-first.ensures.1 in
     rw (p.1, p.2)
     (subst (λ items. StopsInTurn mode None 0 (map (λ input. g.R.Read.remaining input) items) old after fault) all
     (c.inputs.invariant.1 after fault
-    (subst (λ items. StopsInTurn mode c.inputs.first c.inputs.number (map (λ input. g.R.Read.remaining input) items) before after fault) (sym here)
-    (inl (subst (λ (i : Option (List ℕ)). StopsHere mode c.inputs.first c.inputs.number i before after fault) read
-    (mixed mode c.inputs.first c.inputs.number _ before after c.in_ok-report.report fault c.in_ok-report.ensures.ok c.in_err-first.ensures.err.0 c.in_err-first.ensures.err.1))))))
+    (subst (λ items. StopsInTurn mode c.inputs.first c.inputs.number
+    (map (λ input. g.R.Read.remaining input) items) before after fault) (sym here)
+    (inl (subst (λ (i : Option (List ℕ)). IsFaultOfInputAt mode c.inputs.first c.inputs.number i before after fault)
+    read
+    (mixed mode c.inputs.first c.inputs.number _ before after c.in_ok-report.report fault c.in_ok-report.ensures.ok
+    c.in_err-first.ensures.err.0 c.in_err-first.ensures.err.1))))))
 
 pub returns-clause-ok : goal.returns-clause-ok
 returns-clause-ok g c =
@@ -48,7 +55,9 @@ returns-clause-ok g c =
     let old = map (λ out. g.W.Write.contents (inner out)) c.args.outs.now in
     let after = map (λ out. g.W.Write.contents (inner out)) c.inputs.outs in
     let all : into_iter_items c.into_iter-input-iterator.result ≡ c.args.inputs.items = search rules in
-    let ended : into_iter_items c.inputs.input-iterator ≡ [] = none_left (into_iter_items c.inputs.input-iterator) (search rules) in
+    let ended : into_iter_items c.inputs.input-iterator ≡ [] =
+    none_left (into_iter_items c.inputs.input-iterator) (search rules) in
     subst (λ items. SplitsInTurn mode None 0 (map (λ input. g.R.Read.remaining input) items) old after) all
     (c.inputs.invariant.0 after
-    (subst (λ items. SplitsInTurn mode c.inputs.first c.inputs.number (map (λ input. g.R.Read.remaining input) items) after after) (sym ended) refl))
+    (subst (λ items. SplitsInTurn mode c.inputs.first c.inputs.number
+    (map (λ input. g.R.Read.remaining input) items) after after) (sym ended) refl))

@@ -4,44 +4,60 @@ use Rattle.hdt_tool.proofs.status.status_of.Goals as goal
 
 pub returns-then-writes_over_its_input-clause-given : goal.returns-then-writes_over_its_input-clause-given
 returns-then-writes_over_its_input-clause-given c =
-    ends_with (λ words. map string_bytes words.items) c.args.words c.parse_process_arguments.result c.in-Ok.invocation c.print_error_line.result c.in-Ok.is
+    ends_with (λ words. map string_bytes words.items) c.args.words c.parse_process_arguments.result c.in-Ok.invocation
+    c.print_error_line.result c.in-Ok.is
     c.parse_process_arguments.ensures.ok c.parse_process_arguments.ensures.refused
     (inr (c.writes_over_its_input.ensures c.if-writes_over_its_input.true, c.print_error_line.ensures))
 
 pub returns-in-Some-clause-given : goal.returns-in-Some-clause-given
 returns-in-Some-clause-given c =
-    ends_with (λ words. map string_bytes words.items) c.args.words c.parse_process_arguments.result c.in-Ok.invocation c.done.result c.in-Ok.is
-    c.parse_process_arguments.ensures.ok c.parse_process_arguments.ensures.refused (inl (command_status c.make_file_at.result c.done.result c.done.ensures))
+    ends_with (λ words. map string_bytes words.items) c.args.words c.parse_process_arguments.result c.in-Ok.invocation
+    c.command_status.result c.in-Ok.is
+    c.parse_process_arguments.ensures.ok c.parse_process_arguments.ensures.refused
+    (inl (command_status c.make_file_at.result c.command_status.result c.command_status.ensures))
 
 pub returns-in-Answer-clause-given : goal.returns-in-Answer-clause-given
 returns-in-Answer-clause-given c =
-    ends_with (λ words. map string_bytes words.items) c.args.words c.parse_process_arguments.result c.in-Ok.invocation c.run_answer_on_streams.result c.in-Ok.is
+    ends_with (λ words. map string_bytes words.items) c.args.words c.parse_process_arguments.result c.in-Ok.invocation
+    c.run_answer_on_streams.result c.in-Ok.is
     c.parse_process_arguments.ensures.ok c.parse_process_arguments.ensures.refused (inl c.run_answer_on_streams.ensures)
 
 pub returns-in-Lint-clause-given : goal.returns-in-Lint-clause-given
 returns-in-Lint-clause-given c =
-    ends_with (λ words. map string_bytes words.items) c.args.words c.parse_process_arguments.result c.in-Ok.invocation c.lint_path.result c.in-Ok.is
+    ends_with (λ words. map string_bytes words.items) c.args.words c.parse_process_arguments.result c.in-Ok.invocation
+    c.lint_path.result c.in-Ok.is
     c.parse_process_arguments.ensures.ok c.parse_process_arguments.ensures.refused (inl c.lint_path.ensures)
 
 pub returns-in-Split-clause-given : goal.returns-in-Split-clause-given
 returns-in-Split-clause-given c =
-    ends_with (λ words. map string_bytes words.items) c.args.words c.parse_process_arguments.result c.in-Ok.invocation c.run_split.result c.in-Ok.is
+    ends_with (λ words. map string_bytes words.items) c.args.words c.parse_process_arguments.result c.in-Ok.invocation
+    c.run_split.result c.in-Ok.is
     c.parse_process_arguments.ensures.ok c.parse_process_arguments.ensures.refused (inl c.run_split.ensures)
 
-pub returns-in-SkipNonTerms-clause-given : goal.returns-in-SkipNonTerms-clause-given
-returns-in-SkipNonTerms-clause-given c =
-    ends_with (λ words. map string_bytes words.items) c.args.words c.parse_process_arguments.result c.in-Ok.invocation c.run_report_on_streams.result c.in-Ok.is
-    c.parse_process_arguments.ensures.ok c.parse_process_arguments.ensures.refused (inl c.run_report_on_streams.ensures)
+pub returns-in-Err-open_input : goal.returns-in-Err-open_input
+returns-in-Err-open_input c = record {
+  given = ends_with (λ words. map string_bytes words.items) c.args.words c.parse_process_arguments.result
+      c.in-Ok.invocation c.open_failed.result c.in-Ok.is c.parse_process_arguments.ensures.ok
+      c.parse_process_arguments.ensures.refused (inl c.open_failed.ensures.statuses);
+  memory = was_given (λ words. map string_bytes words.items) c.args.words c.parse_process_arguments.result
+      c.in-Ok.invocation _ c.in-Ok.is c.parse_process_arguments.ensures.ok;
+  other = was_given (λ words. map string_bytes words.items) c.args.words c.parse_process_arguments.result
+      c.in-Ok.invocation _ c.in-Ok.is c.parse_process_arguments.ensures.ok;
+}
 
 pub returns-clause-given : goal.returns-clause-given
 returns-clause-given c =
-    ends_with (λ words. map string_bytes words.items) c.args.words c.parse_process_arguments.result c.in-Ok.invocation c.run_query-status.result c.in-Ok.is
-    c.parse_process_arguments.ensures.ok c.parse_process_arguments.ensures.refused (inl c.run_query-status.ensures.statuses)
+    ends_with (λ words. map string_bytes words.items) c.args.words c.parse_process_arguments.result c.in-Ok.invocation
+    c.run_query-status.result c.in-Ok.is
+    c.parse_process_arguments.ensures.ok c.parse_process_arguments.ensures.refused
+    (inl c.run_query-status.ensures.statuses)
 
 pub returns-clause-memory : goal.returns-clause-memory
 returns-clause-memory c =
-    was_given (λ words. map string_bytes words.items) c.args.words c.parse_process_arguments.result c.in-Ok.invocation _ c.in-Ok.is c.parse_process_arguments.ensures.ok
+    was_given (λ words. map string_bytes words.items) c.args.words c.parse_process_arguments.result c.in-Ok.invocation _
+    c.in-Ok.is c.parse_process_arguments.ensures.ok
 
 pub returns-clause-other : goal.returns-clause-other
 returns-clause-other c =
-    was_given (λ words. map string_bytes words.items) c.args.words c.parse_process_arguments.result c.in-Ok.invocation _ c.in-Ok.is c.parse_process_arguments.ensures.ok
+    was_given (λ words. map string_bytes words.items) c.args.words c.parse_process_arguments.result c.in-Ok.invocation _
+    c.in-Ok.is c.parse_process_arguments.ensures.ok

@@ -14,7 +14,8 @@ objects-init c =
     let array_z = numbers_of c.args.array_z.now in
     record {
       before_is = sym (earlier_first bitmap_z array_z);
-      left = checks_from_start (entry_checks bitmap_z array_z (numbers_offsets c.args.array_z.now) c.args.count ObjectRange ObjectsNotAscending) (length array_z);
+      left = checks_from_start (entry_checks bitmap_z array_z
+          (numbers_offsets c.args.array_z.now) c.args.count ObjectRange ObjectsNotAscending) (length array_z);
     }
 
 pub objects-preserved : goal.objects-preserved
@@ -22,16 +23,19 @@ objects-preserved c =
     let l = c.objects in
     let bitmap_z = bits_of c.args.bitmap_z.now in
     let array_z = numbers_of c.args.array_z.now in
-    let row = entry_checks bitmap_z array_z (numbers_offsets c.args.array_z.now) c.args.count ObjectRange ObjectsNotAscending in
+    let row = entry_checks bitmap_z array_z
+    (numbers_offsets c.args.array_z.now) c.args.count ObjectRange ObjectsNotAscending in
     let within = c.len-j-end.ensures in
-    let passed = checks_after_pass row l.j (length array_z) (omega (arith, c.objects-test.true, within)) (sym c.check_entry.ensures ∙ c.in_ok-check_entry.was) in
+    let passed = checks_after_pass row l.j (length array_z) (omega (arith, c.objects-test.true, within))
+    (sym c.check_entry.ensures ∙ c.in_ok-check_entry.was) in
     elim c.if-get.branch [
       | then-get w ↦ record {
         before_is = w.before-is ∙ sym (earlier_marked bitmap_z array_z l.j (c.get.ensures ∙ ap Some w.if-get.true));
         left = sym passed ∙ l.invariant.left;
       }
       | else-get w ↦ record {
-        before_is = w.before-is ∙ c.get-object.ensures ∙ sym (earlier_unmarked bitmap_z array_z l.j (c.get.ensures ∙ ap Some w.if-get.false));
+        before_is = w.before-is ∙ c.get-object.ensures
+            ∙ sym (earlier_unmarked bitmap_z array_z l.j (c.get.ensures ∙ ap Some w.if-get.false));
         left = sym passed ∙ l.invariant.left;
       }
     ]

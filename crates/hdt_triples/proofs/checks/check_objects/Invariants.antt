@@ -8,8 +8,10 @@ use Rattle.hdt_triples.proofs.checks.check_objects.Given as goal
 
 abbrev pub invariant-objects : goal.invariant-objects
 invariant-objects l =
-    let row = entry_checks (bits_of l.bitmap_z) (numbers_of l.array_z) (numbers_offsets l.array_z) l.count ObjectRange ObjectsNotAscending in
+    let row = entry_checks (bits_of l.bitmap_z) (numbers_of l.array_z)
+    (numbers_offsets l.array_z) l.count ObjectRange ObjectsNotAscending in
     record {
       before_is : l.before ≡ previous_in_group (bits_of l.bitmap_z) (numbers_of l.array_z) l.j;
-      left : checks_from row l.j (length (numbers_of l.array_z) - l.j) ≡ checks_from row 0 (length (numbers_of l.array_z));
+      left : checks_from row l.j (length (numbers_of l.array_z) - l.j)
+          ≡ checks_from row 0 (length (numbers_of l.array_z));
     }

@@ -8,15 +8,35 @@ pub marks-init : goal.marks-init
 marks-init c = sym (ones_before_at_0 (bits_of c.args.marks.now))
 
 pub overflow_add-before : goal.overflow_add-before
-overflow_add-before c = omega (arith, c.marks.invariant, ones_before_le (bits_of c.args.marks.now) c.marks.i, c.marks-test.true)
+overflow_add-before c = omega (
+  arith,
+  c.marks.invariant,
+  ones_before_le (bits_of c.args.marks.now) c.marks.i,
+  c.marks-test.true,
+)
 
 pub marks-preserved : goal.marks-preserved
 marks-preserved c =
     let bits = bits_of c.args.marks.now in
     elim c.if-get.branch [
-      | then-get w ↦ omega (arith, w.before-is, c.marks.invariant, ones_before_after_1_bit bits c.marks.i (c.get.ensures ∙ ap Some w.if-get.true))
-      | else-get w ↦ omega (arith, w.before-is, c.marks.invariant, ones_before_after_0_bit bits c.marks.i (c.get.ensures ∙ ap Some w.if-get.false))
+      | then-get w ↦ omega (
+        arith,
+        w.before-is,
+        c.marks.invariant,
+        ones_before_after_1_bit bits c.marks.i (c.get.ensures ∙ ap Some w.if-get.true),
+      )
+      | else-get w ↦ omega (
+        arith,
+        w.before-is,
+        c.marks.invariant,
+        ones_before_after_0_bit bits c.marks.i (c.get.ensures ∙ ap Some w.if-get.false),
+      )
     ]
 
 pub returns-clause-most : goal.returns-clause-most
-returns-clause-most c = omega (arith, c.marks.invariant, ones_before_le (bits_of c.args.marks.now) c.marks.i, c.marks-test.false)
+returns-clause-most c = omega (
+  arith,
+  c.marks.invariant,
+  ones_before_le (bits_of c.args.marks.now) c.marks.i,
+  c.marks-test.false,
+)

@@ -13,7 +13,8 @@ more : (old x r s y : List ℕ) → r ≡ old ++ x → s ≡ r ++ y → s ≡ ol
 more old x r s y e f = f ∙ ap (λ (l : List ℕ). l ++ y) e ∙ append_assoc old x y
 
 regrouped : (k a b c d : List ℕ) → (((k ++ a) ++ b) ++ c) ++ d ≡ k ++ (a ++ (b ++ (c ++ d)))
-regrouped k a b c d = append_assoc ((k ++ a) ++ b) c d ∙ append_assoc (k ++ a) b (c ++ d) ∙ append_assoc k a (b ++ (c ++ d))
+regrouped k a b c d = append_assoc ((k ++ a) ++ b) c d ∙ append_assoc (k ++ a) b (c ++ d)
+    ∙ append_assoc k a (b ++ (c ++ d))
 
 pub returns-clause-ok : goal.returns-clause-ok
 unfolding canonical_sequences sequences_view
@@ -29,5 +30,8 @@ returns-clause-ok c =
     let r3 = more old _ _ _ _ r2 (c.in_ok-put_numbers.ensures.ok ∙ y) in
     on_ok_weaker c.put_numbers-2.result (λ last.
     more old _ _ _ _ r3 (last ∙ z)
-    ∙ ap (λ (l : List ℕ). old ++ l) (regrouped (control kinds.Triples order_property) (bits_encoding made.bitmap_y.items) (bits_encoding made.bitmap_z.items) (numbers_encoding made.array_y.items) (numbers_encoding made.array_z.items)))
+    ∙ ap (λ (l : List ℕ). old
+    ++ l) (regrouped (control kinds.Triples order_property) (bits_encoding made.bitmap_y.items)
+    (bits_encoding made.bitmap_z.items) (numbers_encoding made.array_y.items)
+    (numbers_encoding made.array_z.items)))
     c.put_numbers-2.ensures.ok

@@ -7,4 +7,5 @@ pub returns : goal.returns
 returns c =
     let one = c.in_ok-program-2.ensures ∙ grown c.in_ok-program.ensures c.in_ok-new_head_command.ensures.shape in
     let two = c.in_ok-program-3.ensures ∙ grown one c.in_ok-new_verify_command.ensures.shape in
-    IfOk-weaker c.with_command-3.result _ _ (λ r h. h ∙ grown two c.in_ok-new_info_command.ensures.shape) c.with_command-3.ensures
+    IfOk-weaker c.with_command-3.result _ _ (λ r h. h
+    ∙ grown two c.in_ok-new_info_command.ensures.shape) c.with_command-3.ensures

@@ -7,4 +7,5 @@ pub returns : goal.returns
 returns c =
     let lint = c.in_ok-program-2.ensures ∙ grown c.in_ok-program.ensures c.in_ok-new_lint_command.ensures.shape in
     let one = c.in_ok-program-3.ensures ∙ grown lint c.in_ok-new_split_command.ensures.shape in
-    IfOk-weaker c.with_command-3.result _ _ (λ r h. h ∙ grown one c.in_ok-new_explain_command.ensures.shape) c.with_command-3.ensures
+    IfOk-weaker c.with_command-3.result _ _ (λ r h. h
+    ∙ grown one c.in_ok-new_explain_command.ensures.shape) c.with_command-3.ensures

@@ -10,4 +10,5 @@ abbrev pub decreases-eights : goal.decreases-eights
 decreases-eights l = length l.rest
 
 abbrev pub invariant-loop-byte : goal.invariant-loop-byte
-invariant-loop-byte l = fold crc32_step l.register (drop l.byte-index l.byte-items) ≡ fold crc32_step 0xFFFF_FFFF l.fn.bytes
+invariant-loop-byte l = fold crc32_step l.register (drop l.byte-index l.byte-items)
+    ≡ fold crc32_step 0xFFFF_FFFF l.fn.bytes

@@ -39,34 +39,49 @@ use Rattle.hdt_c.proofs.handle.ResourcePtr.into_raw_box.Code as code
 abbrev stayed : Stays (F.ended).signature.params (F.ended).kept
 stayed = (stay_dropped From yes, tt)
 
-module _ {M : Type 1} {𝓤 : Ura M} (𝓛 : Logic 𝓤) (at_mem : Memory → SProp 𝓤) (run : Routine → Fun 𝓤) (𝓣 : Tables 𝓤 𝓛.H) where
+module _ {M : Type 1} {𝓤 : Ura M} (𝓛 : Logic 𝓤) (at_mem : Memory → SProp 𝓤) (run : Routine
+    → Fun 𝓤) (𝓣 : Tables 𝓤 𝓛.H) where
   open 𝓛 use {H}
 
-  abbrev at_ghost : Ptr → Global → List Val → Option Resource → (walk_of 𝓛 F.ended stayed (F.clauses 𝓛 at_mem run)).Ghost
+  abbrev at_ghost : Ptr → Global → List Val → Option Resource
+      → (walk_of 𝓛 F.ended stayed (F.clauses 𝓛 at_mem run)).Ghost
   at_ghost at alloc vs o = ((tt, tt, tt, (record { at = at; alloc = alloc; value = o }, tt), (vs, tt)), tt)
 
   abbrev never_given : Option Resource
   never_given = None
 
   walk : (at : Ptr) (alloc : Global) (vs : List Val) (o : Option Resource)
-      → ent 𝓤 ((walk_of 𝓛 F.ended stayed (F.clauses 𝓛 at_mem run)).pre (at_ghost at alloc vs o)) (WpFn 𝓤 H 𝓣.C 𝓣.Λ code.function (vs ++ []) ((walk_of 𝓛 F.ended stayed (F.clauses 𝓛 at_mem run)).post (at_ghost at alloc vs o)))
+      → ent 𝓤 ((walk_of 𝓛 F.ended stayed (F.clauses 𝓛 at_mem run)).pre (at_ghost at alloc vs o))
+      (WpFn 𝓤 H 𝓣.C 𝓣.Λ code.function (vs
+      ++ []) ((walk_of 𝓛 F.ended stayed (F.clauses 𝓛 at_mem run)).post (at_ghost at alloc vs o)))
   walk at alloc vs None =
       let z = at_ghost at alloc vs None in
-      qed 𝓛 (raw (on_entry 𝓛 F.signature z.0.0 z.0.1 z.0.3 z.0.4) ∷ raw (fact 𝓤 (IsSome never_given)) ∷ []) ∵ move ! (1 ∷ []) $ heard ! (IsSome never_given) (λ never. absurd (true≢false (sym never)))
+      qed 𝓛 (raw (on_entry 𝓛 F.signature z.0.0 z.0.1 z.0.3 z.0.4) ∷ raw (fact 𝓤 (IsSome never_given)) ∷ []) ∵ move ! (1
+      ∷ []) $ heard ! (IsSome never_given) (λ never. absurd (true≢false (sym never)))
   walk at alloc vs (Some g) =
       let z = at_ghost at alloc vs (Some g) in
       let Post = (walk_of 𝓛 F.ended stayed (F.clauses 𝓛 at_mem run)).post z in
       let v : D E = record { ptr = at; alloc = alloc; value = g } in
       let To = type_at (F.signature).result tt in
       let made : To.Denot = record { ptr = v.ptr; alloc = v.alloc; value = v.value } in
-      qed 𝓛 ((‵ ftrue ⊛ ‵ (fsep ((B E).own_val v vs) ftrue)) ∷ raw (fact 𝓤 (IsSome (Some g))) ∷ []) ∵ split ! $ drop ! $ fsplit ! $
-      box_out E ! v vs (λ b o hv e ws fa. box_in E ! v b o v.value e refl $ use1 𝓛 (‵ (To.own_val made (word E hv b o ∷ []))) (id⊢ 𝓤 _) $ move ! (1 ∷ 2 ∷ []) $ drop ! $ drop ! $
+      qed 𝓛 ((‵ ftrue ⊛ ‵ (fsep ((B E).own_val v vs) ftrue)) ∷ raw (fact 𝓤 (IsSome (Some g)))
+      ∷ []) ∵ split ! $ drop ! $ fsplit ! $
+      box_out E ! v vs (λ b o hv e ws fa. box_in E ! v b o v.value e refl $ use1 𝓛
+      (‵ (To.own_val made (word E hv b o ∷ []))) (id⊢ 𝓤 _) $ move ! (1 ∷ 2 ∷ []) $ drop ! $ drop ! $
       let w = word E hv b o in
       let Γ : List (Item 𝓤) = ‵ (To.own_val made (w ∷ [])) ∷ [] in
       by ! (subst (λ (us : List Val). ent 𝓤 (types.Kit.⋆ 𝓛 Γ) (WpFn 𝓤 H 𝓣.C 𝓣.Λ code.function (us ++ []) Post)) (sym ws)
-      (qed 𝓛 Γ ∵ enter ! 𝓣.C 𝓣.Λ code.function (w ∷ []) _ $ alloc_all ! (λ ls. pass_all ! refl (box_typed E hv b o fa, tt) $
-      sets ! (of_opd ! (get_in ! (fld ! refl (stop !)) (sub ! 0 refl (whole !)))) refl (tt, tt) $ sets ! (of_opd ! (get_in ! (fld ! refl (stop !)) (sub ! 1 refl (whole !)))) refl fa $
-      sets ! (of_opd ! (get ! refl)) refl (tt, tt) $ sets ! (agg ! (and_then ! (get ! refl) (and_then ! (get ! refl) (no_more !)))) refl (box_typed E hv b o fa) $ returns ! (look_at ! 0 refl) $ free_all ! refl $
+      (qed 𝓛 Γ ∵ enter ! 𝓣.C 𝓣.Λ code.function (w ∷ []) _ $ alloc_all !
+      (λ ls. pass_all ! refl (box_typed E hv b o fa, tt) $
+      sets ! (of_opd ! (get_in ! (fld ! refl (stop !)) (sub ! 0 refl (whole !)))) refl (
+        tt,
+        tt,
+      ) $ sets ! (of_opd ! (get_in ! (fld ! refl (stop !)) (sub ! 1 refl (whole !)))) refl fa $
+      sets ! (of_opd ! (get ! refl)) refl (
+        tt,
+        tt,
+      ) $ sets ! (agg ! (and_then ! (get ! refl) (and_then ! (get ! refl) (no_more !)))) refl
+      (box_typed E hv b o fa) $ returns ! (look_at ! 0 refl) $ free_all ! refl $
       suffices ! _ (ends_at 𝓛 F.ended stayed (F.clauses 𝓛 at_mem run) z w made (tt, tt) (tt, tt)) $ says ! refl $
       nothing ! $ nothing ! $ fjoin ! $ join ! $ nothing ! $ join ! $ done !))))
 
@@ -74,6 +89,10 @@ pub into_raw_box_spec : {M : Type 1} → stated.statement M
 unfolding tables_of
 into_raw_box_spec 𝓤 𝓛 𝓜 𝓡 wired =
     let 𝓣 : Tables 𝓤 𝓛.H = tables_of 𝓤 𝓛.H 𝓜 (tables 𝓤 𝓛.H 𝓜 𝓡 𝓡.env) in
-    entered 𝓤 𝓛.H (triple_of 𝓛 F.signature (F.spec 𝓛 𝓜.mem 𝓡.returns)) 𝓣.C 𝓣.Λ #self code.function (code.unfolded 𝓤 𝓛.H 𝓜 𝓡 wired)
-    (walk_Meets 𝓛 F.ended stayed (Goes-dropped 𝓛 0 From yes (λ κs x f. refl), tt) (F.clauses 𝓛 𝓜.mem 𝓡.returns) (WpFn 𝓤 𝓛.H 𝓣.C 𝓣.Λ code.function) (WpFn-mono 𝓤 𝓛.H 𝓛.laws 𝓣 code.function)
+    entered 𝓤 𝓛.H (triple_of 𝓛 F.signature (F.spec 𝓛 𝓜.mem 𝓡.returns)) 𝓣.C 𝓣.Λ #self code.function
+    (code.unfolded 𝓤 𝓛.H 𝓜 𝓡 wired)
+    (walk_Meets 𝓛 F.ended stayed (
+      Goes-dropped 𝓛 0 From yes (λ κs x f. refl),
+      tt,
+    ) (F.clauses 𝓛 𝓜.mem 𝓡.returns) (WpFn 𝓤 𝓛.H 𝓣.C 𝓣.Λ code.function) (WpFn-mono 𝓤 𝓛.H 𝓛.laws 𝓣 code.function)
     (λ z. walk 𝓛 𝓜.mem 𝓡.returns 𝓣 z.0.3.0.at z.0.3.0.alloc z.0.4.0 z.0.3.0.value))

@@ -51,27 +51,37 @@ pair_typed : (p : Ptr) (h : Val) → Fits E.al h → T (has_ty (box_ty E) (pair 
 pair_typed (block_ptr b o) h fa = box_typed E h b o fa
 pair_typed null_ptr h fa = (and_tt (has_ty (α E.al) h) fa.0, (record { fits = omega arith }, (fa.1, tt)))
 
-module _ {M : Type 1} {𝓤 : Ura M} (𝓛 : Logic 𝓤) (at_mem : Memory → SProp 𝓤) (run : Routine → Fun 𝓤) (𝓣 : Tables 𝓤 𝓛.H) where
+module _ {M : Type 1} {𝓤 : Ura M} (𝓛 : Logic 𝓤) (at_mem : Memory → SProp 𝓤) (run : Routine
+    → Fun 𝓤) (𝓣 : Tables 𝓤 𝓛.H) where
   open 𝓛 use {H}
 
   abbrev at_ghost : Global → List Val → (walk_of 𝓛 F.ended stayed (F.clauses 𝓛 at_mem run)).Ghost
   at_ghost a vs = ((tt, tt, tt, (a, tt), (vs, tt)), tt)
 
   walk : (a : Global) (vs : List Val)
-      → ent 𝓤 ((walk_of 𝓛 F.ended stayed (F.clauses 𝓛 at_mem run)).pre (at_ghost a vs)) (WpFn 𝓤 H 𝓣.C 𝓣.Λ code.function (vs ++ []) ((walk_of 𝓛 F.ended stayed (F.clauses 𝓛 at_mem run)).post (at_ghost a vs)))
+      → ent 𝓤 ((walk_of 𝓛 F.ended stayed (F.clauses 𝓛 at_mem run)).pre (at_ghost a vs))
+      (WpFn 𝓤 H 𝓣.C 𝓣.Λ code.function (vs
+      ++ []) ((walk_of 𝓛 F.ended stayed (F.clauses 𝓛 at_mem run)).post (at_ghost a vs)))
   walk a vs =
       let z = at_ghost a vs in
       let Post = (walk_of 𝓛 F.ended stayed (F.clauses 𝓛 at_mem run)).post z in
       let made : (ResourcePtr.the_row).Denot = record { at = null_ptr; alloc = a; value = None } in
-      qed 𝓛 ((‵ ftrue ⊛ ‵ (owns (Heap.the_row ∷ []) (a, tt) (vs, tt))) ∷ raw (emp 𝓤) ∷ []) ∵ split ! $ drop ! $ fsplit ! $
+      qed 𝓛 ((‵ ftrue ⊛ ‵ (owns (Heap.the_row ∷ []) (a, tt) (vs, tt))) ∷ raw (emp 𝓤)
+      ∷ []) ∵ split ! $ drop ! $ fsplit ! $
       handle_tells E.al ! a vs (λ hv ea fa. move ! (1 ∷ 2 ∷ []) $ drop ! $ drop ! $
       let w = pair null_ptr hv in
       let Γ : List (Item 𝓤) = ‵ ((Heap.the_row).own_val a (hv ∷ [])) ∷ [] in
       by ! (subst (λ (ws : List Val). ent 𝓤 (types.Kit.⋆ 𝓛 Γ) (WpFn 𝓤 H 𝓣.C 𝓣.Λ code.function (ws ++ []) Post)) (sym ea)
       (qed 𝓛 Γ ∵ enter ! 𝓣.C 𝓣.Λ code.function (hv ∷ []) _ $ alloc_all ! (λ ls. pass_all ! refl (fa, tt) $
-      sets ! (agg ! (and_then ! (lit ! tt) (and_then ! (get ! refl) (no_more !)))) refl (pair_typed null_ptr hv fa) $ returns ! (look_at ! 0 refl) $ free_all ! refl $
-      nothing ! $ nothing ! $ move ! (2 ∷ 0 ∷ []) $ fjoin ! $ feq_i ! (List Val) (ptr_val null_ptr ∷ []) (ptr_val null_ptr ∷ []) refl $ fjoin ! $ feq_i ! (List Val) (w ∷ []) (w ∷ []) refl $ fjoin ! $
-      fpack ! (Valss (RawPtr ∷ Heap.the_row ∷ [])) (within (shape ResourcePtr.the_type) (null_ptr, (((tt, tt), tt), tt)) (w ∷ [])) (ptr_val null_ptr ∷ [], (hv ∷ [], tt)) $ fjoin ! $
+      sets ! (agg ! (and_then ! (lit ! tt) (and_then ! (get ! refl) (no_more !)))) refl
+      (pair_typed null_ptr hv fa) $ returns ! (look_at ! 0 refl) $ free_all ! refl $
+      nothing ! $ nothing ! $ move ! (2 ∷ 0 ∷ []) $ fjoin ! $ feq_i ! (List Val) (ptr_val null_ptr
+      ∷ []) (ptr_val null_ptr ∷ []) refl $ fjoin ! $ feq_i ! (List Val) (w ∷ []) (w ∷ []) refl $ fjoin ! $
+      fpack ! (Valss (RawPtr ∷ Heap.the_row ∷ []))
+      (within (shape ResourcePtr.the_type) (null_ptr, (((tt, tt), tt), tt)) (w ∷ [])) (
+        ptr_val null_ptr ∷ [],
+        (hv ∷ [], tt),
+      ) $ fjoin ! $
       use1 𝓛 (‵ ((ResourcePtr.the_row).own_val made (w ∷ []))) (id⊢ 𝓤 _) $
       suffices ! _ (ends_at 𝓛 F.ended stayed (F.clauses 𝓛 at_mem run) z w made (tt, tt) (tt, tt)) $ says ! refl $
       nothing ! $ nothing ! $ fjoin ! $ join ! $ nothing ! $ join ! $ done !))))
@@ -80,6 +90,10 @@ pub none_spec : {M : Type 1} → stated.statement M
 unfolding tables_of
 none_spec 𝓤 𝓛 𝓜 𝓡 wired =
     let 𝓣 : Tables 𝓤 𝓛.H = tables_of 𝓤 𝓛.H 𝓜 (tables 𝓤 𝓛.H 𝓜 𝓡 𝓡.env) in
-    entered 𝓤 𝓛.H (triple_of 𝓛 F.signature (F.spec 𝓛 𝓜.mem 𝓡.returns)) 𝓣.C 𝓣.Λ #self code.function (code.unfolded 𝓤 𝓛.H 𝓜 𝓡 wired)
-    (walk_Meets 𝓛 F.ended stayed (Goes-dropped 𝓛 0 (plain (λ _. Heap.the_row)) yes (λ κs x f. refl), tt) (F.clauses 𝓛 𝓜.mem 𝓡.returns) (WpFn 𝓤 𝓛.H 𝓣.C 𝓣.Λ code.function) (WpFn-mono 𝓤 𝓛.H 𝓛.laws 𝓣 code.function)
+    entered 𝓤 𝓛.H (triple_of 𝓛 F.signature (F.spec 𝓛 𝓜.mem 𝓡.returns)) 𝓣.C 𝓣.Λ #self code.function
+    (code.unfolded 𝓤 𝓛.H 𝓜 𝓡 wired)
+    (walk_Meets 𝓛 F.ended stayed (
+      Goes-dropped 𝓛 0 (plain (λ _. Heap.the_row)) yes (λ κs x f. refl),
+      tt,
+    ) (F.clauses 𝓛 𝓜.mem 𝓡.returns) (WpFn 𝓤 𝓛.H 𝓣.C 𝓣.Λ code.function) (WpFn-mono 𝓤 𝓛.H 𝓛.laws 𝓣 code.function)
     (λ z. walk 𝓛 𝓜.mem 𝓡.returns 𝓣 z.0.3.0 z.0.4.0))

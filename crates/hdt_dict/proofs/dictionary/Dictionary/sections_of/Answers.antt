@@ -9,7 +9,24 @@ pub invariant_of-result : goal.invariant_of-result
 invariant_of-result c =
     let d = c.args.self.now in
     elim c.match-role.branch [
-      | in-Subject w ↦ rw w.result-is (record { few = omega (arith, d.subjects_fit, length-append (strings_of d.shared) (strings_of d.subjects)); apart = shared_subjects d })
-      | in-Predicate w ↦ rw w.result-is (record { few = omega (arith, count_is d.predicates, d.predicates.packed.counted, length-append (strings_of d.predicates) []); apart = λ x a b. absurd (omega (arith, b.1)) })
-      | in-Object w ↦ rw w.result-is (record { few = omega (arith, d.objects_fit, length-append (strings_of d.shared) (strings_of d.objects)); apart = shared_objects d })
+      | in-Subject w ↦ rw w.result-is
+          (record {
+            few = omega (arith, d.subjects_fit, length-append (strings_of d.shared) (strings_of d.subjects));
+            apart = shared_subjects d;
+          })
+      | in-Predicate w ↦ rw w.result-is
+          (record {
+            few = omega (
+              arith,
+              count_is d.predicates,
+              d.predicates.packed.counted,
+              length-append (strings_of d.predicates) [],
+            );
+            apart = λ x a b. absurd (omega (arith, b.1));
+          })
+      | in-Object w ↦ rw w.result-is
+          (record {
+            few = omega (arith, d.objects_fit, length-append (strings_of d.shared) (strings_of d.objects));
+            apart = shared_objects d;
+          })
     ]

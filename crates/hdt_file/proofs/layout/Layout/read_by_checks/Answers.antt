@@ -1,13 +1,16 @@
 use Rattle.std.proofs.Common.{ap, arith}
 use Rattle.hdt_wire.specs.declared.role.Role.TheVariants.{Subject, Predicate, Object}
-use Rattle.hdt_triples.specs.TripleSequences.{Counts}
+use Rattle.hdt_triples.specs.declared.pattern.Counts.{Counts}
 use Rattle.hdt_file.proofs.layout.Layout.read_by_checks.Goals as goal
 
 pub read-requires-clause-subjects : goal.read-requires-clause-subjects
-read-requires-clause-subjects c = omega (arith, ap (λ (n : Counts). n.subjects) c.dictionary_counts.ensures, c.in_ok-head.ensures.few Subject)
+read-requires-clause-subjects c =
+    omega (arith, ap (λ (n : Counts). n.subjects) c.dictionary_counts.ensures, c.in_ok-head.ensures.few Subject)
 
 pub read-requires-clause-predicates : goal.read-requires-clause-predicates
-read-requires-clause-predicates c = omega (arith, ap (λ (n : Counts). n.predicates) c.dictionary_counts.ensures, c.in_ok-head.ensures.few Predicate)
+read-requires-clause-predicates c =
+    omega (arith, ap (λ (n : Counts). n.predicates) c.dictionary_counts.ensures, c.in_ok-head.ensures.few Predicate)
 
 pub read-requires-clause-objects : goal.read-requires-clause-objects
-read-requires-clause-objects c = omega (arith, ap (λ (n : Counts). n.objects) c.dictionary_counts.ensures, c.in_ok-head.ensures.few Object)
+read-requires-clause-objects c =
+    omega (arith, ap (λ (n : Counts). n.objects) c.dictionary_counts.ensures, c.in_ok-head.ensures.few Object)

@@ -12,8 +12,13 @@ returns-in-Some-clause-exact c =
     let kept : ℕ = c.in-Some.kept in
     let len : ℕ = c.in-Some.len in
     let behind : take (length rest - 1) (drop 1 rest) ≡ drop 1 rest = take_rest rest 1 in
-    let entry : IsAsciiEntry before rest kept len = subst (λ (l : List ℕ). IsAsciiEntry l rest kept len) c.deref.ensures.value c.in-Some.ensures in
-    let string : c.decode_over.new.string.items ≡ take kept before ++ take len (drop 1 rest) = c.in_ok-decode_over.ensures.ok ∙ ap (λ (t : List ℕ). take kept before ++ take len t) behind in
-    ascii_entry_check (block_layout c.args.self.now) c.args.i before rest kept len (λ e. omega (arith, e, c.requires.inside, c.if-inside-gt0.true)) entry
+    let entry : IsAsciiEntry before rest kept len =
+    subst (λ (l : List ℕ). IsAsciiEntry l rest kept len) c.deref.ensures.value c.in-Some.ensures in
+    let string : c.decode_over.new.string.items ≡ take kept before ++ take len (drop 1 rest) =
+    c.in_ok-decode_over.ensures.ok ∙ ap (λ (t : List ℕ). take kept before ++ take len t) behind in
+    ascii_entry_check (block_layout c.args.self.now) c.args.i before rest kept len
+    (λ e. omega (arith, e, c.requires.index, c.if-index_in_block-gt0.true)) entry
     ∙ ap (λ (s : List ℕ). Ok (s, drop (len + 1) (drop 1 rest))) (sym string)
-    ∙ ap (λ (t : List ℕ). Ok (c.decode_over.new.string.items, t)) (sym (take_rest (take (length rest - 1) (drop 1 rest)) (len + 1) ∙ ap (λ (t : List ℕ). drop (len + 1) t) behind))
+    ∙ ap (λ (t : List ℕ). Ok (c.decode_over.new.string.items, t))
+    (sym (take_rest (take (length rest - 1) (drop 1 rest)) (len + 1)
+    ∙ ap (λ (t : List ℕ). drop (len + 1) t) behind))

@@ -7,4 +7,4 @@ pub returns-then-packed-eq0 : goal.returns-then-packed-eq0
 unfolding blocks_of
 returns-then-packed-eq0 c =
     let p = c.args.self.now.packed in
-    sym (ap (λ (n : ℕ). (n + (p.block - 1)) / p.block) c.if-packed-eq0.true ∙ no_strings p.block)
+    sym (ap (λ (n : ℕ). (n + (p.block_size - 1)) / p.block_size) c.if-packed-eq0.true ∙ no_strings p.block_size)

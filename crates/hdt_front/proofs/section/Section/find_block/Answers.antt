@@ -7,10 +7,17 @@ pub compare_head-order-requires-clause-so_far : goal.compare_head-order-requires
 compare_head-order-requires-clause-so_far c =
     let l = c.loop-low in
     let v = l.invariant in
-    let far = heads_between c.args.self.now c.args.x.now l.low (l.low + (l.high - l.low) / 2) l.high l.same l.above (omega arith) (omega (arith, c.loop-low-test)) v.inside v.some_low (λ h. (v.before h).same) v.some_high v.above in
+    let far = heads_between c.args.self.now c.args.x.now l.low (l.low + (l.high - l.low) / 2) l.high l.same l.above
+    (omega arith) (omega (arith, c.loop-low-test)) v.inside v.some_low
+    (λ h. (v.before h).same) v.some_high v.above in
     omega (arith, c.min-from.ensures, least l.same l.above, far)
 
 pub returns-in-Same-clause-cost : goal.returns-in-Same-clause-cost
 returns-in-Same-clause-cost c =
     let l = c.loop-low in
-    omega (arith, c.compare_head-order.ensures.cost, l.invariant.cost, digits_split (l.high - l.low) 0 (omega arith) (omega arith))
+    omega (
+      arith,
+      c.compare_head-order.ensures.cost,
+      l.invariant.cost,
+      digits_split (l.high - l.low) 0 (omega arith) (omega arith),
+    )

@@ -4,20 +4,24 @@ use Rattle.std.specs.declared.cmp.Ordering.TheVariants.{Greater}
 use Rattle.hdt_front.specs.Strings.{strings_of, blocks_of}
 use Rattle.hdt_seq.specs.Width.{digits}
 use Rattle.hdt_front.specs.EntryFacts.{bytes_from_entry}
-use Rattle.hdt_front.specs.Searching.{lcp_len, IsBefore, Compares}
+use Rattle.hdt_front.specs.Inside.Searching.{IsBefore, Compares}
+use Rattle.hdt_front.specs.Order.{lcp_len}
 use Rattle.hdt_front.proofs.section.Section.find_block.Given as goal
 
 abbrev pub invariant-loop-low : goal.invariant-loop-low
 invariant-loop-low l = record {
   in_order : l.low ≤ l.high;
   inside : l.high ≤ blocks_of l.self;
-  before : 0 < l.low → IsBefore l.past (get_or (strings_of l.self) ((l.low - 1) * l.self.packed.block) []) l.x l.same;
+  before : 0 < l.low → IsBefore l.past (get_or (strings_of l.self) ((l.low - 1) * l.self.packed.block_size) []) l.x
+      l.same;
   ends : 0 < l.low → len_before_zero l.last < length l.last;
-  rest : 0 < l.low → drop (len_before_zero l.last + 1) l.last ≡ bytes_from_entry l.self.packed.block ((l.low - 1) * l.self.packed.block + 1) l.self.packed.bytes.now;
-  next : l.high < blocks_of l.self → Compares l.past (get_or (strings_of l.self) (l.high * l.self.packed.block) []) l.x Greater;
+  rest : 0 < l.low → drop (len_before_zero l.last + 1) l.last
+      ≡ bytes_from_entry l.self.packed.block_size ((l.low - 1) * l.self.packed.block_size + 1) l.self.packed.bytes.now;
+  next : l.high < blocks_of l.self
+      → Compares l.past (get_or (strings_of l.self) (l.high * l.self.packed.block_size) []) l.x Greater;
   some_low : 0 < l.same → 0 < l.low;
   some_high : 0 < l.above → l.high < blocks_of l.self;
-  above : 0 < l.above → lcp_len (get_or (strings_of l.self) (l.high * l.self.packed.block) []) l.x ≡ l.above;
+  above : 0 < l.above → lcp_len (get_or (strings_of l.self) (l.high * l.self.packed.block_size) []) l.x ≡ l.above;
   cost : l.steps + digits (l.high - l.low) ≤ l.fn.steps + digits (blocks_of l.self);
   more : l.fn.steps ≤ l.steps;
 }

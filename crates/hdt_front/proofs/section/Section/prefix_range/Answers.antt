@@ -10,33 +10,40 @@ pub returns-then-blocks-eq0-clause-range : goal.returns-then-blocks-eq0-clause-r
 unfolding blocks_of
 returns-then-blocks-eq0-clause-range c =
     let s = c.args.self.now in let p = c.args.self.now.packed in
-    let none : p.count ≡ 0 = no_blocks p.count p.block p.some (sym c.blocks-2.ensures ∙ c.if-blocks-eq0.true) in
+    let none : p.count ≡ 0 = no_blocks p.count p.block_size p.some (sym c.blocks-2.ensures ∙ c.if-blocks-eq0.true) in
     none_there (strings_of s) c.args.prefix.now (count_is s ∙ none)
 
 pub returns-then-len_before_zero-prefix-clause-range : goal.returns-then-len_before_zero-prefix-clause-range
-returns-then-len_before_zero-prefix-clause-range c = none_begins c.args.self.now c.args.prefix.now (omega (arith, c.len_before_zero.ensures.len, c.if-len_before_zero-prefix.true))
+returns-then-len_before_zero-prefix-clause-range c =
+    none_begins c.args.self.now c.args.prefix.now
+    (omega (arith, c.len_before_zero.ensures.len, c.if-len_before_zero-prefix.true))
 
 pub overflow_add-result : goal.overflow_add-result
 overflow_add-result c =
-    let few : length (strings_of c.args.self.now) < 2 ^ 63 = omega (arith, few_strings c.args.self.now, c.is_short.ensures) in
+    let few : length (strings_of c.args.self.now) < 2 ^ 63 =
+    omega (arith, few_strings c.args.self.now, c.slice_len_is_below_2_63.ensures) in
     omega (arith, few, c.boundary-start.ensures.place.within)
 
 pub overflow_add-result-2 : goal.overflow_add-result-2
 overflow_add-result-2 c =
-    let few : length (strings_of c.args.self.now) < 2 ^ 63 = omega (arith, few_strings c.args.self.now, c.is_short.ensures) in
+    let few : length (strings_of c.args.self.now) < 2 ^ 63 =
+    omega (arith, few_strings c.args.self.now, c.slice_len_is_below_2_63.ensures) in
     omega (arith, few, c.boundary-end.ensures.place.within)
 
 pub returns-clause-range : goal.returns-clause-range
 unfolding strings_of
 returns-clause-range c =
     let s = c.args.self.now in let p = c.args.self.now.packed in
-    between c.args.prefix.now (strings_of s) c.boundary-start.result c.boundary-end.result (ascends (block_layout p) p.count p.bytes.now s.read) c.boundary-start.ensures.place c.boundary-end.ensures.place
+    between c.args.prefix.now (strings_of s) c.boundary-start.result c.boundary-end.result
+    (ascends (block_layout p) p.count p.bytes.now s.read) c.boundary-start.ensures.place
+    c.boundary-end.ensures.place
 
 pub returns-then-blocks-eq0-clause-few : goal.returns-then-blocks-eq0-clause-few
-returns-then-blocks-eq0-clause-few c = omega (arith, few_strings c.args.self.now, c.is_short.ensures)
+returns-then-blocks-eq0-clause-few c = omega (arith, few_strings c.args.self.now, c.slice_len_is_below_2_63.ensures)
 
 pub returns-then-len_before_zero-prefix-clause-few : goal.returns-then-len_before_zero-prefix-clause-few
-returns-then-len_before_zero-prefix-clause-few c = omega (arith, few_strings c.args.self.now, c.is_short.ensures)
+returns-then-len_before_zero-prefix-clause-few c =
+    omega (arith, few_strings c.args.self.now, c.slice_len_is_below_2_63.ensures)
 
 pub returns-clause-few : goal.returns-clause-few
-returns-clause-few c = omega (arith, few_strings c.args.self.now, c.is_short.ensures)
+returns-clause-few c = omega (arith, few_strings c.args.self.now, c.slice_len_is_below_2_63.ensures)

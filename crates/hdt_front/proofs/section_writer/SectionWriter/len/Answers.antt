@@ -6,4 +6,5 @@ use Rattle.hdt_front.proofs.section_writer.SectionWriter.len.Goals as goal
 pub returns : goal.returns
 returns c =
     let s = c.self.inside in
-    sym (length-decoded_strings s.block_size s.count 0 [] s.packed.items) ∙ ap (λ (w : SectionWriterState). length w.strings) c.self.view_is
+    sym (length-decoded_strings s.block_size s.count 0 [] s.packed.items)
+    ∙ ap (λ (w : SectionWriterState). length w.strings) c.self.view_is

@@ -10,37 +10,51 @@ use Rattle.hdt_front.proofs.seeker.Seeker.advance.Goals as goal
 pub nonzero_rem-head : goal.nonzero_rem-head
 nonzero_rem-head c =
     let s = c.self.inside.section in
-    let inside : c.self.inside.at < length (strings_of s) = subst (λ (w : SeekerState). w.at < length (strings_of w.section)) (sym c.self.view_is) c.requires in
+    let inside : c.self.inside.at < length (strings_of s) =
+    subst (λ (w : SeekerState). w.at < length (strings_of w.section)) (sym c.self.view_is) c.requires in
     omega (arith, s.packed.some (omega (arith, inside, count_is s)))
 
 pub split_entry-kept-requires : goal.split_entry-kept-requires
 split_entry-kept-requires c =
     let s = c.self.inside.section in
-    let inside : c.self.inside.at < length (strings_of s) = subst (λ (w : SeekerState). w.at < length (strings_of w.section)) (sym c.self.view_is) c.requires in
-    (passes s c.self.inside.at c.self.inside.last.items c.self.inside.rest.now (omega (arith, inside, count_is s)) c.self.invariant.1 c.self.invariant.2).ends
+    let inside : c.self.inside.at < length (strings_of s) =
+    subst (λ (w : SeekerState). w.at < length (strings_of w.section)) (sym c.self.view_is) c.requires in
+    (passes s c.self.inside.at c.self.inside.last.items c.self.inside.rest.now
+    (omega (arith, inside, count_is s)) c.self.invariant.1 c.self.invariant.2).ends
 
 pub overflow_add-self : goal.overflow_add-self
 overflow_add-self c =
     let s = c.self.inside.section in
-    let inside : c.self.inside.at < length (strings_of s) = subst (λ (w : SeekerState). w.at < length (strings_of w.section)) (sym c.self.view_is) c.requires in
+    let inside : c.self.inside.at < length (strings_of s) =
+    subst (λ (w : SeekerState). w.at < length (strings_of w.section)) (sym c.self.view_is) c.requires in
     omega (arith, inside, count_is s, s.packed.counted)
 
 pub invariant_of-self-2 : goal.invariant_of-self-2
 invariant_of-self-2 c =
     let s = c.self.inside.section in
-    let inside : c.self.inside.at < length (strings_of s) = subst (λ (w : SeekerState). w.at < length (strings_of w.section)) (sym c.self.view_is) c.requires in
-    let p = passes s c.self.inside.at c.self.inside.last.items c.self.inside.rest.now (omega (arith, inside, count_is s)) c.self.invariant.1 c.self.invariant.2 in
-    let made = string_made (is_head s.packed.block c.self.inside.at) c.self.inside.last.items c.self.inside.rest.now c.decode_over.new.string.items c.split_entry-kept.result.1.now c.split_entry-kept.result.0
+    let inside : c.self.inside.at < length (strings_of s) =
+    subst (λ (w : SeekerState). w.at < length (strings_of w.section)) (sym c.self.view_is) c.requires in
+    let p = passes s c.self.inside.at c.self.inside.last.items c.self.inside.rest.now
+    (omega (arith, inside, count_is s)) c.self.invariant.1 c.self.invariant.2 in
+    let made = string_made (is_head s.packed.block_size c.self.inside.at) c.self.inside.last.items
+    c.self.inside.rest.now c.decode_over.new.string.items c.split_entry-kept.result.1.now
+    c.split_entry-kept.result.0
     c.in_ok-decode_over.ensures.ok c.split_entry-kept.ensures.kept c.split_entry-kept.ensures.text in
     (omega (arith, inside, count_is s), made ∙ p.string, c.split_entry-kept.ensures.rest ∙ p.after)
 
 pub returns-clause-ok : goal.returns-clause-ok
 returns-clause-ok c =
     let s = c.self.inside.section in
-    let inside : c.self.inside.at < length (strings_of s) = subst (λ (w : SeekerState). w.at < length (strings_of w.section)) (sym c.self.view_is) c.requires in
-    let p = passes s c.self.inside.at c.self.inside.last.items c.self.inside.rest.now (omega (arith, inside, count_is s)) c.self.invariant.1 c.self.invariant.2 in
-    let made = string_made (is_head s.packed.block c.self.inside.at) c.self.inside.last.items c.self.inside.rest.now c.decode_over.new.string.items c.split_entry-kept.result.1.now c.split_entry-kept.result.0
+    let inside : c.self.inside.at < length (strings_of s) =
+    subst (λ (w : SeekerState). w.at < length (strings_of w.section)) (sym c.self.view_is) c.requires in
+    let p = passes s c.self.inside.at c.self.inside.last.items c.self.inside.rest.now
+    (omega (arith, inside, count_is s)) c.self.invariant.1 c.self.invariant.2 in
+    let made = string_made (is_head s.packed.block_size c.self.inside.at) c.self.inside.last.items
+    c.self.inside.rest.now c.decode_over.new.string.items c.split_entry-kept.result.1.now
+    c.split_entry-kept.result.0
     c.in_ok-decode_over.ensures.ok c.split_entry-kept.ensures.kept c.split_entry-kept.ensures.text in
     let same : c.self.inside.at ≡ c.self.inside.at + 1 - 1 = omega arith in
-    let string = made ∙ p.string ∙ sym (string_before s c.self.inside.at (omega (arith, inside, count_is s))) ∙ ap (λ k. get_or (strings_of s) k []) same in
-    ap (λ (l : List ℕ). (let w : SeekerState = record { section = s; at = c.self.inside.at + 1; last = l } in w)) string ∙ ap (λ (w : SeekerState). seeker_at w.section (w.at + 1)) c.self.view_is
+    let string = made ∙ p.string ∙ sym (string_before s c.self.inside.at (omega (arith, inside, count_is s)))
+    ∙ ap (λ k. get_or (strings_of s) k []) same in
+    ap (λ (l : List ℕ). (let w : SeekerState = record { section = s; at = c.self.inside.at + 1; last = l } in w)) string
+    ∙ ap (λ (w : SeekerState). seeker_at w.section (w.at + 1)) c.self.view_is

@@ -12,4 +12,11 @@ pub returns-in_err-advance-clause-cost : goal.returns-in_err-advance-clause-cost
 returns-in_err-advance-clause-cost c =
     let s = c.args.self.now.section in
     let here : c.self.inside.at ≡ c.loop-self.self.at = ap (λ (w : SeekerState). w.at) c.self.view_is in
-    omega (arith, here, c.advance.ensures.cost, c.loop-self-test.true, c.loop-self.invariant.cost, block_short s c.args.n c.requires.from_one (block_exists s c.args.n c.requires.from_one c.requires.within).0)
+    omega (
+      arith,
+      here,
+      c.advance.ensures.cost,
+      c.loop-self-test.true,
+      c.loop-self.invariant.cost,
+      block_short s c.args.n c.requires.from_one (block_exists s c.args.n c.requires.from_one c.requires.within).0,
+    )

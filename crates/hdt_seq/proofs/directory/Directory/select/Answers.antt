@@ -9,10 +9,12 @@ use Rattle.hdt_seq.proofs.directory.Directory.select.Goals as goal
 
 pub find_group-group-requires-clause-some : goal.find_group-group-requires-clause-some
 find_group-group-requires-clause-some c =
-    let bits = bits_of c.args.bits.now in omega (arith, c.requires.counted.many, c.requires.some, c.requires.many, ones_before_le bits (length bits))
+    let bits = bits_of c.args.bits.now in
+    omega (arith, c.requires.counted.many, c.requires.some, c.requires.many, ones_before_le bits (length bits))
 
 pub find_group-group-requires-clause-first : goal.find_group-group-requires-clause-first
-find_group-group-requires-clause-first c = c.requires.counted.each 0 (omega arith) ∙ ones_before_at_0 (bits_of c.args.bits.now)
+find_group-group-requires-clause-first c = c.requires.counted.each 0 (omega arith)
+    ∙ ones_before_at_0 (bits_of c.args.bits.now)
 
 pub find_group-group-requires-clause-last : goal.find_group-group-requires-clause-last
 find_group-group-requires-clause-last c =
@@ -27,17 +29,28 @@ find_group-group-requires-clause-last c =
     )
 
 pub overflow_mul-group : goal.overflow_mul-group
-overflow_mul-group c = omega (arith, c.requires.counted.many, c.find_group-group.ensures.inside, bits_below c.args.bits.now)
+overflow_mul-group c = omega (
+  arith,
+  c.requires.counted.many,
+  c.find_group-group.ensures.inside,
+  bits_below c.args.bits.now,
+)
 
 pub returns-clause-is : goal.returns-clause-is
 returns-clause-is c =
     let bits = bits_of c.args.bits.now in
     let group = c.find_group-group in
-    let counted : group.result.1 ≡ ones_before bits (512 * group.result.0) = group.ensures.before_is ∙ c.requires.counted.each group.result.0 (omega (arith, group.ensures.inside, c.requires.counted.many)) in
+    let counted : group.result.1 ≡ ones_before bits (512 * group.result.0) = group.ensures.before_is
+    ∙ c.requires.counted.each group.result.0 (omega (arith, group.ensures.inside, c.requires.counted.many)) in
     let found = c.select_from.ensures in
     let start : 512 * group.result.0 ≡ group.result.0 * 512 = omega arith in
-    let before : ones_before bits c.select_from.result + 1 ≡ c.args.k = omega (arith, found.before, counted, ap (ones_before bits) start, group.ensures.before) in
-    record { marked = is_one_by_counts bits c.select_from.result found.within (omega (arith, found.before, found.through)); before = before }
+    let before : ones_before bits c.select_from.result + 1 ≡ c.args.k =
+    omega (arith, found.before, counted, ap (ones_before bits) start, group.ensures.before) in
+    record {
+      is_one = is_one_by_counts bits c.select_from.result found.within
+          (omega (arith, found.before, found.through));
+      before = before;
+    }
 
 pub returns-clause-cost : goal.returns-clause-cost
 returns-clause-cost c =

@@ -6,7 +6,8 @@ use Rattle.hdt_terms.proofs.lines.Lines.find_triple_line.Given as goal
 
 abbrev pub invariant-lines : goal.invariant-lines
 invariant-lines g l = record {
-  taken : (bytes : List ℕ) × Takes l.fn.self l.self (left l.fn.self (g.R.Read.remaining (inner l.fn.input))) (left l.self (g.R.Read.remaining (inner l.input))) bytes × LinesWithoutTriples bytes;
+  taken : (bytes : List ℕ) × Takes l.fn.self l.self (left l.fn.self (g.R.Read.remaining (inner l.fn.input)))
+      (left l.self (g.R.Read.remaining (inner l.input))) bytes × LinesWithoutTriples bytes;
   count : failures l.input ≡ failures l.fn.input;
   going : l.self.ended ≡ false;
 }

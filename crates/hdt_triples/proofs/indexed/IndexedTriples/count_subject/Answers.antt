@@ -7,4 +7,8 @@ use Rattle.hdt_triples.proofs.indexed.IndexedTriples.count_subject.Goals as goal
 pub returns-clause-is : goal.returns-clause-is
 returns-clause-is c =
     let r = c.subject_range-at.result in
-    omega (arith, count_object_in_range (triples_view c.args.self.now.triples) (of_subject c.args.subject) r.0 r.1 c.subject_range-at.ensures.are)
+    omega (
+      arith,
+      count_object_in_range (triples_view c.args.self.now.triples)
+          (of_subject c.args.subject) r.0 r.1 c.subject_range-at.ensures.are,
+    )

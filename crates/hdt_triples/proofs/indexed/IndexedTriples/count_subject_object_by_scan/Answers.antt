@@ -9,4 +9,9 @@ unfolding lookup_cost
 returns-clause-cost c =
     let from = c.subject_range-from in
     let f = triples_view c.args.self.now.triples in
-    omega (arith, c.count_object_in_range.ensures.cost, from.ensures.cost, count_object_in_range f (of_subject c.args.subject) from.result.0 from.result.1 from.ensures.are)
+    omega (
+      arith,
+      c.count_object_in_range.ensures.cost,
+      from.ensures.cost,
+      count_object_in_range f (of_subject c.args.subject) from.result.0 from.result.1 from.ensures.are,
+    )

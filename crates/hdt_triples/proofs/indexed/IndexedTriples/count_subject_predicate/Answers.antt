@@ -8,4 +8,8 @@ returns-clause-is c =
     let f = triples_view c.args.self.now.triples in
     let r = c.match_range-at.result in
     let e = c.match_range-at.ensures in
-    omega (arith, count_object_in_range f c.args.pattern r.0 r.1 (run_between f c.args.pattern c.args.subject c.args.predicate r.0 r.1 e.run e.before))
+    omega (
+      arith,
+      count_object_in_range f c.args.pattern r.0 r.1
+          (run_between f c.args.pattern c.args.subject c.args.predicate r.0 r.1 e.run e.before),
+    )

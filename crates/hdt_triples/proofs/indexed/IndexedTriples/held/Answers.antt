@@ -8,4 +8,10 @@ pub overflow_add-result : goal.overflow_add-result
 unfolding triples_view
 overflow_add-result c =
     let t = c.args.self.now in
-    omega (arith, bits_below t.triples.bitmap_y, bits_below t.triples.bitmap_z, c.held.ensures.groups (bits_of t.triples.bitmap_y) t.y_counted, c.held-2.ensures.groups (bits_of t.triples.bitmap_z) t.z_counted)
+    omega (
+      arith,
+      bits_below t.triples.bitmap_y,
+      bits_below t.triples.bitmap_z,
+      c.held.ensures.groups (bits_of t.triples.bitmap_y) t.y_counted,
+      c.held-2.ensures.groups (bits_of t.triples.bitmap_z) t.z_counted,
+    )

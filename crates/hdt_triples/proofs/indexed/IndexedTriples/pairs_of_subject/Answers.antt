@@ -12,8 +12,11 @@ unfolding triples_view
 returns-then-subject-eq0-clause-are c =
     let t = c.args.self.now.triples in
     elim c.then-subject-eq0.branch [
-      | then-subject-eq0-via-then-subject-eq0 w ↦ no_pairs (triples_view t) c.args.subject t.valid.marked (inl w.if-subject-eq0.true)
-      | then-subject-eq0-via-else-subject-eq0+then-subject-subjects w ↦ no_pairs (triples_view t) c.args.subject t.valid.marked (inr (omega (arith, w.if-subject-subjects.true, c.subjects-subjects.ensures.is)))
+      | then-subject-eq0-via-then-subject-eq0 w ↦ no_pairs (triples_view t) c.args.subject t.valid.marked
+          (inl w.if-subject-eq0.true)
+      | then-subject-eq0-via-else-subject-eq0+then-subject-subjects w ↦ no_pairs
+          (triples_view t) c.args.subject t.valid.marked
+          (inr (omega (arith, w.if-subject-subjects.true, c.subjects-subjects.ensures.is)))
     ]
 
 pub returns-then-subject-eq1-clause-are : goal.returns-then-subject-eq1-clause-are
@@ -21,9 +24,15 @@ unfolding triples_view
 returns-then-subject-eq1-clause-are c =
     let t = c.args.self.now.triples in
     let bitmap_y = (triples_view t).bitmap_y in
-    pairs_between (triples_view t) c.args.subject 0 (c.select-high.result + 1) t.valid.marked (omega (arith, c.if-subject-eq1.true)) (omega arith) (omega (arith, c.select-high.ensures.within))
+    pairs_between (triples_view t) c.args.subject 0 (c.select-high.result + 1) t.valid.marked
+    (omega (arith, c.if-subject-eq1.true)) (omega arith) (omega (arith, c.select-high.ensures.within))
     (omega (arith, ones_before_at_0 bitmap_y, c.if-subject-eq1.true)) c.select-high.ensures.through
-    (λ q h. absurd (omega (arith, h))) (λ q h. omega (arith, c.select-high.ensures.is.before, ones_before_mono bitmap_y q c.select-high.result (omega (arith, h))))
+    (λ q h. absurd (omega (arith, h)))
+    (λ q h. omega (
+      arith,
+      c.select-high.ensures.is.before,
+      ones_before_mono bitmap_y q c.select-high.result (omega (arith, h)),
+    ))
 
 pub returns-clause-are : goal.returns-clause-are
 unfolding triples_view
@@ -33,10 +42,16 @@ returns-clause-are c =
     let low = c.select.result + 1 in
     let high = c.select-high.result + 1 in
     pairs_between (triples_view t) c.args.subject low high t.valid.marked (omega (arith, c.if-subject-eq0.false))
-    (ordered bitmap_y low high c.args.subject (omega (arith, c.select.ensures.through, c.if-subject-eq0.false)) c.select-high.ensures.through) (omega (arith, c.select-high.ensures.within))
+    (ordered bitmap_y low high c.args.subject
+    (omega (arith, c.select.ensures.through, c.if-subject-eq0.false)) c.select-high.ensures.through)
+    (omega (arith, c.select-high.ensures.within))
     (omega (arith, c.select.ensures.through, c.if-subject-eq0.false)) c.select-high.ensures.through
     (λ q h. omega (arith, c.select.ensures.is.before, ones_before_mono bitmap_y q c.select.result (omega (arith, h))))
-    (λ q h. omega (arith, c.select-high.ensures.is.before, ones_before_mono bitmap_y q c.select-high.result (omega (arith, h))))
+    (λ q h. omega (
+      arith,
+      c.select-high.ensures.is.before,
+      ones_before_mono bitmap_y q c.select-high.result (omega (arith, h)),
+    ))
 
 pub overflow_add-high : goal.overflow_add-high
 overflow_add-high c = omega (arith, bits_below c.args.self.now.triples.bitmap_y, c.select-high.ensures.within)

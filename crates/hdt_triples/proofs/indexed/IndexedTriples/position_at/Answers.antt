@@ -5,4 +5,5 @@ use Rattle.hdt_triples.proofs.indexed.IndexedTriples.position_at.Goals as goal
 
 pub subject_of_pair-subject-requires : goal.subject_of_pair-subject-requires
 unfolding triples_view
-subject_of_pair-subject-requires c = let t = c.args.self.now.triples in omega (arith, c.rank-pair.ensures.is, pair_within (triples_view t) t.valid.marked c.args.at c.requires)
+subject_of_pair-subject-requires c = let t = c.args.self.now.triples in
+    omega (arith, c.rank-pair.ensures.is, pair_within (triples_view t) t.valid.marked c.args.at c.requires)

@@ -16,4 +16,5 @@ pub returns-then-read_bit-clause-are : goal.returns-then-read_bit-clause-are
 unfolding triples_view
 returns-then-read_bit-clause-are c =
     let e = c.start_of_pair-at.ensures in
-    one_triple (triples_view c.args.self.now.triples) c.args.first c.args.last c.start_of_pair-at.result e.within e.is e.earlier c.if-first-last.true (c.read_bit.ensures.is ∙ ap Some c.if-read_bit.true)
+    one_triple (triples_view c.args.self.now.triples) c.args.first c.args.last c.start_of_pair-at.result e.within e.is
+    e.earlier c.if-first-last.true (c.read_bit.ensures.is ∙ ap Some c.if-read_bit.true)

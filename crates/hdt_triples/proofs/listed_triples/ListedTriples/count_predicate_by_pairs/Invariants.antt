@@ -11,8 +11,11 @@ use Rattle.hdt_triples.proofs.listed_triples.ListedTriples.count_predicate_by_pa
 
 abbrev pub invariant-pairs : goal.invariant-pairs
 invariant-pairs l = record {
-  so_far : (at : ℕ) × IsBeforePair (triples_view l.self.indexed.triples) l.predicate l.rest at × (l.count + length (matches (of_predicate l.predicate) (triples_from (triples_view l.self.indexed.triples) at)) ≡ length (matches (of_predicate l.predicate) (triples_of (triples_view l.self.indexed.triples))));
-  cost : (done : ℕ) × (done + length l.rest ≡ length l.fn.pairs) × (done ≤ l.count) × (done ≤ l.most) × (l.steps ≤ l.initial.steps + (2 * digits (groups (triples_view l.self.indexed.triples).bitmap_z) + 18) * done);
+  so_far : (at : ℕ) × IsBeforePair (triples_view l.self.indexed.triples) l.predicate l.rest at
+      × (l.count + length (matches (of_predicate l.predicate) (triples_from (triples_view l.self.indexed.triples) at))
+      ≡ length (matches (of_predicate l.predicate) (triples_of (triples_view l.self.indexed.triples))));
+  cost : (done : ℕ) × (done + length l.rest ≡ length l.fn.pairs) × (done ≤ l.count) × (done ≤ l.most)
+      × (l.steps ≤ l.initial.steps + (2 * digits (groups (triples_view l.self.indexed.triples).bitmap_z) + 18) * done);
   more : l.initial.steps ≤ l.steps;
 }
 

@@ -19,7 +19,11 @@ places-init c =
     record {
       among = subst (All (IsPositionOf f.array_z c.args.object)) (sym is) (among_positions f.array_z c.args.object);
       few = omega arith;
-      so_far = omega (arith, ap (λ js. length (matches c.args.pattern (map (triple_at f) js))) is, ap length (object_law c.args.pattern f c.args.object c.requires.object_given));
+      so_far = omega (
+        arith,
+        ap (λ js. length (matches c.args.pattern (map (triple_at f) js))) is,
+        ap length (object_law c.args.pattern f c.args.object c.requires.object_given),
+      );
       cost = omega (arith, ap length is);
       more = omega arith;
     }
@@ -27,18 +31,23 @@ places-init c =
 pub predicate_at-requires : goal.predicate_at-requires
 predicate_at-requires c =
     let rest = c.places.rest.now in
-    let some : 0 < length rest = omega (arith, eqb-false (length rest) 0 (sym c.is_empty.ensures ∙ c.if-not-is_empty.true)) in
-    (among_first (triples_view c.args.self.now.indexed.triples).array_z c.args.object rest c.read_list-at.result some c.read_list-at.ensures.is c.places.invariant.among).0
+    let some : 0 < length rest =
+    omega (arith, eqb-false (length rest) 0 (sym c.is_empty.ensures ∙ c.if-not-is_empty.true)) in
+    (among_first (triples_view c.args.self.now.indexed.triples).array_z c.args.object rest c.read_list-at.result some
+    c.read_list-at.ensures.is c.places.invariant.among).0
 
 pub overflow_add-count : goal.overflow_add-count
 overflow_add-count c =
     let t = c.args.self.now.indexed.triples in
     let rest = c.places.rest.now in
-    let some : 0 < length rest = omega (arith, eqb-false (length rest) 0 (sym c.is_empty.ensures ∙ c.if-not-is_empty.true)) in
+    let some : 0 < length rest =
+    omega (arith, eqb-false (length rest) 0 (sym c.is_empty.ensures ∙ c.if-not-is_empty.true)) in
     omega (
       arith,
       c.places.invariant.so_far,
-      in_object_on c.args.pattern (triples_view t) c.args.predicate c.args.object rest (drop 1 rest) c.read_list-at.result c.predicate_at.result c.from-count.result c.requires.subject_free c.requires.predicate_given c.requires.object_given
+      in_object_on c.args.pattern (triples_view t) c.args.predicate c.args.object rest
+          (drop 1 rest) c.read_list-at.result c.predicate_at.result c.from-count.result c.requires.subject_free
+          c.requires.predicate_given c.requires.object_given
           c.places.invariant.among some c.read_list-at.ensures.is refl c.predicate_at.ensures.is c.from-count.ensures,
       matches_fit c.args.pattern t,
     )
@@ -51,17 +60,25 @@ places-preserved c =
     let at = c.read_list-at.result in
     let first = c.read_list-at.ensures.is in
     let behind = c.split_at.ensures.back in
-    let some : 0 < length rest = omega (arith, eqb-false (length rest) 0 (sym c.is_empty.ensures ∙ c.if-not-is_empty.true)) in
+    let some : 0 < length rest =
+    omega (arith, eqb-false (length rest) 0 (sym c.is_empty.ensures ∙ c.if-not-is_empty.true)) in
     record {
       among = among_rest f.array_z c.args.object rest js at some first behind c.places.invariant.among;
       few = omega (arith, c.places-test.true, at_most_one _ c.from-count.result c.from-count.ensures);
       so_far = omega (
         arith,
         c.places.invariant.so_far,
-        in_object_on c.args.pattern f c.args.predicate c.args.object rest js at c.predicate_at.result c.from-count.result c.requires.subject_free c.requires.predicate_given c.requires.object_given
+        in_object_on c.args.pattern f c.args.predicate c.args.object rest js at c.predicate_at.result
+            c.from-count.result c.requires.subject_free c.requires.predicate_given c.requires.object_given
             c.places.invariant.among some first behind c.predicate_at.ensures.is c.from-count.ensures,
       );
-      cost = omega (arith, c.places.invariant.cost, c.read_list-at.ensures.cost, c.predicate_at.ensures.cost, ap length (split_rest rest js at some first behind));
+      cost = omega (
+        arith,
+        c.places.invariant.cost,
+        c.read_list-at.ensures.cost,
+        c.predicate_at.ensures.cost,
+        ap length (split_rest rest js at some first behind),
+      );
       more = omega (arith, c.places.invariant.more, c.read_list-at.ensures.cost, c.predicate_at.ensures.more);
     }
 
@@ -75,13 +92,24 @@ returns-else-not-is_empty-clause-is c =
       arith,
       c.places.invariant.so_far,
       c.places.invariant.few,
-      ap length (object_over c.args.pattern (triples_view c.args.self.now.indexed.triples) rest (eqb-true (length rest) 0 (sym c.is_empty.ensures ∙ c.if-not-is_empty.false))),
+      ap length (object_over c.args.pattern (triples_view c.args.self.now.indexed.triples) rest
+          (eqb-true (length rest) 0 (sym c.is_empty.ensures ∙ c.if-not-is_empty.false))),
     )
 
 pub returns-after-places-clause-cost : goal.returns-after-places-clause-cost
 returns-after-places-clause-cost c =
-    omega (arith, c.places.invariant.cost, c.positions_of-rest.ensures.cost, object_count (triples_view c.args.self.now.indexed.triples) c.args.object)
+    omega (
+      arith,
+      c.places.invariant.cost,
+      c.positions_of-rest.ensures.cost,
+      object_count (triples_view c.args.self.now.indexed.triples) c.args.object,
+    )
 
 pub returns-else-not-is_empty-clause-cost : goal.returns-else-not-is_empty-clause-cost
 returns-else-not-is_empty-clause-cost c =
-    omega (arith, c.places.invariant.cost, c.positions_of-rest.ensures.cost, object_count (triples_view c.args.self.now.indexed.triples) c.args.object)
+    omega (
+      arith,
+      c.places.invariant.cost,
+      c.positions_of-rest.ensures.cost,
+      object_count (triples_view c.args.self.now.indexed.triples) c.args.object,
+    )

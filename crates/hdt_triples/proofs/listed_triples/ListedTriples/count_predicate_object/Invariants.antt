@@ -10,8 +10,10 @@ abbrev pub invariant-places : goal.invariant-places
 invariant-places l = record {
   among : All (IsPositionOf (triples_view l.self.indexed.triples).array_z l.object) l.rest;
   few : l.count ≤ l.most;
-  so_far : l.count + length (matches l.fn.pattern (map (triple_at (triples_view l.self.indexed.triples)) l.rest)) ≡ length (matches l.fn.pattern (triples_of (triples_view l.self.indexed.triples)));
-  cost : l.steps + 10 * length l.rest ≤ l.initial.steps + 10 * length (positions_of (triples_view l.self.indexed.triples).array_z l.object);
+  so_far : l.count + length (matches l.fn.pattern (map (triple_at (triples_view l.self.indexed.triples)) l.rest))
+      ≡ length (matches l.fn.pattern (triples_of (triples_view l.self.indexed.triples)));
+  cost : l.steps + 10 * length l.rest
+      ≤ l.initial.steps + 10 * length (positions_of (triples_view l.self.indexed.triples).array_z l.object);
   more : l.initial.steps ≤ l.steps;
 }
 

@@ -25,7 +25,8 @@ invariant_of-self c =
     let m = c.args.self.now in
     record {
       run = run_on (triples_view m.triples) m.pattern m.subject m.predicate m.at m.end m.run (omega arith);
-      few = run_budget_step (triples_view m.triples) m.pattern m.subject m.predicate m.at m.end m.steps c.read_entry-object.new.steps m.run (omega arith) (omega (arith, c.read_entry-object.ensures.cost)) m.few;
+      few = run_budget_step (triples_view m.triples) m.pattern m.subject m.predicate m.at m.end m.steps
+          c.read_entry-object.new.steps m.run (omega arith) (omega (arith, c.read_entry-object.ensures.cost)) m.few;
     }
 
 pub returns-clause-steps : goal.returns-clause-steps
@@ -34,7 +35,8 @@ returns-clause-steps c =
     let m = c.args.self.now in
     let f = triples_view m.triples in
     run_taken f m.pattern m.subject m.predicate m.at m.end m.run (omega arith)
-    ∙ ap (λ z. let t : Triple = (m.subject, m.predicate, z) in t ∷ matches m.pattern (triples_from f (m.at + 1))) (sym c.read_entry-object.ensures.is)
+    ∙ ap (λ z. let t : Triple = (m.subject, m.predicate, z) in
+    t ∷ matches m.pattern (triples_from f (m.at + 1))) (sym c.read_entry-object.ensures.is)
 
 pub returns-clause-goes : goal.returns-clause-goes
 returns-clause-goes c = progress_some (λ m. remaining_matches (Pair m)) _ _ _ (returns-clause-steps c)

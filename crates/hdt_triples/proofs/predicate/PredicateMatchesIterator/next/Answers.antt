@@ -16,8 +16,10 @@ pub returns-then-is_empty-clause-steps : goal.returns-then-is_empty-clause-steps
 unfolding remaining_matches triples_view
 returns-then-is_empty-clause-steps c =
     let m = c.args.self.now in
-    let none = predicate_over (triples_view m.indexed.now.triples) m.predicate m.cursor.at m.cursor.rest.now m.indexed.now.triples.valid.marked (m.stands.between c.if-not-self.true)
-    (nil_from_length m.cursor.rest.now (eqb-true (length m.cursor.rest.now) 0 (sym c.is_empty.ensures ∙ c.if-is_empty.true))) in
+    let none = predicate_over (triples_view m.indexed.now.triples) m.predicate m.cursor.at m.cursor.rest.now
+    m.indexed.now.triples.valid.marked (m.stands.between c.if-not-self.true)
+    (nil_from_length m.cursor.rest.now
+    (eqb-true (length m.cursor.rest.now) 0 (sym c.is_empty.ensures ∙ c.if-is_empty.true))) in
     (none, none)
 
 pub read_entry-object-requires : goal.read_entry-object-requires
@@ -31,9 +33,17 @@ invariant_of-self c =
     let cursor = c.enter_pair-cursor.result in
     record {
       stands = c.next_in_pair-self.ensures.stands m.predicate c.enter_pair-cursor.ensures.stands;
-      few = subst (λ j. IsWithinBudget (predicate_cost f m.predicate) f c.next_in_pair-self.new.steps (triples_from f j)) (sym c.next_in_pair-self.ensures.at)
-          (predicate_budget_step f m.predicate m.cursor.at cursor.at cursor.subject m.steps c.next_in_pair-self.new.steps cursor.rest.now c.enter_pair-cursor.ensures.left (c.enter_pair-cursor.ensures.stands.inside c.enter_pair-cursor.ensures.inside)
-          (omega (arith, c.enter_pair-cursor.ensures.cost, c.read_entry-object.ensures.cost, c.next_in_pair-self.ensures.cost)) m.few);
+      few = subst (λ j. IsWithinBudget (predicate_cost f m.predicate) f c.next_in_pair-self.new.steps
+          (triples_from f j)) (sym c.next_in_pair-self.ensures.at)
+          (predicate_budget_step f m.predicate m.cursor.at cursor.at cursor.subject m.steps
+          c.next_in_pair-self.new.steps cursor.rest.now c.enter_pair-cursor.ensures.left
+          (c.enter_pair-cursor.ensures.stands.inside c.enter_pair-cursor.ensures.inside)
+          (omega (
+            arith,
+            c.enter_pair-cursor.ensures.cost,
+            c.read_entry-object.ensures.cost,
+            c.next_in_pair-self.ensures.cost,
+          )) m.few);
     }
 
 pub returns-clause-steps : goal.returns-clause-steps
@@ -44,9 +54,12 @@ returns-clause-steps c =
     let cursor = c.enter_pair-cursor.result in
     let rest = λ (j : ℕ). matches (of_predicate m.predicate) (triples_from f j) in
     c.enter_pair-cursor.ensures.left
-    ∙ predicate_taken f m.predicate cursor.at cursor.subject cursor.rest.now (c.enter_pair-cursor.ensures.stands.inside c.enter_pair-cursor.ensures.inside)
-    ∙ ap (λ z. let t : Triple = (cursor.subject, m.predicate, z) in t ∷ rest (cursor.at + 1)) (sym c.read_entry-object.ensures.is)
-    ∙ ap (λ j. let t : Triple = (cursor.subject, m.predicate, c.read_entry-object.result) in t ∷ rest j) (sym c.next_in_pair-self.ensures.at)
+    ∙ predicate_taken f m.predicate cursor.at cursor.subject cursor.rest.now
+    (c.enter_pair-cursor.ensures.stands.inside c.enter_pair-cursor.ensures.inside)
+    ∙ ap (λ z. let t : Triple = (cursor.subject, m.predicate, z) in
+    t ∷ rest (cursor.at + 1)) (sym c.read_entry-object.ensures.is)
+    ∙ ap (λ j. let t : Triple = (cursor.subject, m.predicate, c.read_entry-object.result) in
+    t ∷ rest j) (sym c.next_in_pair-self.ensures.at)
 
 pub returns-clause-goes : goal.returns-clause-goes
 returns-clause-goes c = progress_some (λ m. remaining_matches (Predicate m)) _ _ _ (returns-clause-steps c)

@@ -32,12 +32,23 @@ invariant_of-self c =
     let more = length (matches m.pattern (triples_from f m.position.at)) in
     let next = c.advance-self.result.at in
     let left = length (matches m.pattern (triples_from f next)) in
-    let own : subject_at f (pair_of f m.position.at) ≡ m.subject = sym ((m.stands within).subject_is ∙ ap (subject_at f) (m.stands within).pair_is) ∙ c.if-self.true in
+    let own : subject_at f (pair_of f m.position.at) ≡ m.subject =
+    sym ((m.stands within).subject_is ∙ ap (subject_at f) (m.stands within).pair_is) ∙ c.if-self.true in
     let room : m.saved_steps ≤ search_cost = omega (arith, m.room, m.price_is) in
-    let is : more ≡ suc left = ap length (scan_taken m.pattern f m.subject m.object m.position m.subject_given m.predicate_free m.object_given (m.stands within) within c.if-self.true (sym c.read_entry-object.ensures.is ∙ c.if-object-self.true))
+    let is : more ≡ suc left =
+    ap length (scan_taken m.pattern f m.subject m.object m.position m.subject_given m.predicate_free m.object_given
+    (m.stands within) within c.if-self.true (sym c.read_entry-object.ensures.is ∙ c.if-object-self.true))
     ∙ ap (λ j. suc (length (matches m.pattern (triples_from f j)))) (sym c.advance-self.ensures.at) in
-    let cost : c.read_entry-predicate.new.steps ≤ m.steps + 4 = omega (arith, c.read_entry-object.ensures.cost, c.advance-self.ensures.cost, c.read_entry-predicate.ensures.cost) in
-    let goes : IsWithinListBudget search_cost most c.read_entry-predicate.new.steps left m.saved_steps = goes_hit search_cost most m.steps c.read_entry-predicate.new.steps more left m.saved_steps (omega (arith, some_price f m.object)) cost is (m.goes within) in
+    let cost : c.read_entry-predicate.new.steps ≤ m.steps + 4 =
+    omega (
+      arith,
+      c.read_entry-object.ensures.cost,
+      c.advance-self.ensures.cost,
+      c.read_entry-predicate.ensures.cost,
+    ) in
+    let goes : IsWithinListBudget search_cost most c.read_entry-predicate.new.steps left m.saved_steps =
+    goes_hit search_cost most m.steps c.read_entry-predicate.new.steps more left m.saved_steps
+    (omega (arith, some_price f m.object)) cost is (m.goes within) in
     record {
       subject_given = m.subject_given;
       predicate_free = m.predicate_free;
@@ -47,7 +58,9 @@ invariant_of-self c =
       stands = λ h. c.advance-self.ensures.stands;
       reached = λ h. omega (arith, c.advance-self.ensures.later, c.if-self.true);
       room = m.room;
-      few = budget_after m.subject f m.position.at next (m.steps + m.saved_steps) (c.read_entry-predicate.new.steps + m.saved_steps) within own (omega (arith, cost)) c.advance-self.ensures.at m.few;
+      few = budget_after m.subject f m.position.at next (m.steps + m.saved_steps)
+          (c.read_entry-predicate.new.steps + m.saved_steps) within own
+          (omega (arith, cost)) c.advance-self.ensures.at m.few;
       goes = λ h. goes;
       short = goes_short search_cost most c.read_entry-predicate.new.steps left m.saved_steps room goes;
     }
@@ -59,10 +72,14 @@ returns-then-object-self-clause-steps c =
     let f = triples_view m.indexed.now.triples in
     let within : m.position.at < length f.array_z = omega (arith, c.triples-test.true, c.len.ensures) in
     sym c.triples.invariant.left
-    ∙ scan_taken m.pattern f m.subject m.object m.position m.subject_given m.predicate_free m.object_given (m.stands within) within c.if-self.true (sym c.read_entry-object.ensures.is ∙ c.if-object-self.true)
-    ∙ ap (λ q. (m.subject, q, m.object) ∷ matches m.pattern (triples_from f (m.position.at + 1))) (sym c.read_entry-predicate.ensures.is)
-    ∙ ap (λ o. (m.subject, c.read_entry-predicate.result, o) ∷ matches m.pattern (triples_from f (m.position.at + 1))) (sym c.if-object-self.true)
-    ∙ ap (λ j. (m.subject, c.read_entry-predicate.result, c.read_entry-object.result) ∷ matches m.pattern (triples_from f j)) (sym c.advance-self.ensures.at)
+    ∙ scan_taken m.pattern f m.subject m.object m.position m.subject_given m.predicate_free m.object_given
+    (m.stands within) within c.if-self.true (sym c.read_entry-object.ensures.is ∙ c.if-object-self.true)
+    ∙ ap (λ q. (m.subject, q, m.object) ∷ matches m.pattern (triples_from f (m.position.at + 1)))
+    (sym c.read_entry-predicate.ensures.is)
+    ∙ ap (λ o. (m.subject, c.read_entry-predicate.result, o) ∷ matches m.pattern (triples_from f (m.position.at + 1)))
+    (sym c.if-object-self.true)
+    ∙ ap (λ j. (m.subject, c.read_entry-predicate.result, c.read_entry-object.result)
+    ∷ matches m.pattern (triples_from f j)) (sym c.advance-self.ensures.at)
 
 pub invariant_of-self-in-triples : goal.invariant_of-self-in-triples
 unfolding triples_view
@@ -75,12 +92,17 @@ invariant_of-self-in-triples c =
     let more = length (matches m.pattern (triples_from f m.position.at)) in
     let next = c.advance-self.result.at in
     let left = length (matches m.pattern (triples_from f next)) in
-    let own : subject_at f (pair_of f m.position.at) ≡ m.subject = sym ((m.stands within).subject_is ∙ ap (subject_at f) (m.stands within).pair_is) ∙ c.if-self.true in
+    let own : subject_at f (pair_of f m.position.at) ≡ m.subject =
+    sym ((m.stands within).subject_is ∙ ap (subject_at f) (m.stands within).pair_is) ∙ c.if-self.true in
     let room : m.saved_steps ≤ search_cost = omega (arith, m.room, m.price_is) in
-    let is : more ≡ left = ap length (scan_missed m.pattern f m.object m.position.at m.object_given within (λ e. c.if-object-self.false (c.read_entry-object.ensures.is ∙ e)))
+    let is : more ≡ left = ap length
+    (scan_missed m.pattern f m.object m.position.at m.object_given within
+    (λ e. c.if-object-self.false (c.read_entry-object.ensures.is ∙ e)))
     ∙ ap (λ j. length (matches m.pattern (triples_from f j))) (sym c.advance-self.ensures.at) in
-    let cost : c.advance-self.new.steps ≤ m.steps + 3 = omega (arith, c.read_entry-object.ensures.cost, c.advance-self.ensures.cost) in
-    let goes : IsWithinListBudget search_cost most c.advance-self.new.steps left (m.saved_steps + 1) = goes_miss search_cost most m.steps c.advance-self.new.steps more left m.saved_steps cost is (m.goes within) in
+    let cost : c.advance-self.new.steps ≤ m.steps + 3 =
+    omega (arith, c.read_entry-object.ensures.cost, c.advance-self.ensures.cost) in
+    let goes : IsWithinListBudget search_cost most c.advance-self.new.steps left (m.saved_steps + 1) =
+    goes_miss search_cost most m.steps c.advance-self.new.steps more left m.saved_steps cost is (m.goes within) in
     let space : m.saved_steps + 1 ≤ search_cost = omega (arith, c.if-self-2.false, m.price_is) in
     record {
       subject_given = m.subject_given;
@@ -91,7 +113,9 @@ invariant_of-self-in-triples c =
       stands = λ h. c.advance-self.ensures.stands;
       reached = λ h. omega (arith, c.advance-self.ensures.later, c.if-self.true);
       room = omega (arith, c.if-self-2.false);
-      few = budget_after m.subject f m.position.at next (m.steps + m.saved_steps) (c.advance-self.new.steps + (m.saved_steps + 1)) within own (omega (arith, cost)) c.advance-self.ensures.at m.few;
+      few = budget_after m.subject f m.position.at next (m.steps + m.saved_steps)
+          (c.advance-self.new.steps + (m.saved_steps + 1)) within own
+          (omega (arith, cost)) c.advance-self.ensures.at m.few;
       goes = λ h. goes;
       short = goes_short search_cost most c.advance-self.new.steps left (m.saved_steps + 1) space goes;
     }
@@ -103,7 +127,9 @@ triples-preserved c =
     let f = triples_view m.indexed.now.triples in
     let within : m.position.at < length f.array_z = omega (arith, c.triples-test.true, c.len.ensures) in
     record {
-      left = ap (λ j. matches m.pattern (triples_from f j)) c.advance-self.ensures.at ∙ sym (scan_missed m.pattern f m.object m.position.at m.object_given within (λ e. c.if-object-self.false (c.read_entry-object.ensures.is ∙ e))) ∙ c.triples.invariant.left;
+      left = ap (λ j. matches m.pattern (triples_from f j)) c.advance-self.ensures.at
+          ∙ sym (scan_missed m.pattern f m.object m.position.at m.object_given within
+          (λ e. c.if-object-self.false (c.read_entry-object.ensures.is ∙ e))) ∙ c.triples.invariant.left;
       same = c.triples.invariant.same;
       short = c.triples.invariant.short;
       more = omega (arith, c.triples.invariant.more, c.read_entry-object.ensures.cost, c.advance-self.ensures.more);
@@ -115,7 +141,8 @@ returns-else-self-clause-steps c =
     let m = c.triples.self in
     let f = triples_view m.indexed.now.triples in
     let within : m.position.at < length f.array_z = omega (arith, c.triples-test.true, c.len.ensures) in
-    let none = matches_over m.pattern m.subject f m.position m.subject_given (m.stands within) (omega (arith, m.reached within, c.if-self.false)) in
+    let none = matches_over m.pattern m.subject f m.position m.subject_given (m.stands within)
+    (omega (arith, m.reached within, c.if-self.false)) in
     (sym c.triples.invariant.left ∙ none, none)
 
 pub returns-after-triples-clause-steps : goal.returns-after-triples-clause-steps
@@ -131,4 +158,5 @@ unfolding triples_view
 read_entry-object-requires c = omega (arith, c.triples-test.true, c.len.ensures)
 
 pub returns-then-object-self-clause-goes : goal.returns-then-object-self-clause-goes
-returns-then-object-self-clause-goes c = progress_some (λ m. remaining_matches (SubjectObject m)) _ _ _ (returns-then-object-self-clause-steps c)
+returns-then-object-self-clause-goes c =
+    progress_some (λ m. remaining_matches (SubjectObject m)) _ _ _ (returns-then-object-self-clause-steps c)

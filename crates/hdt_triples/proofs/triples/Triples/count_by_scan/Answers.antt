@@ -13,7 +13,11 @@ triples-init c =
     record {
       stands = c.first-position.ensures.stands;
       few = omega arith;
-      so_far = omega (arith, ap (λ j. length (matches c.args.pattern (triples_from f j))) c.first-position.ensures.at, ap (λ ts. length (matches c.args.pattern ts)) (from_start f));
+      so_far = omega (
+        arith,
+        ap (λ j. length (matches c.args.pattern (triples_from f j))) c.first-position.ensures.at,
+        ap (λ ts. length (matches c.args.pattern ts)) (from_start f),
+      );
       cost = omega arith;
       more = omega arith;
     }
@@ -24,7 +28,10 @@ overflow_add-count c =
     omega (
       arith,
       c.triples.invariant.so_far,
-      count_on c.args.pattern f c.triples.position.at c.is_match.result c.from-count.result (omega (arith, c.if-position-len.true, c.len.ensures)) (ap (agrees c.args.pattern) (sym c.read_triple-triple.ensures.is) ∙ sym c.is_match.ensures) c.from-count.ensures,
+      count_on c.args.pattern f c.triples.position.at c.is_match.result c.from-count.result
+          (omega (arith, c.if-position-len.true, c.len.ensures))
+          (ap (agrees c.args.pattern) (sym c.read_triple-triple.ensures.is)
+          ∙ sym c.is_match.ensures) c.from-count.ensures,
       matches_fit c.args.pattern c.args.self.now,
     )
 
@@ -37,15 +44,30 @@ triples-preserved c =
       so_far = omega (
         arith,
         c.triples.invariant.so_far,
-        count_on c.args.pattern f c.triples.position.at c.is_match.result c.from-count.result (omega (arith, c.if-position-len.true, c.len.ensures)) (ap (agrees c.args.pattern) (sym c.read_triple-triple.ensures.is) ∙ sym c.is_match.ensures) c.from-count.ensures,
+        count_on c.args.pattern f c.triples.position.at c.is_match.result c.from-count.result
+            (omega (arith, c.if-position-len.true, c.len.ensures))
+            (ap (agrees c.args.pattern) (sym c.read_triple-triple.ensures.is)
+            ∙ sym c.is_match.ensures) c.from-count.ensures,
         ap (λ j. length (matches c.args.pattern (triples_from f j))) c.advance-position.ensures.at,
       );
-      cost = omega (arith, c.triples.invariant.cost, c.read_triple-triple.ensures.cost, c.advance-position.ensures.cost, c.advance-position.ensures.at);
-      more = omega (arith, c.triples.invariant.more, c.read_triple-triple.ensures.cost, c.advance-position.ensures.more);
+      cost = omega (
+        arith,
+        c.triples.invariant.cost,
+        c.read_triple-triple.ensures.cost,
+        c.advance-position.ensures.cost,
+        c.advance-position.ensures.at,
+      );
+      more = omega (
+        arith,
+        c.triples.invariant.more,
+        c.read_triple-triple.ensures.cost,
+        c.advance-position.ensures.more,
+      );
     }
 
 pub returns-after-triples-clause-is : goal.returns-after-triples-clause-is
-returns-after-triples-clause-is c = omega (arith, c.triples.invariant.so_far, c.triples.invariant.few, c.triples-test.false)
+returns-after-triples-clause-is c =
+    omega (arith, c.triples.invariant.so_far, c.triples.invariant.few, c.triples-test.false)
 
 pub returns-else-position-len-clause-is : goal.returns-else-position-len-clause-is
 returns-else-position-len-clause-is c =
@@ -53,5 +75,6 @@ returns-else-position-len-clause-is c =
       arith,
       c.triples.invariant.so_far,
       c.triples.invariant.few,
-      ap length (matches_none c.args.pattern (triples_view c.args.self.now) c.triples.position.at (omega (arith, c.if-position-len.false, c.len.ensures))),
+      ap length (matches_none c.args.pattern (triples_view c.args.self.now) c.triples.position.at
+          (omega (arith, c.if-position-len.false, c.len.ensures))),
     )

@@ -9,7 +9,8 @@ abbrev pub invariant-triples : goal.invariant-triples
 invariant-triples l = record {
   stands : IsTriplePosition (triples_view l.self) l.position;
   few : l.count ≤ l.most;
-  so_far : l.count + length (matches l.pattern (triples_from (triples_view l.self) l.position.at)) ≡ length (matches l.pattern (triples_of (triples_view l.self)));
+  so_far : l.count + length (matches l.pattern (triples_from (triples_view l.self) l.position.at))
+      ≡ length (matches l.pattern (triples_of (triples_view l.self)));
   cost : l.steps ≤ l.initial.steps + 4 * l.position.at;
   more : l.initial.steps ≤ l.steps;
 }

@@ -11,7 +11,11 @@ triples-init c =
     record {
       from = omega arith;
       to = r.between.ordered;
-      so_far = omega (arith, ap length (in_subject_first (triples_view a.self.now) a.pattern a.subject a.from a.to r.subject_given r.between));
+      so_far = omega (
+        arith,
+        ap length
+            (in_subject_first (triples_view a.self.now) a.pattern a.subject a.from a.to r.subject_given r.between),
+      );
       cost = omega arith;
     }
 
@@ -27,7 +31,8 @@ overflow_add-count c =
     omega (
       arith,
       c.triples.invariant.so_far,
-      in_subject_on (triples_view a.self.now) a.pattern a.subject a.object a.from a.to c.triples.at c.read_entry.result c.from-count.result r.subject_given r.predicate_free r.object_given
+      in_subject_on (triples_view a.self.now) a.pattern a.subject a.object a.from a.to c.triples.at c.read_entry.result
+          c.from-count.result r.subject_given r.predicate_free r.object_given
           r.between c.triples.invariant.from c.triples-test.true c.read_entry.ensures.is c.from-count.ensures,
       matches_fit a.pattern a.self.now,
     )
@@ -43,7 +48,8 @@ triples-preserved c =
       so_far = omega (
         arith,
         c.triples.invariant.so_far,
-        in_subject_on (triples_view a.self.now) a.pattern a.subject a.object a.from a.to c.triples.at c.read_entry.result c.from-count.result r.subject_given r.predicate_free r.object_given
+        in_subject_on (triples_view a.self.now) a.pattern a.subject a.object a.from a.to c.triples.at
+            c.read_entry.result c.from-count.result r.subject_given r.predicate_free r.object_given
             r.between c.triples.invariant.from c.triples-test.true c.read_entry.ensures.is c.from-count.ensures,
       );
       cost = omega (arith, c.triples.invariant.cost, c.read_entry.ensures.cost);
@@ -56,8 +62,15 @@ returns-clause-is c =
     omega (
       arith,
       c.triples.invariant.so_far,
-      ap length (in_subject_over (triples_view a.self.now) a.pattern a.subject a.from a.to c.triples.at r.subject_given r.between c.triples-test.false (omega (arith, c.triples.invariant.to, r.between.within))),
+      ap length (in_subject_over (triples_view a.self.now) a.pattern a.subject a.from a.to c.triples.at r.subject_given
+          r.between c.triples-test.false (omega (arith, c.triples.invariant.to, r.between.within))),
     )
 
 pub returns-clause-cost : goal.returns-clause-cost
-returns-clause-cost c = omega (arith, c.triples.invariant.cost, c.triples.invariant.to, c.triples.invariant.from, c.triples-test.false)
+returns-clause-cost c = omega (
+  arith,
+  c.triples.invariant.cost,
+  c.triples.invariant.to,
+  c.triples.invariant.from,
+  c.triples-test.false,
+)

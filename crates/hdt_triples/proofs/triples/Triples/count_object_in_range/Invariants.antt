@@ -9,7 +9,8 @@ abbrev pub invariant-triples : goal.invariant-triples
 invariant-triples l = record {
   from : l.fn.from ≤ l.at;
   to : l.at ≤ l.to;
-  so_far : l.count + length (matches l.fn.pattern (triples_from (triples_view l.self) l.at)) ≡ length (matches l.fn.pattern (triples_of (triples_view l.self)));
+  so_far : l.count + length (matches l.fn.pattern (triples_from (triples_view l.self) l.at))
+      ≡ length (matches l.fn.pattern (triples_of (triples_view l.self)));
   cost : l.steps + l.fn.from ≡ l.initial.steps + l.at;
 }
 

@@ -12,11 +12,20 @@ writes-preserved g c =
     let text = c.args.text.now in
     let before = contents (inner c.args.self.now) in
     let rest : take (length text - c.writes.at) (drop c.writes.at text) ≡ drop c.writes.at text =
-    ap (λ n. take n (drop c.writes.at text)) (sym (length-drop c.writes.at text)) ∙ take-length (drop c.writes.at text) in
-    let gained = subst (λ (t : List ℕ). Appends (contents (inner c.writes.self)) (contents (inner c.write.new.self)) (take c.in-Ok.count t)) rest c.in-Ok.ensures.bytes in
-    let two = Appends-then before (contents (inner c.writes.self)) (contents (inner c.write.new.self)) (take c.writes.at text) (take c.in-Ok.count (drop c.writes.at text)) c.writes.invariant.written gained in
+    ap (λ n. take n (drop c.writes.at text)) (sym (length-drop c.writes.at text))
+    ∙ take-length (drop c.writes.at text) in
+    let gained = subst (λ (t : List ℕ). Appends (contents (inner c.writes.self)) (contents (inner c.write.new.self))
+    (take c.in-Ok.count t)) rest c.in-Ok.ensures.bytes in
+    let two = Appends-then before (contents (inner c.writes.self)) (contents (inner c.write.new.self))
+    (take c.writes.at text) (take c.in-Ok.count (drop c.writes.at text)) c.writes.invariant.written gained in
     record {
-      within = omega (arith, c.in-Ok.ensures.bound, length-take (length text - c.writes.at) (drop c.writes.at text), length-drop c.writes.at text);
-      written = subst (λ (t : List ℕ). Appends before (contents (inner c.write.new.self)) t) (sym (take-add c.writes.at c.in-Ok.count text)) two;
+      within = omega (
+        arith,
+        c.in-Ok.ensures.bound,
+        length-take (length text - c.writes.at) (drop c.writes.at text),
+        length-drop c.writes.at text,
+      );
+      written = subst (λ (t : List ℕ). Appends before (contents (inner c.write.new.self)) t)
+          (sym (take-add c.writes.at c.in-Ok.count text)) two;
       well = c.in-Ok.ensures.ok ∙ c.writes.invariant.well;
     }

@@ -1,5 +1,0 @@
-use Rattle.hdt_dict.specs.Laws.Split.{split_sections}
-use Rattle.hdt_dict.proofs.laws.split_makes_sections.Goals as goal
-
-pub returns : goal.returns
-returns c = split_sections

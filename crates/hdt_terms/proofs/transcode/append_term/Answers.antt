@@ -1,8 +1,0 @@
-use Rattle.hdt_terms.proofs.Appends.{iri_term, blank_term}
-use Rattle.hdt_terms.proofs.transcode.append_term.Goals as goal
-
-pub returns-in-60-clause-reads : goal.returns-in-60-clause-reads
-returns-in-60-clause-reads c = iri_term _ _ _ _ _ _ c.append_iri.result c.in-Some.ensures.cases.0 c.in-60.is c.append_iri.ensures.reads
-
-pub returns-in-95-clause-reads : goal.returns-in-95-clause-reads
-returns-in-95-clause-reads c = blank_term _ _ _ _ _ _ c.append_blank.result c.in-Some.ensures.cases.0 c.in-95.is c.append_blank.ensures.reads

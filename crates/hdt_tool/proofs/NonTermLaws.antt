@@ -1,0 +1,71 @@
+-- The output of commands that count what has no form in N-Triples.
+use Rattle.std.proofs.Common.{◌≡◌, ℕ, Bool, true, false, List, [], ◌++◌, Option, length, sym, ap, ◌∙◌, subst}
+use Rattle.std.specs.Prelude.{Err, IfSome}
+use Rattle.hdt_wire.specs.declared.fault.Fault.{Fault}
+use Rattle.hdt_triples.specs.TripleSequences.{Triple}
+use Rattle.hdt_file.specs.Denoted.{denoted}
+use Rattle.hdt_file.specs.File.{GraphParts, decode_graph}
+use Rattle.hdt_file.specs.NonTerms.{IsTermVerdict}
+use Rattle.hdt_file.specs.Writable.{SkipsNonTerms}
+use Rattle.hdt_file.specs.Text.{IsTextOf}
+use Rattle.hdt_file.specs.TextWriting.{AppendsText}
+use Rattle.hdt_file.specs.Tight.{IsTightLayout, decode_tight_graph}
+use Rattle.hdt_file.specs.declared.non_terms.TermVerdict.{TermVerdict}
+use Rattle.hdt_tool.specs.Outcomes.{IsFaultOfBytes}
+use Rattle.hdt_tool.specs.NonTermText.{PrintsKept, PrintsTermVerdict, kept_format, term_verdict_lines}
+use Rattle.hdt_tool.specs.TriplesText.{Finds, GivenStrings, PrintsTriples, match_count_line}
+use Rattle.hdt_file.specs.Faults.{open_fault_of}
+use Rattle.hdt_file.specs.declared.fault.OpenFault.{OpenFault}
+use Rattle.hdt_file.specs.declared.fault.OpenFault.TheVariants as opening
+use Rattle.hdt_tool.specs.Faults.{tool_fault_of}
+use Rattle.hdt_tool.specs.declared.fault.ToolFault.{ToolFault}
+use Rattle.hdt_tool.specs.declared.fault.ToolFault.TheVariants.{File, OutOfMemory}
+use Rattle.hdt_tool.specs.declared.request.Action.TheVariants.{VerifyTerms, VerifyTight}
+
+-- ---- triples that have lines
+
+kept_is : (g : GraphParts) (given : GivenStrings) (count : Bool) (most : Option ℕ) (found kept : List Triple)
+    (text : List ℕ) (n : ℕ) → Finds g given found → SkipsNonTerms g most found kept n
+    → PrintsTriples (kept_format count) g kept text → PrintsKept g given (kept_format count) most text n
+kept_is g given count most found kept text n finds skips printed =
+    record { found = found; finds = finds; holds = (kept, skips, printed) }
+
+pub kept_counted : (g : GraphParts) (given : GivenStrings) (count : Bool) (most : Option ℕ) (found kept : List Triple)
+    (text : List ℕ) (n : ℕ) → Finds g given found → SkipsNonTerms g most found kept n
+    → count ≡ true → text ≡ match_count_line kept → PrintsKept g given (kept_format count) most text n
+kept_counted g given count most found kept text n finds skips is printed =
+    kept_is g given count most found kept text n finds skips
+    (subst (λ (b : Bool). PrintsTriples (kept_format b) g kept text) (sym is) printed)
+
+pub kept_written : (g : GraphParts) (given : GivenStrings) (count : Bool) (most : Option ℕ) (found kept : List Triple)
+    (old text : List ℕ) (n : ℕ) → Finds g given found → SkipsNonTerms g most found kept n
+    → count ≡ false → old ≡ [] → AppendsText g kept old text → PrintsKept g given (kept_format count) most text n
+kept_written g given count most found kept old text n finds skips is none h =
+    let whole : text ≡ h.text = h.grown ∙ ap (λ (x : List ℕ). x ++ h.text) none in
+    kept_is g given count most found kept text n finds skips
+    (subst (λ (b : Bool). PrintsTriples (kept_format b) g kept text) (sym is)
+    (subst (IsTextOf (denoted g kept)) (sym whole) h.is))
+
+-- ---- strings that are not terms
+
+pub verdict_printed : (tight : Bool) (bytes text : List ℕ) (v : TermVerdict) (n : ℕ) → IsTermVerdict bytes v
+    → (tight ≡ true → (graph : GraphParts) × IsTightLayout bytes graph)
+    → text ≡ term_verdict_lines v.counts v.non_terms.items
+    → n ≡ length v.non_terms.items → PrintsTermVerdict tight bytes text n
+verdict_printed tight bytes text v n is tight_is printed counted =
+    record { verdict_of = v; is = is; tight_is = tight_is; printed = printed; counted = counted }
+
+pub tight_fault : (tight : Bool) (bytes : List ℕ) (e : ToolFault) → tight ≡ true → IsFaultOfBytes VerifyTight bytes e
+    → IsFaultOfBytes (VerifyTerms tight) bytes e
+tight_fault true bytes (File fault) is h = h
+tight_fault true bytes OutOfMemory is h = tt
+tight_fault true bytes e is h = absurd h
+tight_fault false bytes e is h = absurd cc
+
+pub open_fault : (tight : Bool) (bytes : List ℕ) (e : OpenFault)
+    → ((bytes : List ℕ) (fault : Fault) → decode_graph bytes ≡ Err fault → decode_tight_graph bytes ≡ Err fault)
+    → IfSome (open_fault_of e) (λ fault. decode_graph bytes ≡ Err fault)
+    → IsFaultOfBytes (VerifyTerms tight) bytes (tool_fault_of e)
+open_fault true bytes (opening.Fault fault) earlier h = earlier bytes fault h
+open_fault false bytes (opening.Fault fault) earlier h = h
+open_fault tight bytes opening.OutOfMemory earlier h = tt

@@ -1,0 +1,130 @@
+//! The output of `find` and `dump` with `--skip-non-terms`, and of `verify --terms`, with the number of the triples or
+//! strings that have no form in N-Triples.
+ghost use Rattle.std.specs.Prelude.{◌≡◌, ◌++◌, true, OnOk, IfOk, IfErr};
+ghost use Rattle.std.specs.List.{flat_map};
+ghost use Rattle.hdt_file.specs.File.{GraphParts};
+ghost use Rattle.hdt_file.specs.Graph.{layout_view};
+ghost use Rattle.hdt_file.specs.Tight.{IsTightLayout};
+ghost use Rattle.hdt_tool.specs.Outcomes.{CountsNonTerms, IsFaultOfBytes, PrintsCountingNonTerms};
+ghost use Rattle.hdt_tool.specs.NonTermText.{PrintsKept, PrintsTermVerdict, kept_format, non_term_line, term_verdict_lines};
+ghost use Rattle.hdt_tool.specs.declared.request.Action.TheVariants as Action;
+
+use crate::error_lines::role_name;
+use crate::fault::ToolFault;
+use crate::printed_reports::verdict;
+use crate::printed_strings::number_line;
+use crate::printed_triples::find_pattern;
+use crate::request::Action;
+use hdt_file::{
+    Layout, NonTerm, TermFlags, TermWriter, append_triples_text, layout_writable_matches,
+    one_tight_layout, verify_terms, verify_tight,
+};
+use hdt_wire::put_decimal;
+use std::alloc::{AllocError, Global};
+
+/// The text of those of the triples with the given strings that have a line, up to a limit, or with `count` the line
+/// with their number; and how many were skipped.
+#[tactic(auto, using(crate::proofs::NonTermLaws::kept_counted, crate::proofs::NonTermLaws::kept_written))]
+fn kept_text(
+    alloc: Global,
+    layout: &Layout<'_>,
+    given: &[Option<Vec<u8>>; 3],
+    count: bool,
+    most: Option<u64>,
+) -> Result<(Vec<u8>, u64), AllocError>
+    ensures { IfOk result (λ made. PrintsKept (layout_view layout.now) given.now
+        (kept_format count) most made.0.items made.1) }
+{
+    let flags = TermFlags::of(alloc, layout)?;
+    let pattern = find_pattern(layout, given);
+    let kept = layout_writable_matches(alloc, layout, &flags, pattern, most)?;
+    if count {
+        return Ok((number_line(alloc, kept.triples.len() as u64)?, kept.skipped));
+    }
+    let mut text = Vec::new(alloc);
+    let mut term_writer = TermWriter::with_cache(alloc)?;
+    append_triples_text(alloc, layout, &kept.triples, &mut term_writer, &mut text)?;
+    Ok((text, kept.skipped))
+}
+
+/// Appends the line of a string that is not a term.
+#[tactic(auto, using(std::proofs::Common::append_assoc))]
+fn put_non_term_line(non_term: NonTerm, out: &mut Vec<u8>) -> Result<(), AllocError>
+    ensures { OnOk result (out.new.items ≡ out.old.items ++ non_term_line non_term) }
+{
+    out.extend_from_slice(role_name(non_term.role).as_bytes())?;
+    out.push(b'\t')?;
+    put_decimal(non_term.number, out)?;
+    out.push(b'\t')?;
+    put_decimal(non_term.place, out)?;
+    Ok(out.push(b'\n')?)
+}
+
+/// The lines of strings that are not terms.
+fn non_term_lines(alloc: Global, found: &[NonTerm]) -> Result<Vec<u8>, AllocError>
+    ensures { IfOk result (λ text. text.items ≡ flat_map non_term_line found.now) }
+{
+    let mut text = Vec::new(alloc);
+    'found: for non_term in found {
+        put_non_term_line(*non_term, &mut text)?;
+    }
+    Ok(text)
+}
+
+/// The lines of strings that are not terms, or the line of `verify` if there is none.
+fn term_verdict_text(
+    alloc: Global,
+    counts: [u64; 5],
+    found: &[NonTerm],
+) -> Result<Vec<u8>, AllocError>
+    ensures { IfOk result (λ text. text.items ≡ term_verdict_lines counts found.now) }
+{
+    if found.is_empty() {
+        return verdict(alloc, counts);
+    }
+    non_term_lines(alloc, found)
+}
+
+/// Fails if `tight` and a string of the file is unused.
+fn check_tight(alloc: Global, tight: bool, bytes: &[u8]) -> Result<(), ToolFault>
+    ensures ok { OnOk result (tight ≡ true → (graph : GraphParts) × IsTightLayout bytes.now graph) }
+    ensures err { IfErr result (λ e. (tight ≡ true) × IsFaultOfBytes Action.VerifyTight bytes.now e) }
+{
+    if tight {
+        verify_tight(alloc, bytes)?;
+    }
+    Ok(())
+}
+
+/// The output of `verify --terms`, with or without `--tight`, and the number of strings that are not terms.
+#[tactic(auto, using(crate::proofs::NonTermLaws::verdict_printed, crate::proofs::NonTermLaws::tight_fault))]
+fn verify_terms_text(alloc: Global, tight: bool, bytes: &[u8]) -> Result<(Vec<u8>, u64), ToolFault>
+    ensures ok { IfOk result (λ made. PrintsTermVerdict tight bytes.now made.0.items made.1) }
+    ensures err { IfErr result (IsFaultOfBytes (Action.VerifyTerms tight) bytes.now) }
+{
+    one_tight_layout();
+    check_tight(alloc, tight, bytes)?;
+    let found = verify_terms(alloc, bytes)?;
+    let text = term_verdict_text(alloc, found.counts, &found.non_terms)?;
+    Ok((text, found.non_terms.len() as u64))
+}
+
+/// The output of a command that counts what has no form in N-Triples, for the bytes of a file, and this number.
+pub(crate) fn text_and_count(
+    alloc: Global,
+    action: &Action,
+    bytes: &[u8],
+) -> Result<(Vec<u8>, u64), ToolFault>
+    requires { CountsNonTerms action.now }
+    ensures ok { IfOk result (λ made. PrintsCountingNonTerms action.now bytes.now made.0.items made.1) }
+    ensures err { IfErr result (IsFaultOfBytes action.now bytes.now) }
+{
+    match action {
+        Action::SkipNonTerms { given, count, most } => {
+            let layout = Layout::read(alloc, bytes)?;
+            Ok(kept_text(alloc, &layout, given, *count, *most)?)
+        }
+        Action::VerifyTerms { tight } => verify_terms_text(alloc, *tight, bytes),
+        _ => unreachable!(),
+    }
+}
