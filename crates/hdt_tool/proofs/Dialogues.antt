@@ -194,7 +194,8 @@ stopped_behind fault reason input given lines is h =
     absurd (subst (λ (r : LineReason). IsUnreadLineError r (length h.front) max_input_bytes h.left given) is h.fault_is)
 
 -- The error of a line is `Read` only if the reader failed.
-reader_failed_by : (fault : LineFault) (reason : LineReason) → fault_of_reason fault reason ≡ Read → reason ≡ reasons.Read
+reader_failed_by : (fault : LineFault) (reason : LineReason) → fault_of_reason fault reason ≡ Read
+    → reason ≡ reasons.Read
 reader_failed_by fault reasons.Read is = refl
 reader_failed_by fault reasons.OutOfMemory is = absurd cc
 reader_failed_by fault reason is = absurd cc

@@ -15,3 +15,4 @@ pub mod Statuses
 pub mod Dialogues
 mod NonTermLaws
 mod FindActions
+mod Escaping

@@ -79,7 +79,8 @@ cut_by contents failed fault start out new all part behind n k within e one same
     let front : drop n all ≡ take k part ++ (drop k part ++ behind) =
     e ∙ ap (λ (t : List ℕ). t ++ behind) (sym (take-append-drop k part))
     ∙ append_assoc (take k part) (drop k part) behind in
-    subst (λ (t : ToolFault). IsCutShort t all (contents start) (contents new) (failed start) (failed new)) (sym none.0) (
+    subst (λ (t : ToolFault). IsCutShort t all (contents start) (contents new) (failed start) (failed new))
+    (sym none.0) (
       none.1 ∙ same,
       (
         n + length (take k part),

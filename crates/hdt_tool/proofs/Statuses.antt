@@ -145,7 +145,8 @@ first : {A C D : Type 0} → (D → ⊥) → A ⊎ (D × C) → A
 first not (inl a) = a
 first not (inr h) = absurd (not h.0)
 
-pub count_fault : {A : Type 0} (C : Type 0) (P : ℕ → Type 0) (Q : ToolFault → Type 0) (outcome : Result ℕ ToolFault) (status : ℕ)
+pub count_fault : {A : Type 0} (C : Type 0) (P : ℕ → Type 0) (Q : ToolFault → Type 0)
+    (outcome : Result ℕ ToolFault) (status : ℕ)
     → IsCountStatus outcome status → IfOk outcome P → IfErr outcome Q
     → IfErr outcome (λ fault. ((n : ℕ) → fault ≢ Write n) → A ⊎ ((fault ≡ OutOfMemory) × C)) → status ≡ 1
     → (((fault : ToolFault) × (fault_status fault ≡ 1) × Q fault) × A) ⊎ ((n : ℕ) × (n ≢ 0) × P n)

@@ -7,20 +7,13 @@ ghost use Rattle.hdt_tool.specs.CommandLine.{IsQueryAction, Refutes, RefutesOrIn
 ghost use Rattle.hdt_tool.specs.ErrorLines.{argument_name};
 ghost use Rattle.hdt_usage.specs.CommandTable.{role_name};
 
-use crate::fault::{TermArgument, UsageFault};
+use crate::fault::{TermArgument, UsageFault, missing};
 use crate::request::{Action, AnswerOptions, OutputFormat, Progress};
 use clap::ArgMatches;
 use hdt_build::Options;
 use hdt_dict::Role;
 use hdt_terms::{LineReason, TermFault, parse_string};
 use std::alloc::{AllocError, Global};
-
-/// The error for a required argument without a valid value.
-pub(crate) fn missing(alloc: Global) -> UsageFault
-    ensures { Refutes ⊥ result }
-{
-    UsageFault::text(alloc, "error: a word is missing")
-}
 
 /// The text of an argument, if it is given.
 pub(crate) fn argument_text<'m>(matches: &ArgMatches<'m>, id: &str) -> Option<&'m str>
@@ -100,7 +93,11 @@ pub(crate) fn required_id<'m>(alloc: Global, matches: &ArgMatches<'m>) -> Result
 }
 
 /// The value of a required option, a decimal u32.
-fn required_u32<'m>(alloc: Global, matches: &ArgMatches<'m>, id: &str) -> Result<u32, UsageFault>
+pub(crate) fn required_u32<'m>(
+    alloc: Global,
+    matches: &ArgMatches<'m>,
+    id: &str,
+) -> Result<u32, UsageFault>
     ensures ok { IfOk result (λ n. ParsesAsNumber 32 (one_of id.now (rows_of (found_of matches.now))) n) }
     ensures refused { IfErr result
         (Refutes ((n : ℕ) × ParsesAsNumber 32 (one_of id.now (rows_of (found_of matches.now))) n)) }
@@ -110,18 +107,6 @@ fn required_u32<'m>(alloc: Global, matches: &ArgMatches<'m>, id: &str) -> Result
         Some(_) => Err(missing(alloc)),
         None => Err(missing(alloc)),
     }
-}
-
-/// The value of `--block-size`.
-pub(crate) fn required_block_size<'m>(
-    alloc: Global,
-    matches: &ArgMatches<'m>,
-) -> Result<u32, UsageFault>
-    ensures ok { IfOk result (λ n. ParsesAsNumber 32 (one_of (codes "block-size") (rows_of (found_of matches.now))) n) }
-    ensures refused { IfErr result
-        (Refutes ((n : ℕ) × ParsesAsNumber 32 (one_of (codes "block-size") (rows_of (found_of matches.now))) n)) }
-{
-    required_u32(alloc, matches, "block-size")
 }
 
 /// The options of `build`, given or by default.
@@ -135,7 +120,7 @@ pub(crate) fn build_options<'m>(
 {
     let base = required_text(alloc, matches, "base")?;
     Ok(Options {
-        block_size: required_block_size(alloc, matches)?,
+        block_size: required_u32(alloc, matches, "block-size")?,
         base: base.into_bytes(),
     })
 }

@@ -9,10 +9,10 @@ ghost use Rattle.hdt_tool.specs.declared.request.Request.{Request};
 
 use crate::arguments::{
     answer_action, argument_text, build_options, count_action, dump_action, find_action, has_flag,
-    info_action, lint_action, missing, progress_option, required_block_size, required_id,
-    required_role, required_term, required_text, strings_action, verify_action,
+    info_action, lint_action, progress_option, required_id, required_role, required_term,
+    required_text, strings_action, verify_action,
 };
-use crate::fault::{TermArgument, UsageFault};
+use crate::fault::{TermArgument, UsageFault, missing};
 use crate::request::{Action, Invocation, Request};
 use crate::split_arguments::split_action;
 use clap::error::ErrorKind;
@@ -101,7 +101,7 @@ fn output_action<'m>(
 {
     match name {
         "build" => Ok(Action::Build(build_options(alloc, matches)?)),
-        "rewrite" => Ok(Action::Rewrite(required_block_size(alloc, matches)?)),
+        "rewrite" => Ok(Action::Rewrite(required_u32(alloc, matches, "block-size")?)),
         _ => Err(missing(alloc)),
     }
 }
@@ -147,7 +147,8 @@ fn invocation_of<'m>(
     matches: &ArgMatches<'m>,
 ) -> Result<Invocation, UsageFault>
     ensures ok { IfOk result (λ invocation. IsRequestOf name.now (rows_of (found_of matches.now)) invocation.request) }
-    ensures progress { IfOk result (λ invocation. ParsesAsProgress (rows_of (found_of matches.now)) invocation.progress) }
+    ensures progress { IfOk result
+        (λ invocation. ParsesAsProgress (rows_of (found_of matches.now)) invocation.progress) }
     ensures verbose { IfOk result
         (λ invocation. ParsesAsFlag (one_of (codes "verbose") (rows_of (found_of matches.now))) invocation.verbose) }
     ensures refused { IfErr result
@@ -185,7 +186,8 @@ fn invocation_or_explanation<'m>(
     matches: &ArgMatches<'m>,
 ) -> Result<Invocation, UsageFault>
     ensures ok { IfOk result (λ invocation. IsRequestOf name.now (rows_of (found_of matches.now)) invocation.request) }
-    ensures progress { IfOk result (λ invocation. ParsesAsProgress (rows_of (found_of matches.now)) invocation.progress) }
+    ensures progress { IfOk result
+        (λ invocation. ParsesAsProgress (rows_of (found_of matches.now)) invocation.progress) }
     ensures verbose { IfOk result
         (λ invocation. ParsesAsFlag (one_of (codes "verbose") (rows_of (found_of matches.now))) invocation.verbose) }
     ensures refused { IfErr result (IsFaultOfCommand name.now (rows_of (found_of matches.now))) }

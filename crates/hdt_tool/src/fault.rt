@@ -4,6 +4,7 @@ ghost use Rattle.std.specs.IoError.{error_kind};
 ghost use Rattle.hdt_tool.specs.declared.fault.UsageFault.TheVariants.{OutOfMemory as usage_memory};
 ghost use Rattle.hdt_tool.specs.declared.fault.ToolFault.TheVariants.{OutOfMemory, File};
 ghost use Rattle.hdt_tool.specs.Faults.{line_fault_of};
+ghost use Rattle.hdt_tool.specs.CommandLine.{Refutes};
 
 use hdt_build::{BuildFault, RewriteFault};
 use hdt_dict::Role;
@@ -73,6 +74,13 @@ impl UsageFault {
             Err(_) => UsageFault::OutOfMemory,
         }
     }
+}
+
+/// The error for a required argument without a valid value.
+pub(crate) fn missing(alloc: Global) -> UsageFault
+    ensures { Refutes ⊥ result }
+{
+    UsageFault::text(alloc, "error: a word is missing")
 }
 
 impl From<AllocError> for UsageFault {

@@ -83,7 +83,8 @@ fn look_up_lines(
     requires { AreAscendingIds (role_strings (layout_view layout.now).dictionary role) ids.now }
     ensures ok { IfOk result (λ text. AreLinesOfIds
         (role_strings (layout_view layout.now).dictionary role) terms ids.now text.items) }
-    ensures err { IfErr result (IsLineFault (role_strings (layout_view layout.now).dictionary role) ids.now role terms) }
+    ensures err { IfErr result
+        (IsLineFault (role_strings (layout_view layout.now).dictionary role) ids.now role terms) }
 {
     let mut text = Vec::new(alloc);
     let mut string = Vec::new(alloc);
@@ -107,7 +108,8 @@ fn scan_lines(
     requires { AreAscendingIds (role_strings (layout_view layout.now).dictionary role) ids.now }
     ensures ok { IfOk result (λ text. AreLinesOfIds
         (role_strings (layout_view layout.now).dictionary role) terms ids.now text.items) }
-    ensures err { IfErr result (IsLineFault (role_strings (layout_view layout.now).dictionary role) ids.now role terms) }
+    ensures err { IfErr result
+        (IsLineFault (role_strings (layout_view layout.now).dictionary role) ids.now role terms) }
 {
     let mut text = Vec::new(alloc);
     let mut strings = layout.strings(alloc, role);

@@ -1,5 +1,5 @@
 //! The outputs of `head`, `verify`, `build` and `rewrite`, and the escaping of strings.
-ghost use Rattle.std.specs.Prelude.{◌≡◌, ◌++◌, OnOk, IfOk};
+ghost use Rattle.std.specs.Prelude.{◌≡◌, ◌<◌, ◌≤◌, ◌++◌, ◌∷◌, ℕ, [], OnOk, IfOk, length, slice_index};
 ghost use Rattle.hdt_wire.specs.Control.{control_view};
 ghost use Rattle.hdt_file.specs.Head.{head_parts};
 ghost use Rattle.hdt_tool.specs.PrintedReports.{labelled_line, block_lines, head_text, escaped_byte, escaped, verdict, counts_line};
@@ -7,6 +7,7 @@ ghost use Rattle.hdt_tool.specs.PrintedReports.{labelled_line, block_lines, head
 use hdt_build::Report;
 use hdt_file::Head;
 use hdt_wire::Control;
+use memchr::memchr3;
 use std::alloc::{AllocError, Global};
 
 /// Appends a line with a label, a space and an escaped text.
@@ -53,12 +54,36 @@ fn put_escaped_byte(byte: u8, out: &mut Vec<u8>) -> Result<(), AllocError>
     }
 }
 
+/// The number of leading bytes that need no escape.
+fn unescaped_len(text: &[u8]) -> usize
+    ensures within { result ≤ length text.now }
+    ensures plain { (k : ℕ) → k < result
+        → escaped_byte (slice_index text.now k) ≡ slice_index text.now k ∷ [] }
+{
+    match memchr3(b'\\', b'\n', b'\r', text) {
+        Some(at) => at,
+        None => text.len(),
+    }
+}
+
+/// Appends the leading bytes that need no escape, and returns what follows them.
+fn put_unescaped<'a>(text: &'a [u8], out: &mut Vec<u8>) -> Result<&'a [u8], AllocError>
+    ensures ok { IfOk result (λ rest. out.new.items ++ escaped rest.now ≡ out.old.items ++ escaped text.now) }
+    ensures within { IfOk result (λ rest. length rest.now ≤ length text.now) }
+{
+    let (plain, rest) = text.split_at(unescaped_len(text));
+    out.extend_from_slice(plain)?;
+    Ok(rest)
+}
+
 /// Appends a text, with backslash, line feed and carriage return escaped as `\\`, `\n` and `\r`.
 pub(crate) fn put_escaped(text: &[u8], out: &mut Vec<u8>) -> Result<(), AllocError>
     ensures { OnOk result (out.new.items ≡ out.old.items ++ escaped text.now) }
 {
-    'bytes: for &byte in text {
-        put_escaped_byte(byte, out)?;
+    let mut rest = put_unescaped(text, out)?;
+    'bytes: while let Some((first, tail)) = rest.split_first() {
+        put_escaped_byte(*first, out)?;
+        rest = put_unescaped(tail, out)?;
     }
     Ok(())
 }

@@ -125,7 +125,8 @@ fn layout_triples_text(
     ensures ok { IfOk result (λ text. PrintsTriples format (layout_view layout.now)
         (limited most (matches_if_given (layout_view layout.now) pattern)) text.items) }
     ensures err { IfErr result
-        (IsTextFault format (layout_view layout.now) (limited most (matches_if_given (layout_view layout.now) pattern))) }
+        (IsTextFault format (layout_view layout.now)
+        (limited most (matches_if_given (layout_view layout.now) pattern))) }
 {
     match format {
         OutputFormat::NTriples => layout_text(alloc, layout, pattern, most),

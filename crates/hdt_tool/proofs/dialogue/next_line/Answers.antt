@@ -8,7 +8,8 @@ pub returns-clause-more : goal.returns-clause-more
 returns-clause-more g c = λ all done gone ok.
     elim gone [
       | inl h ↦
-          let line = taken_front c.next_prefix.result _ _ _ _ _ _ _ ok (c.next_prefix.ensures.answers c.requires h.0) in (
+          let line = taken_front c.next_prefix.result _ _ _ _ _ _ _ ok
+          (c.next_prefix.ensures.answers c.requires h.0) in (
             line.0,
             line.2,
             gone_on c.lines_so_far.ensures.goes_on c.lines_so_far.ensures.last c.args.lines.now c.next_prefix.new.self
