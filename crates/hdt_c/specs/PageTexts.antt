@@ -23,8 +23,7 @@ IsAfterPage g (Some p) from most next = IsNextMatch g.triples p from most next
     ⊎ ((next ≡ absent) × (drop most (matches p (drop from g.triples)) ≡ []))
 
 -- the bytes are the text of the page, and `next` is the index of the match after it; or there are no bytes and no
--- index,
--- and the result is the error
+-- index, and the result is the error
 abbrev pub ReportsPageText : GraphParts → ℕ → ℕ → ℕ → HdtBytes → HdtTextResult → Option Pattern → Type 0
 ReportsPageText g from most next out outcome pattern =
     (HoldsText g (page_triples g pattern from most) out outcome × IsAfterPage g pattern from most next)

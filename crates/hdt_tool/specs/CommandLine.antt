@@ -77,8 +77,7 @@ abbrev pub ParsesAsFlag : Option Text → Bool → Type 0
 ParsesAsFlag entry flag = (IsUsed entry → flag ≡ true) × (IsUnused entry → flag ≡ false)
 
 -- `--no-progress` turns progress off. Without it `--progress` asks for lines, and without both it is shown by itself;
--- so it
--- is for a command that has no option `--progress`.
+-- so it is for a command that has no option `--progress`.
 pub record ParsesAsProgress (rows : List Row) (progress : Progress) : Type 0 where
   pub off : IsUsed (one_of (codes "no-progress") rows) → progress ≡ Off
   pub lines : IsUnused (one_of (codes "no-progress") rows) → IsUsed (one_of (codes "progress") rows) → progress ≡ Lines
@@ -434,8 +433,7 @@ IsExplanation rows (InvalidTerm argument fault) = ⊥
 IsExplanation rows OutOfMemory = Unit {0}
 
 -- The error of a command: `Help` is the explanation that `explain` prints; `Usage` is returned only if the arguments
--- give
--- no request and no explanation.
+-- give no request and no explanation.
 abbrev pub IsFaultOfCommand : Text → List Row → UsageFault → Type 0
 IsFaultOfCommand name rows (Help text) = IsExplainCommand (Some (name, rows)) (string_bytes text)
 IsFaultOfCommand name rows (Usage text) = ((request : Request) → IsRequestOf name rows request → ⊥)

@@ -1,6 +1,5 @@
 -- The output of `info`: a line for each value, with its name, a tab and the value; with `--json` one object with the
--- same
--- names and values.
+-- same names and values.
 use Rattle.std.specs.Prelude.{ℕ, ◌*◌, ◌/◌, ◌%◌, Bool, true, false, List, [], ◌∷◌, ◌++◌, codes, max}
 use Rattle.std.specs.Fmt.{decimal}
 use Rattle.hdt_file.specs.declared.info.SectionInfo.{SectionInfo}

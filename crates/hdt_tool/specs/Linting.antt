@@ -18,8 +18,7 @@ IsAny n false = n ≡ 0
 IsAny n true = 0 < n
 
 -- All lines of the input, or its first lines up to the last of `most` faulty ones, were checked, and `faulty` is
--- whether
--- any of these is faulty. The two writers have gained the kept lines and the reports.
+-- whether any of these is faulty. The two writers have gained the kept lines and the reports.
 pub record Lints (keep : Bool) (most : Option ℕ)
     (input kept_before kept_after reported_before reported_after : Option (List ℕ)) (faulty : Bool) : Type 0 where
   pub count : ℕ

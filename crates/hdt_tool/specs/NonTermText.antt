@@ -37,8 +37,7 @@ term_verdict_lines counts [] = verdict counts
 term_verdict_lines counts (t ∷ ts) = flat_map non_term_line (t ∷ ts)
 
 -- The bytes encode a file, which is tight if that is asked; the text has the strings that are not terms, which are n,
--- or
--- the file's counts.
+-- or the file's counts.
 pub record PrintsTermVerdict (tight : Bool) (bytes text : List ℕ) (n : ℕ) : Type 0 where
   pub verdict_of : TermVerdict
   pub is : IsTermVerdict bytes verdict_of

@@ -102,8 +102,7 @@ IsReadOnly (Rewrite b) = ⊥
 IsReadOnly action = Unit {0}
 
 -- The text is the output of a command that writes no file, for these input bytes, and n is what it counts: 0 if it
--- counts
--- nothing.
+-- counts nothing.
 abbrev pub PrintsWithCount : Action → List ℕ → List ℕ → ℕ → Type 0
 PrintsWithCount (SkipNonTerms given count most) bytes text n =
     PrintsCountingNonTerms (SkipNonTerms given count most) bytes text n
@@ -156,8 +155,7 @@ LacksAnyMatch (Exists given) bytes = IsLayoutWith bytes (λ graph. LacksMatch gr
 LacksAnyMatch action bytes = ⊥
 
 -- The output format is N-Triples, or `count` or `strings` prints terms, and the first string to print that is not a
--- term
--- has this role and ID.
+-- term has this role and ID.
 abbrev pub HasNonTerm : Action → List ℕ → Role → ℕ → Type 0
 HasNonTerm (Find given numbers) bytes role n =
     IsLayoutWith bytes (λ graph. HasNonTermIn graph given (find_format numbers) None role n)

@@ -41,8 +41,7 @@ SplitsInTurn mode first n (input ∷ inputs) before after = (between : List (Opt
     × SplitsInTurn mode (first_with_blank_nodes first n report.has_blank_nodes) (n + 1) inputs between after
 
 -- The error is that of the input n: of a line, a read or a write; or it has blank nodes and so has an earlier one; or
--- memory
--- ran out before it was read.
+-- memory ran out before it was read.
 abbrev pub IsFaultOfInputAt : Option BlankNodes → Option ℕ → ℕ → Option (List ℕ) → List (Option (List ℕ))
     → List (Option (List ℕ)) → SplitInputsFault → Type 0
 IsFaultOfInputAt mode first n input before after (stop.Input k fault) = (k ≡ n)

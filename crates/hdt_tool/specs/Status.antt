@@ -24,8 +24,7 @@ abbrev pub IsActionStatus : Action → ℕ → Type 0
 IsActionStatus action status = IsCommandStatus status ⊎ (IsBuild action × (status ≡ 2))
 
 -- The status of complete answers: 0, or 1 if one of them is an error; or if they leave out triples 1, or 4 if there is
--- no
--- memory for the message.
+-- no memory for the message.
 abbrev pub IsReportStatus : AnswerReport → ℕ → Type 0
 IsReportStatus report status = (report.skipped ≡ 0 → status ≡ (if report.has_errors then 1 else 0))
     × (report.skipped ≢ 0 → (status ≡ 1) ⊎ (status ≡ 4))

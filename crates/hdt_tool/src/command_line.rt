@@ -241,8 +241,7 @@ pub fn parse_words<'a>(alloc: Global, words: &'a [&'a str]) -> Result<Request, U
 /// Parses a command line as [`parse_words`] does, and also `--progress`, `--no-progress` and `--verbose`.
 pub fn parse_invocation<'a>(alloc: Global, words: &'a [&'a str]) -> Result<Invocation, UsageFault>
     // The request is that of `parse_words`; `progress` is what these options say, and `verbose` is true exactly if it
-    // is
-    // given.
+    // is given.
     ensures ok { IfOk result (ParsesToInvocation (map (λ word. word.now) words.now)) }
     ensures out { IfOk result (λ invocation. HasOut invocation.request) }
     ensures refused { IfErr result (IsRefused (map (λ word. word.now) words.now)) }

@@ -321,7 +321,7 @@ pub fn answer_file<F: Read, R: Read, W: Write>(
     ensures ok { IfOk result (AnswersOverFile options (F.remaining (inner file.old)) (F.remaining (inner file.new))
         (R.remaining (inner input.old))
         (W.contents (inner out.old)) (W.contents (inner out.new))) }
-    ensures writer_well { OnOk result (failures out.new ≡ failures out.old) }
+    ensures writer_unfailed { OnOk result (failures out.new ≡ failures out.old) }
     // `Read`: one of the two readers failed once in this call.
     ensures read { IsErrOf result ToolFault.Read
         → failures file.new + failures input.new ≡ failures file.old + failures input.old + 1 }

@@ -79,7 +79,7 @@ pub fn answer_requests<R: Read, W: Write>(
     // triples they leave out.
     ensures ok { IfOk result (AnswersInput (graph_view graph.now) options (R.remaining (inner input.old))
         (W.contents (inner out.old)) (W.contents (inner out.new))) }
-    ensures writer_well { OnOk result (failures out.new ≡ failures out.old) }
+    ensures writer_unfailed { OnOk result (failures out.new ≡ failures out.old) }
     // `out` has gained the complete answers to earlier lines, or exactly the first n bytes of the answers if the writer
     // failed. If a line cannot be read, other than for lack of memory, these are the answers to all lines before it.
     ensures stopped { IfErr result
@@ -87,8 +87,8 @@ pub fn answer_requests<R: Read, W: Write>(
         (R.remaining (inner input.new))
         (W.contents (inner out.old)) (W.contents (inner out.new)) (failures out.old) (failures out.new)) }
     ensures read { IsErrOf result ToolFault.Read → failures input.new ≡ failures input.old + 1 }
-    ensures reader_told { IfErr result (λ e. e ≢ ToolFault.Read → failures input.new ≡ failures input.old) }
-    ensures reader_well { OnOk result (failures input.new ≡ failures input.old) }
+    ensures reader_reported { IfErr result (λ e. e ≢ ToolFault.Read → failures input.new ≡ failures input.old) }
+    ensures reader_unfailed { OnOk result (failures input.new ≡ failures input.old) }
 {
     lines_so_far();
     let mut lines = Lines::new(alloc, MAX_INPUT_BYTES)?;

@@ -115,9 +115,8 @@ fn run_lint<R: Read, K: Write, T: Write>(
     ensures unfailed { result ≡ 0 → (failures kept.new ≡ failures kept.old)
         × (failures reported.new ≡ failures reported.old) }
     // Otherwise the status is 1, some of the lines that were checked are faulty, and the writers have gained the
-    // reports of
-    // exactly these and the other lines; or an error with this status, or lack of memory for its message, ended the
-    // run.
+    // reports of exactly these and the other lines; or an error with this status, or lack of memory for its message,
+    // ended the run.
     ensures stopped { result ≢ 0
         → ((result ≡ 1) × Lints keep most (R.remaining (inner input.old)) (K.contents (inner kept.old))
         (K.contents (inner kept.new))

@@ -178,8 +178,7 @@ fn run_query<R: Read, W: Write>(
         (W.contents (inner out.old)) (W.contents (inner out.new)) 0 }
     ensures unfailed { result ≡ 0 → failures out.new ≡ failures out.old }
     // 1: the input is not valid, a look-up found nothing, or a string is not a term, and nothing was written; or `out`
-    // has
-    // gained the output, and something was counted.
+    // has gained the output, and something was counted.
     ensures fault { result ≡ 1
         → (HasInputFault action.now (R.remaining (inner input.old)) (R.remaining (inner input.new))
         × (out.new ≡ out.old))
@@ -274,10 +273,8 @@ fn run_answer<F: Read, R: Read, W: Write>(
         (W.contents (inner out.old)) (W.contents (inner out.new)) (plain_report false) }
     ensures unfailed { result ≡ 0 → failures out.new ≡ failures out.old }
     // Otherwise nothing was written; or all answers, and one of them is an error (status 1), or they leave out triples
-    // (1,
-    // or 4 if there is no memory for the message); or an error with this status, or lack of memory for its message,
-    // ended
-    // the answers.
+    // (1, or 4 if there is no memory for the message); or an error with this status, or lack of memory for its message,
+    // ended the answers.
     ensures stopped { result ≢ 0 → (out.new ≡ out.old)
         ⊎ ((report : AnswerReport) × IsReportStatus report result
         × AnswersOverFile options (F.remaining (inner file.old)) (F.remaining (inner file.new))

@@ -151,13 +151,13 @@ returns-in-Err-clause-read g c =
     λ is. c.in-Err.ensures.read (reader_failed c.in-Err.fault c.line_fault.result c.line_fault.ensures is)
     ∙ ap (λ (n : ℕ). n + 1) c.lines.invariant.7
 
-pub returns-in-Err-clause-reader_told : goal.returns-in-Err-clause-reader_told
-returns-in-Err-clause-reader_told g c =
+pub returns-in-Err-clause-reader_reported : goal.returns-in-Err-clause-reader_reported
+returns-in-Err-clause-reader_reported g c =
     λ other. c.in-Err.ensures.still
     (λ is. other (c.line_fault.ensures ∙ ap (fault_of_reason c.in-Err.fault) is)) ∙ c.lines.invariant.7
 
-pub returns-in_err-accept-in-Ok-clause-reader_told : goal.returns-in_err-accept-in-Ok-clause-reader_told
-returns-in_err-accept-in-Ok-clause-reader_told g c =
+pub returns-in_err-accept-in-Ok-clause-reader_reported : goal.returns-in_err-accept-in-Ok-clause-reader_reported
+returns-in_err-accept-in-Ok-clause-reader_reported g c =
     let p = err_from_is_err_and c.from_residual-in_err-accept-in-Ok.result
     c.from_residual-in_err-accept-in-Ok.ensures.1 in
     rw (p.1, p.2) (λ other. c.in-Ok-true.ensures.count ∙ c.lines.invariant.7)

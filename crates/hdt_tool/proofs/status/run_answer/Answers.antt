@@ -15,7 +15,7 @@ returns-clause-done g c is =
 pub returns-clause-unfailed : goal.returns-clause-unfailed
 returns-clause-unfailed g c is =
     if_done _ c.answer_file-outcome.result c.answers_status.result c.answers_status.ensures
-    c.answer_file-outcome.ensures.writer_well is
+    c.answer_file-outcome.ensures.writer_unfailed is
 
 pub returns-clause-stopped : goal.returns-clause-stopped
 returns-clause-stopped g c not =
