@@ -10,7 +10,7 @@ ghost use Rattle.hdt_tool.specs.declared.request.Request.{Request};
 use crate::arguments::{
     answer_action, argument_text, build_options, count_action, dump_action, find_action, has_flag,
     info_action, lint_action, progress_option, required_id, required_role, required_term,
-    required_text, strings_action, verify_action,
+    required_text, required_u32, strings_action, verify_action,
 };
 use crate::fault::{TermArgument, UsageFault, missing};
 use crate::request::{Action, Invocation, Request};
