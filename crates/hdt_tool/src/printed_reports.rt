@@ -68,22 +68,21 @@ fn unescaped_len(text: &[u8]) -> usize
 
 /// Appends the leading bytes that need no escape, and returns what follows them.
 fn put_unescaped<'a>(text: &'a [u8], out: &mut Vec<u8>) -> Result<&'a [u8], AllocError>
-    ensures ok { IfOk result (λ rest. out.new.items ++ escaped rest.now ≡ out.old.items ++ escaped text.now) }
-    ensures within { IfOk result (λ rest. length rest.now ≤ length text.now) }
+    ensures { IfOk result (λ rest. out.new.items ++ escaped rest.now ≡ out.old.items ++ escaped text.now) }
 {
     let (plain, rest) = text.split_at(unescaped_len(text));
     out.extend_from_slice(plain)?;
     Ok(rest)
 }
 
-/// Appends a text, with backslash, line feed and carriage return escaped as `\\`, `\n` and `\r`.
+/// Appends a text, with backslash, line feed and carriage return escaped as `\\`, `\n` and `\r`. The bytes before the
+/// first of these are copied at once, and those after it go one by one.
 pub(crate) fn put_escaped(text: &[u8], out: &mut Vec<u8>) -> Result<(), AllocError>
     ensures { OnOk result (out.new.items ≡ out.old.items ++ escaped text.now) }
 {
-    let mut rest = put_unescaped(text, out)?;
-    'bytes: while let Some((first, tail)) = rest.split_first() {
-        put_escaped_byte(*first, out)?;
-        rest = put_unescaped(tail, out)?;
+    let rest = put_unescaped(text, out)?;
+    'bytes: for &byte in rest {
+        put_escaped_byte(byte, out)?;
     }
     Ok(())
 }
