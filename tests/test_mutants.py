@@ -172,7 +172,8 @@ def test_kit(tmp_path: Path, trial: dict[str, tuple[str, str]]) -> None:
 
 # The words in a body, and what becomes of its function. `wrong`: a goal is left open. `answer`: a written answer fails.
 # `shape`: a written answer no longer fits. `unknown`: it does not compile. `strange`: the function `next` fails, too.
-# `killed`: the check is killed once. `edit`: a source is changed while the check runs.
+# `killed`: the check is killed once. `edit`: a source is changed while the check runs. `interrupt`: the command that
+# runs the check is killed, unless it has judged nothing yet.
 RATTLE = """\
 import os, re, signal, sys
 from pathlib import Path
@@ -187,6 +188,8 @@ if "unknown" in text:
     sys.exit(1)
 if "killed" in text and Path({log!r}).read_text().count("check") < 3:
     os.kill(os.getpid(), signal.SIGKILL)
+if "interrupt" in text and Path({log!r}).read_text().count("check") > 2:
+    os.kill(os.getppid(), signal.SIGKILL)
 if "edit" in text:
     Path({edited!r}).write_text("edited")
 failed = []
@@ -458,6 +461,13 @@ def test_record_forgets(tmp_path: Path, kit: Kit) -> None:
     answer = judge(top, "--all", "--only", "[ab]", commands=kit.commands)
     assert answer.lines[-1] == "1 refused, 1 failed"
     assert record(top) == {it: before[it] for it in "bc"}
+
+
+def test_record_of_an_interrupted_run(tmp_path: Path, kit: Kit) -> None:
+    """A run that is killed keeps what it has judged."""
+    top = repository(tmp_path / "top", {"a": WRONG, "b": HALF + "interrupt"})
+    judge(top, "--all", commands=kit.commands)
+    assert list(record(top)) == ["a"]
 
 
 def test_record_of_changed_sources(tmp_path: Path, kit: Kit) -> None:

@@ -25,7 +25,7 @@ once over the work that a check of the unchanged crate left. The rules:
 crates/NAME/wrong/RECORD has a line for each mutant that was refused: its name, a checksum of its inputs, the function
 and the goal that refused it, the date and the kit. The inputs are the mutant's text, the crate's src/, specs/ and
 proofs/, and of the crates below their specs/ and src/ without bodies, all without comments. Only this command writes
-it, of mutants that it has judged itself in that run.
+it, of mutants that it has judged itself in that run, and as soon as it has: an interrupted run keeps them.
 
 The last line is 'N refused, M failed', and the status is 1 if one failed.
 """
@@ -381,6 +381,9 @@ class Trial:
         self.failed: list[str] = []
         self.seconds: dict[str, float] = {}
         self.judged: list[Mutant] = []
+        # The inputs that each crate had when its mutants were begun.
+        self.inputs: dict[Crate, str] = {}
+        self.writing = threading.Lock()
 
     def say(self, text: str) -> None:
         """Print a line."""
@@ -415,7 +418,9 @@ class Trial:
             it.seconds += sum(cost for name, cost in verdict.costs.items() if outer_function(name) in it.functions)
             if it.is_alone:
                 it.seconds = verdict.seconds
-        return [it for it in tree if not self.judge(it, verdict, judges, len(tree) == 1)]
+        left = [it for it in tree if not self.judge(it, verdict, judges, len(tree) == 1)]
+        self.write(crate, [it for it in tree if it not in left])
+        return left
 
     def judge(self, mutant: Mutant, verdict: Verdict, judges: bool, is_last: bool) -> bool:
         """Say what a tree says of a mutant, and return whether it says anything."""
@@ -467,6 +472,7 @@ class Trial:
         if base.status or not base.lines[-1].startswith("logic=proved"):
             return self.fail(crate.name, f"it is not proved without a mutant: {base.first_error()}")
         left = self.read(mutants, base.proved)
+        self.write(crate, [it for it in mutants if it not in left])
         self.judged += left
         most = self.given.most
         while left:
@@ -476,32 +482,34 @@ class Trial:
             most = max(1, min(most, len(left)) // 2)
 
     def all(self, work: dict[Crate, list[Mutant]]) -> None:
-        """Judge the mutants of each crate, the crates side by side, and write the records."""
+        """Judge the mutants of each crate, the crates side by side."""
 
         def one(crate: Crate) -> None:
             with tempfile.TemporaryDirectory(prefix="hdt-kept-") as kept:
                 own = crate.folder / "out/incremental"
                 if own.is_dir():  # (what an `rt check` of this crate kept saves the first check)
                     shutil.copytree(own, kept, dirs_exist_ok=True)
-                of_crate = crate.inputs()
+                self.inputs[crate] = crate.inputs()
                 self.crate(crate, work[crate], Path(kept))
-                if crate.inputs() == of_crate and self.given.folder == "wrong":
-                    self.write(crate, work[crate], of_crate)
 
         with ThreadPoolExecutor(len(work) or 1) as pool:
             list(pool.map(one, work))
 
-    def write(self, crate: Crate, judged: list[Mutant], of_crate: str) -> None:
-        """Write what this run has judged into the crate's record."""
-        record, today = Record(crate), date.today().isoformat()
-        for mutant in judged:
-            if mutant.label in self.refused:
-                name, why = self.refused[mutant.label]
-                said = why.replace("\t", " ")
-                record.entries[mutant.name] = [mutant.inputs(of_crate), name, said, today, kit_line()]
-            elif mutant.label in self.failed:
-                record.entries.pop(mutant.name, None)
-        record.write(it.name for it in crate.mutants("wrong", ""))
+    def write(self, crate: Crate, judged: list[Mutant]) -> None:
+        """Write judgements into the crate's record, unless its sources have changed. An interrupted run keeps them."""
+        with self.writing:
+            of_crate = crate.inputs()
+            if of_crate != self.inputs[crate] or self.given.folder != "wrong":
+                return
+            record, today = Record(crate), date.today().isoformat()
+            for mutant in judged:
+                if mutant.label in self.refused:
+                    name, why = self.refused[mutant.label]
+                    said = why.replace("\t", " ")
+                    record.entries[mutant.name] = [mutant.inputs(of_crate), name, said, today, kit_line()]
+                elif mutant.label in self.failed:
+                    record.entries.pop(mutant.name, None)
+            record.write(it.name for it in crate.mutants("wrong", ""))
 
     def say_costs(self) -> None:
         """Print the CPU seconds of the crates, and the dearest mutants by the proofs of their functions."""
