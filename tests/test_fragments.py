@@ -229,7 +229,7 @@ def test_past_the_last_page(site: Site) -> None:
 def test_wrong_pages(site: Site, page: str) -> None:
     """A page that is no number is 400 with a reason."""
     answer = site.nquads(url(page=page))
-    assert (answer.status, answer.text) == (400, "Bad Request: The page is no number from 1 on.\n")
+    assert (answer.status, answer.text) == (400, "Bad Request: The page must be a number from 1 on.\n")
 
 
 # ---- terms of requests
@@ -466,8 +466,8 @@ def test_configuration_files(odd: Path, tmp_path: Path) -> None:
 
 @pytest.mark.parametrize("config, why", [
     ({"dataset": {}}, "no 'dataset'"), ({"page_size": "10"}, "page_size is a int"), ({"page_size": 0}, "page_size"),
-    ({"page_size": True}, "page_size"), ({"datasets": {"a/b": "x"}}, "no name of a dataset"),
-    ({"datasets": {"": "x"}}, "no name of a dataset"), ({"datasets": {"a": {}}}, "has no file"),
+    ({"page_size": True}, "page_size"), ({"datasets": {"a/b": "x"}}, "not a dataset name"),
+    ({"datasets": {"": "x"}}, "not a dataset name"), ({"datasets": {"a": {}}}, "has no file"),
     ({"datasets": {"a": {"file": "x", "titel": "y"}}}, "no 'titel'"), ({"datasets": {"a": 3}}, "no table"),
     ({"base": "ftp://a/"}, "base"), ({"base": "http://a/?x"}, "base"), ({"dereference": {"x/": "a"}}, "no dataset"),
     ({"datasets": {"a": {"file": "x", "license": "CC0"}}}, "license"), ({"hosts": [1]}, "hosts"),

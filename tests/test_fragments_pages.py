@@ -179,7 +179,7 @@ def test_search(site: Site) -> None:
     assert boxes["object"]["value"] == '"line\\nfeed\ttab\\rreturn"' and boxes["predicate"]["value"] == "x"
     assert site.nquads(url(object=boxes["object"]["value"])).total == 1
     assert len(page(site, "/odd").all("option")) == 5
-    assert "The predicate is no term" in page(site, url(predicate="x")).text
+    assert "The predicate is not a term" in page(site, url(predicate="x")).text
     assert "A text has quotes around it" in page(site, url(object="plain")).text
 
 
@@ -312,7 +312,7 @@ def browse(folder: Path, address: str, width: int) -> tuple[str, str]:
 @needs_chromium
 @pytest.mark.parametrize("target, shown", [
     (url(predicate="http://odd.example/p"), "triples match"), (url(subject="_:b1"), "points to it"),
-    ("/odd/void", "most used"), ("/", "Datasets of RDF"), ("/odd?page=0", "no number"),
+    ("/odd/void", "most used"), ("/", "Datasets of RDF"), ("/odd?page=0", "number from 1"),
 ], ids=["fragment", "subject", "description", "list", "error"])
 def test_browser(browsed: tuple[str, Measuring], tmp_path: Path, target: str, shown: str) -> None:
     """A browser shows the page without an error, and asks for nothing else; the style is taken."""

@@ -73,7 +73,7 @@ def test_replaced(
     for bad, why in ((good[:5000], "fault"), (b"", "Truncated"), (good[:-1] + b"x", "fault"), (None, "No such file")):
         caplog.clear()
         assert after(bad).total == 1
-        assert len([line for line in caplog.messages if "the file before it is kept" in line and why in line]) == 1
+        assert len([line for line in caplog.messages if "the previous file stays in use" in line and why in line]) == 1
         assert site.ask("/swap/data.hdt").status == 503
     assert after(good).total == ODD.count("\n")
     assert site.ask("/swap/data.hdt").body == good
@@ -188,7 +188,7 @@ def test_servers(odd: Path, tmp_path: Path, gunicorn: bool) -> None:
             cut.truncate(3000)
         assert totals() == {ODD.count("\n")}
         log = server.log.read_text()
-        assert "the file before it is kept" in log and " GET '/swap?page=3' 200 " in log
+        assert "the previous file stays in use" in log and " GET '/swap?page=3' 200 " in log
 
 
 @pytest.mark.parametrize("gunicorn", [False, pytest.param(True, marks=needs_gunicorn)], ids=["wsgiref", "gunicorn"])
@@ -327,3 +327,12 @@ def test_command(odd: Path, tmp_path: Path) -> None:
     assert said() == (2, "hdt.fragments: error: there is no dataset")
     assert said("odd") == (2, "hdt.fragments: 'odd' is not NAME=FILE")
     assert said("a/b=x")[0] == 2 and said("--config", "none.json")[0] == 2
+    (tmp_path / "wrong.conf").write_text('title = "TOML"\n')
+    status, line = said("--config", "wrong.conf")
+    assert status == 2
+    assert line.startswith("hdt.fragments: wrong.conf: not JSON (the name of a TOML file ends with .toml): ")
+    assert said("--port", "70000", f"odd={odd}")[0] == 2
+    with socket.create_server(("127.0.0.1", 0)) as taken:
+        port = taken.getsockname()[1]
+        status, line = said("--port", str(port), f"odd={odd}")
+    assert status == 2 and line.startswith(f"hdt.fragments: cannot listen on port {port}: ")

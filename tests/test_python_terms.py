@@ -76,7 +76,7 @@ def test_iris_of_dictionaries() -> None:
 @pytest.mark.parametrize("string", NO_STRINGS)
 def test_strings_of_no_term(string: str) -> None:
     """The string of no term is a ValueError."""
-    with pytest.raises(ValueError, match="no term"):
+    with pytest.raises(ValueError, match="not a term"):
         hdt.Term.parse(string)
 
 
@@ -89,7 +89,7 @@ def test_ntriples(text: str) -> None:
 @pytest.mark.parametrize("text", NO_TEXTS)
 def test_texts_of_no_term(text: str) -> None:
     """Other texts are a ValueError."""
-    with pytest.raises(ValueError, match="no term"):
+    with pytest.raises(ValueError, match="not a term"):
         hdt.Term.parse_ntriples(text)
 
 
@@ -114,9 +114,9 @@ def test_why_a_text_is_no_term(text: str) -> None:
 
 
 @pytest.mark.parametrize("string, wanted", [
-    ("<u:a>", "no term: '<u:a>': an IRI of a dictionary string has no brackets"),
-    ("rel", "no term: 'rel': not an absolute IRI"),
-    ("_:", "no term: '_:': not the label of a blank node"),
+    ("<u:a>", "not a term: '<u:a>': an IRI of a dictionary string has no brackets"),
+    ("rel", "not a term: 'rel': not an absolute IRI"),
+    ("_:", "not a term: '_:': not the label of a blank node"),
 ])
 def test_why_a_string_is_no_term(string: str, wanted: str) -> None:
     """The message has the whole string and the reason."""

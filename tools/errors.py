@@ -339,7 +339,7 @@ TEXTS = {
     "IriCharacter": r"printf '%s\n' '<u:a> <u:p> <u:a\u0020b> .' | hdt build - new.hdt",
     "ZeroCharacter": r"""printf '%s\n' '<u:a> <u:p> "x\u0000" .' | hdt build - new.hdt""",
     "Read": "hdt build samples new.hdt",
-    "OutOfMemory": "ulimit -v 100000; hdt build /dev/zero new.hdt",
+    "OutOfMemory": "(ulimit -v 100000; hdt build /dev/zero new.hdt)",
     "TooLong": "echo '? ? ?' | hdt answer samples/three.hdt --longest-request 4",
 }
 # The exit status and the message of those.
@@ -355,7 +355,7 @@ MESSAGES = {
     "error: ..": "hdt verify",
     "reading failed": "hdt verify nowhere.hdt",
     "writing failed": "hdt dump samples/three.hdt > /dev/full",
-    "out of memory": "ulimit -v 100000; hdt verify /dev/zero",
+    "out of memory": "(ulimit -v 100000; hdt verify /dev/zero)",
 }
 
 

@@ -124,7 +124,7 @@ def counts_of(answer: Any) -> Counts:
         raise MemoryError
     if answer.reason == _library.BAD_OPTIONS:
         raise ValueError(
-            "the base is no absolute IRI" if isinstance(answer, Report) else "the block size isn't 1 to 65535"
+            "the base is not an absolute IRI" if isinstance(answer, Report) else "the block size isn't 1 to 65535"
         )
     if answer.reason == _library.NO_TRIPLES:
         raise NoTriples("no triples")

@@ -45,7 +45,7 @@ _WHY = {  # why the text of a term is none
 
 
 def _no_term(text: str, why: str) -> ValueError:
-    return ValueError(f"no term: {text!r}: {why}")
+    return ValueError(f"not a term: {text!r}: {why}")
 
 
 def _why_not_ntriples(text: str) -> str:
@@ -79,15 +79,15 @@ class Term:
 
     `kind` is `"iri"`, `"blank"` or `"literal"`. `lexical` is the IRI, the label without `_:`, or the text of the
     literal, without escapes. `language` and `datatype`, an IRI, are those of a literal; a plain one has neither. They
-    are kept as they are: no case is folded, no number normalized. Raises ValueError if it is no term: an IRI has to be
-    absolute, a label, a language tag and a datatype those of N-Triples, and no text has U+0000. An IRI that isn't a
+    are kept as they are: no case is folded, no number normalized. Raises ValueError if it is not a term: an IRI has to
+    be absolute, a label, a language tag and a datatype those of N-Triples, and no text has U+0000. An IRI that isn't a
     datatype may have characters that N-Triples excludes, as a space: those of some files do.
 
     >>> hdt.Term("literal", "chat", language="fr").format()
     '"chat"@fr'
     >>> hdt.Term("iri", "relative")
     Traceback (most recent call last):
-    ValueError: no term: 'relative': not an absolute IRI
+    ValueError: not a term: 'relative': not an absolute IRI
     """
 
     kind: Kind

@@ -40,7 +40,7 @@ def _config(words: argparse.Namespace) -> Config:
 def main() -> int:
     """Serve until it is interrupted."""
     parser = argparse.ArgumentParser(prog="hdt.fragments", description="Serves HDT files as Triple Pattern Fragments.")
-    parser.add_argument("--port", type=int, default=8080, help="of 127.0.0.1 (8080)")
+    parser.add_argument("--port", type=int, default=8080, help="the port on 127.0.0.1 (default: 8080)")
     parser.add_argument("--config", help="a file of TOML or JSON")
     parser.add_argument("dataset", nargs="*", metavar="NAME=FILE", help="a dataset and its HDT file")
     words = parser.parse_args()
@@ -60,7 +60,12 @@ def main() -> int:
     log_to_standard_error()
     for dataset in wrong.values():
         dataset.log_error()
-    with make_server("127.0.0.1", words.port, application, server_class=Server, handler_class=Handler) as server:
+    try:
+        made = make_server("127.0.0.1", words.port, application, server_class=Server, handler_class=Handler)
+    except (OSError, OverflowError) as error:
+        print(f"hdt.fragments: cannot listen on port {words.port}: {error}", file=sys.stderr)
+        return 2
+    with made as server:
         print(f"http://127.0.0.1:{server.server_port}/", file=sys.stderr, flush=True)
         try:
             server.serve_forever()

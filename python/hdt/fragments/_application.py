@@ -155,11 +155,11 @@ class Application:
         """The media type of the answer."""
         if named := request.given.get("format"):
             if named not in formats.NAMES:
-                raise bad(f"There is no such format; there are {', '.join(formats.NAMES)}.")
+                raise bad(f"There is no such format. Available: {', '.join(formats.NAMES)}.")
             return formats.NAMES[named]
         media = formats.negotiated(request.header("Accept"))
         if media is None:
-            raise Refusal("406 Not Acceptable", f"There are {', '.join(formats.KINDS)}.")
+            raise Refusal("406 Not Acceptable", f"Available: {', '.join(formats.KINDS)}.")
         return media
 
     def _open(self, name: str) -> tuple[Dataset, Loaded]:

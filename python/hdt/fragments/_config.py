@@ -32,14 +32,20 @@ _NAME = re.compile(r"[A-Za-z0-9][A-Za-z0-9._-]{0,99}\Z")
 
 @dataclass(frozen=True)
 class Source:
-    """A dataset: its file, and what is said of it."""
+    """A dataset: its file, and what is said of it.
 
-    file: str  # or a folder that `hdt.parts.build` made
+    - `file`: the path of an HDT file, or of a folder that `hdt.parts.build` made;
+    - `title`, `description`: texts for people; `license`: an IRI;
+    - `download`: whether clients can download the file;
+    - `copy`: as of `hdt.open`. A large file is mapped unless this is true, and must not change in place.
+    """
+
+    file: str
     title: str = ""
     description: str = ""
-    license: str = ""  # an IRI
-    download: bool = False  # whether the file itself is given out
-    copy: Optional[bool] = None  # of `hdt.open`: a large file is mapped unless it is read, and must not change in place
+    license: str = ""
+    download: bool = False
+    copy: Optional[bool] = None
 
     @property
     def gives_file(self) -> bool:
@@ -49,22 +55,38 @@ class Source:
 
 @dataclass(frozen=True)
 class Config:
-    """What a server has. `datasets` maps the last part of a dataset's URL to its file."""
+    """What a server has.
+
+    - `datasets`: the datasets, by the last part of their URL;
+    - `title`: the title of the start page;
+    - `base`: the URL that clients see; if empty, that of the request;
+    - `hosts`: the hosts that are answered if there is no base; any if there are none;
+    - `forwarded`: whether X-Forwarded-Proto, -Host and -Prefix come from a trusted proxy;
+    - `page_size`: triples on a page, 1 to 10,000;
+    - `max_age`: seconds that a cache may keep an answer;
+    - `gzip`: whether answers are compressed for clients that accept it;
+    - `query_limit`: the longest query string that is answered, in bytes;
+    - `log`: whether each request is a line of the log;
+    - `partitions`: at most so many predicates are counted one by one in the description of a dataset;
+    - `prefixes`: names of namespaces, for pages for people and their forms, added to those of `PREFIXES`;
+    - `skolem`: the path below which blank nodes are served as IRIs; if empty, they keep their labels;
+    - `dereference`: beginnings of paths; an IRI whose path has one is redirected to its triples in that dataset.
+    """
 
     datasets: Mapping[str, Source] = field(default_factory=dict)
     title: str = "Triple Pattern Fragments"
-    base: str = ""  # the URL that clients see; without one it is that of the request
-    hosts: tuple[str, ...] = ()  # the hosts that are answered without a base; any where there are none
-    forwarded: bool = False  # whether X-Forwarded-Proto, -Host and -Prefix come from a proxy that is trusted
+    base: str = ""
+    hosts: tuple[str, ...] = ()
+    forwarded: bool = False
     page_size: int = 100
-    max_age: int = 3600  # seconds that a cache may keep an answer
+    max_age: int = 3600
     gzip: bool = True
-    query_limit: int = 7000  # bytes
-    log: bool = True  # whether each request is a line of the log
-    partitions: int = 1000  # predicates that are counted one by one, at most
+    query_limit: int = 7000
+    log: bool = True
+    partitions: int = 1000
     prefixes: Mapping[str, str] = field(default_factory=lambda: dict(PREFIXES))
-    skolem: str = ".well-known/genid/"  # of the IRIs of blank nodes; empty where they keep their labels
-    dereference: Mapping[str, str] = field(default_factory=dict)  # the first part of a path, and its dataset
+    skolem: str = ".well-known/genid/"
+    dereference: Mapping[str, str] = field(default_factory=dict)
 
     @classmethod
     def of(cls, values: Mapping[str, Any], folder: Union[str, Path] = "") -> Config:
@@ -86,27 +108,33 @@ class Config:
 
     @classmethod
     def read(cls, path: Union[str, Path]) -> Config:
-        """The configuration of a file: TOML by its name (`.toml`, from Python 3.11 on), else JSON."""
+        """The configuration of a file: TOML by its name (`.toml`, from Python 3.11 on), else JSON.
+
+        Raises OSError, and ValueError with the path.
+        """
         path = Path(path)
-        return cls.of(_values(path), path.parent)
+        try:
+            return cls.of(_values(path), path.parent)
+        except ValueError as error:
+            raise ValueError(f"{path}: {error}") from error
 
     def check(self) -> None:
         """Raise ValueError where a value can't be."""
         for name in self.datasets:
             if not _NAME.match(name):
-                raise ValueError(f"no name of a dataset: {name!r}")
+                raise ValueError(f"not a dataset name: {name!r}")
         if self.base and not re.match(r"https?://[^\s<>\"{}|^`\\?#/]+(?:/[^\s<>\"{}|^`\\?#]*)?\Z", self.base):
-            raise ValueError(f"the base is no URL: {self.base!r}")
+            raise ValueError(f"the base is not a URL: {self.base!r}")
         for name, source in self.datasets.items():
             if source.license and not terms.has_scheme(source.license):
-                raise ValueError(f"dataset {name!r}: the license is no IRI")
+                raise ValueError(f"dataset {name!r}: the license is not an IRI")
         for texts in (self.prefixes, self.dereference):
             if not all(isinstance(text, str) for text in texts.values()):
                 raise ValueError("prefixes and dereference have texts as their values")
         if not all(isinstance(host, str) for host in self.hosts):
             raise ValueError("hosts are texts")
         if not re.match(r"[A-Za-z0-9._~:/#-]*\Z", self.skolem):
-            raise ValueError(f"skolem is no part of an IRI: {self.skolem!r}")
+            raise ValueError(f"skolem cannot be part of an IRI: {self.skolem!r}")
         for prefix, name in self.dereference.items():
             if name not in self.datasets or not prefix.strip("/"):
                 raise ValueError(f"{prefix!r} leads to no dataset: {name!r}")
@@ -119,7 +147,10 @@ class Config:
 
 def _values(path: Path) -> dict[str, Any]:
     if path.suffix != ".toml":
-        values = json.loads(path.read_text(encoding="utf-8"))
+        try:
+            values = json.loads(path.read_text(encoding="utf-8"))
+        except ValueError as error:
+            raise ValueError(f"not JSON (the name of a TOML file ends with .toml): {error}") from error
     else:
         try:
             import tomllib
@@ -127,7 +158,7 @@ def _values(path: Path) -> dict[str, Any]:
             raise ValueError("this Python reads no TOML: the configuration may be JSON") from None
         values = tomllib.loads(path.read_text(encoding="utf-8"))
     if not isinstance(values, dict):
-        raise ValueError("the configuration is no object")
+        raise ValueError("the configuration is not an object")
     return values
 
 

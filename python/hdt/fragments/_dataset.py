@@ -91,5 +91,5 @@ class Dataset:
 
     def log_error(self) -> None:
         """Log why the file can't be opened."""
-        kept = "the file before it is kept" if self._loaded else "it answers 503"
+        kept = "the previous file stays in use" if self._loaded else "it answers 503"
         log.error("%s: %s can't be opened: %s: %s", self.name, self.source.file, self.error, kept)

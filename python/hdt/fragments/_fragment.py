@@ -60,7 +60,7 @@ def asked(text: str, role: int, reader: Reader, prefix: str, prefixes: Mapping[s
     if terms.has_scheme(text):
         return Asked(text)
     literal = " A text has quotes around it." if role == 2 else ""
-    return Asked(text, f"The {ROLES[role]} is no term: an IRI begins with a scheme, as http:.{literal}")
+    return Asked(text, f"The {ROLES[role]} is not a term: an IRI begins with a scheme, as http:.{literal}")
 
 
 @dataclass(frozen=True)

@@ -99,7 +99,7 @@ class Request:
         """The number of the page that is asked for."""
         number = self.given.get("page", "1")
         if not _PAGE.match(number):
-            raise bad("The page is no number from 1 on.")
+            raise bad("The page must be a number from 1 on.")
         return int(number)
 
 

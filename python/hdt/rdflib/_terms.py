@@ -65,7 +65,7 @@ def term_of(string: str, scope: str = "") -> Term:
     if string.startswith("_:"):
         return BNode(scope + string[2:])
     if not string:
-        raise ValueError("an empty string is no term")
+        raise ValueError("an empty string is not a term")
     return str.__new__(URIRef, string)  # (URIRef(string) logs a warning of some IRIs, and takes longer)
 
 
@@ -77,7 +77,7 @@ def _literal_of(string: str) -> Literal:
     if end and tail.startswith("<", 2) and tail.endswith(">"):
         made = Literal(text, datatype=_datatype[tail], normalize=False)
         return made if str.__eq__(made, text) else _with_text(made, text)
-    raise ValueError(f"no term: {string!r}")
+    raise ValueError(f"not a term: {string!r}")
 
 
 def _with_text(literal: Literal, text: str) -> Literal:
