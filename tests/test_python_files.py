@@ -181,3 +181,10 @@ def test_sample_is_built(tmp_path: Path) -> None:
     """The sample is what its text gives, byte for byte."""
     hdt.build(SAMPLES / "three.nt", tmp_path / "out.hdt", base="http://a/")
     assert (tmp_path / "out.hdt").read_bytes() == THREE.read_bytes()
+
+
+def test_error_names_the_given_file(tmp_path: Path) -> None:
+    """In a folder that does not exist, the error is about the file that was to be written, not one beside it."""
+    with pytest.raises(FileNotFoundError) as told:
+        hdt.build(SAMPLES / "three.nt", tmp_path / "none/graph.hdt")
+    assert told.value.filename == str(tmp_path / "none/graph.hdt")

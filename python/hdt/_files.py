@@ -61,6 +61,8 @@ def _create_beside(path: str) -> tuple[int, str]:
             return os.open(beside, os.O_WRONLY | os.O_CREAT | os.O_EXCL | os.O_CLOEXEC, 0o600), beside
         except FileExistsError:
             continue
+        except OSError as error:
+            raise OSError(error.errno, error.strerror, path) from None  # (the caller knows nothing of the other name)
 
 
 def _replace(path: Path, data: memoryview) -> None:
