@@ -1,13 +1,16 @@
 -- Dropping duplicates of sorted strings, and the new indices of the strings.
-use Rattle.std.proofs.Common.{◌≡◌, ◌∙◌, ℕ, ◌+◌, ◌-◌, ◌<◌, ◌≤◌, List, [], ◌∷◌, ◌++◌, length, get_or, set, refl, ap, sym, subst, inl, inr, arith}
+use Rattle.std.proofs.Common.{◌≡◌, ◌∙◌, ℕ, ◌+◌, ◌-◌, ◌<◌, ◌≤◌, List, [], ◌∷◌, ◌++◌, length, get_or, set, refl, ap, sym}
+use Rattle.std.proofs.Common.{subst, inl, inr, arith}
 use Rattle.std.specs.declared.cmp.Ordering.TheVariants.{Less}
 use Rattle.std.specs.Ordering.{ordering_reverse}
 use Rattle.std.specs.Cmp.Lexicographic.{nat_list_cmp_total}
 use Rattle.std.proofs.lemmas.Bool.{cases_lt, cases_eq}
-use Rattle.std.proofs.lemmas.List.{get_or-map, length-map, length-set, length_push, get_or_append_left, get_or_push, get_or-set_same, get_or-set_other}
+use Rattle.std.proofs.lemmas.List.{get_or-map, length-map, length-set, length_push, get_or_append_left, get_or_push}
+use Rattle.std.proofs.lemmas.List.{get_or-set_same, get_or-set_other}
 use Rattle.std.proofs.lemmas.Map.Keys.{Less-from_sorted, sorted_from_all_adjacent}
 use Rattle.hdt_front.specs.Order.{IsAscending, string_cmp}
-use Rattle.hdt_build.specs.Inside.SortedEntries.{KeyedIndex, AreEntriesOf, AreIndicesOf, IsPushedOnce, IsLast, IsLessThanLast, NeverDescends, entry_index, entry_strings, last_of}
+use Rattle.hdt_build.specs.Inside.SortedEntries.{KeyedIndex, AreEntriesOf, AreIndicesOf, IsPushedOnce, IsLast}
+use Rattle.hdt_build.specs.Inside.SortedEntries.{IsLessThanLast, NeverDescends, entry_index, entry_strings, last_of}
 
 -- x is the string of ys at index v
 abbrev IsAt : List (List ℕ) → List ℕ → ℕ → Type 0
@@ -84,7 +87,8 @@ module _ (xs : List (List ℕ)) (ps : List KeyedIndex) (placed : AreEntriesOf xs
         last = λ _. let e : i + 1 - 1 ≡ i = omega arith in
             subst (λ (j : ℕ). IsLast zs (get_or xs (entry_index ps j) [])) (sym e) last;
         each = λ n lt. elim (cases_eq (entry_index ps n) (entry_index ps i)) as
-            (λ _. IsAt zs (get_or xs (entry_index ps n) []) (get_or (set ns (entry_index ps i) v) (entry_index ps n) 0)) [
+            (λ _. IsAt zs (get_or xs (entry_index ps n) [])
+            (get_or (set ns (entry_index ps i) v) (entry_index ps n) 0)) [
               | inl same ↦ rw (same, get_or-set_same ns (entry_index ps i) v 0 inside) is
               | inr apart ↦
                   let earlier : n < i = elim (cases_lt n i) as (λ _. n < i) [

@@ -1,5 +1,6 @@
 -- The ID triples of a document: the string triples that they denote, and that their subjects have no gap.
-use Rattle.std.proofs.Common.{◌≡◌, ◌≢◌, ℕ, ◌+◌, ◌<◌, ◌≤◌, List, [], map, length, get_or, refl, ap, sym, ◌∙◌, subst, inl, inr, arith}
+use Rattle.std.proofs.Common.{◌≡◌, ◌≢◌, ℕ, ◌+◌, ◌<◌, ◌≤◌, List, [], map, length, get_or, refl, ap, sym, ◌∙◌, subst, inl}
+use Rattle.std.proofs.Common.{inr, arith}
 use Rattle.std.specs.declared.cmp.Ordering.TheVariants.{Less, Equal}
 use Rattle.std.specs.List.{Contains}
 use Rattle.std.proofs.lemmas.Bool.{cases_lt}
@@ -9,7 +10,8 @@ use Rattle.std.proofs.lemmas.List.Elements.{All-contains, All-map, Contains-appe
 use Rattle.std.proofs.lemmas.Map.Keys.{Less-from_sorted}
 use Rattle.hdt_dict.specs.Strings.{SameMembers}
 use Rattle.hdt_dict.specs.Split.{IsSplit}
-use Rattle.hdt_dict.specs.Laws.Members.{SameMembers-map, Contains-map, Contains-from_map, All-from_members, All-same_members}
+use Rattle.hdt_dict.specs.Laws.Members.{SameMembers-map, Contains-map, Contains-from_map, All-from_members}
+use Rattle.hdt_dict.specs.Laws.Members.{All-same_members}
 use Rattle.hdt_build.specs.Inside.Rewriting.{IsIdOf, string_of_id}
 use Rattle.hdt_build.specs.Inside.Filtering.{AreSectionsOf}
 use Rattle.hdt_triples.specs.TripleSequences.{Triple}
@@ -20,7 +22,8 @@ use Rattle.hdt_build.proofs.IndexTriples.{map_along}
 use Rattle.hdt_file.specs.Denoted.{StringTriple}
 use Rattle.hdt_file.specs.Tight.{IsTight}
 use Rattle.hdt_build.specs.Layouts.{graph_parts_of}
-use Rattle.hdt_build.specs.Graph.{IsEncodedGraph, string_triple_at, string_triples_of, mapped_triple, subjects_of, predicates_of, objects_of}
+use Rattle.hdt_build.specs.Graph.{IsEncodedGraph, string_triple_at, string_triples_of, mapped_triple, subjects_of}
+use Rattle.hdt_build.specs.Graph.{predicates_of, objects_of}
 use Rattle.hdt_build.proofs.StringsOfIds.{in_role, string_triple, same_strings, term_in}
 use Rattle.hdt_build.proofs.Distinct.{Distinct, number_unique, subjects_distinct, predicates_distinct, objects_distinct}
 use Rattle.hdt_triples.specs.Order.{nth_triple, AreWritable, IsInRange, AreAscending}

@@ -1,5 +1,6 @@
 -- Reading the lines of an input, and collecting the strings of its triples.
-use Rattle.std.proofs.Common.{◌≡◌, ◌≢◌, ℕ, ◌<◌, ◌≤◌, Bool, true, false, List, [], ◌∷◌, ◌++◌, length, map, eqb, not, Option, Some, None, ◌⊎◌, inl, inr, refl, sym, ap, subst, ◌∙◌, arith}
+use Rattle.std.proofs.Common.{◌≡◌, ◌≢◌, ℕ, ◌<◌, ◌≤◌, Bool, true, false, List, [], ◌∷◌, ◌++◌, length, map, eqb, not}
+use Rattle.std.proofs.Common.{Option, Some, None, ◌⊎◌, inl, inr, refl, sym, ap, subst, ◌∙◌, arith}
 use Rattle.std.specs.Io.KnownBytes.{IsAtEnd, prepend_known}
 use Rattle.std.specs.List.{All}
 use Rattle.std.proofs.lemmas.Bool.{eqb-false}
@@ -21,7 +22,8 @@ use Rattle.hdt_terms.specs.Terms.{dictionary_string}
 use Rattle.hdt_file.specs.Denoted.{StringTriple}
 use Rattle.hdt_build.specs.Graph.{subjects_of, predicates_of, objects_of}
 use Rattle.hdt_build.proofs.StringsOfIds.{same_strings}
-use Rattle.hdt_build.specs.Reading.{most, term_strings, IsInputGraph, HasDictionaryStrings, IsConvertedTo, ReadFailed, IsBuildFaultOf}
+use Rattle.hdt_build.specs.Reading.{most, term_strings, IsInputGraph, HasDictionaryStrings, IsConvertedTo, ReadFailed}
+use Rattle.hdt_build.specs.Reading.{IsBuildFaultOf}
 
 pub either : (b : Bool) → (b ≡ true) ⊎ (b ≡ false)
 either true = inl refl

@@ -1,7 +1,9 @@
 -- Triples as indices into a list of strings, and the string triples that they stand for.
-use Rattle.std.proofs.Common.{◌≡◌, ◌∙◌, ℕ, ◌+◌, ◌<◌, List, [], ◌∷◌, ◌++◌, map, length, get_or, take, refl, ap, sym, append_assoc, arith}
+use Rattle.std.proofs.Common.{◌≡◌, ◌∙◌, ℕ, ◌+◌, ◌<◌, List, [], ◌∷◌, ◌++◌, map, length, get_or, take, refl, ap, sym}
+use Rattle.std.proofs.Common.{append_assoc, arith}
 use Rattle.std.specs.List.{All}
-use Rattle.std.proofs.lemmas.List.{get_or_default, same_lists, length-map, get_or-map, map-append, map_push, take-append-le, take_all, take_more}
+use Rattle.std.proofs.lemmas.List.{get_or_default, same_lists, length-map, get_or-map, map-append, map_push}
+use Rattle.std.proofs.lemmas.List.{take-append-le, take_all, take_more}
 use Rattle.std.proofs.lemmas.List.Elements.{All-append, All-head, All-map, All-nil, All-push, All-tail, All-weaker}
 use Rattle.std.proofs.lemmas.Simd.{map-map}
 use Rattle.hdt_triples.specs.TripleSequences.{Triple}

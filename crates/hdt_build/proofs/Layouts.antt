@@ -1,5 +1,6 @@
 -- A canonical file is a valid file of its graph.
-use Rattle.std.proofs.Common.{◌≡◌, ℕ, ◌+◌, ◌^◌, ◌<◌, ◌≤◌, List, [], ◌++◌, length, refl, sym, ap, subst, ◌∙◌, arith, length-append, append-nil}
+use Rattle.std.proofs.Common.{◌≡◌, ℕ, ◌+◌, ◌^◌, ◌<◌, ◌≤◌, List, [], ◌++◌, length, refl, sym, ap, subst, ◌∙◌, arith}
+use Rattle.std.proofs.Common.{length-append, append-nil}
 use Rattle.hdt_wire.specs.declared.control.Kind.TheVariants as kinds
 use Rattle.hdt_wire.specs.Control.{control, expected_control_info}
 use Rattle.hdt_wire.specs.Checks.{HasSlice}
@@ -12,7 +13,8 @@ use Rattle.hdt_dict.specs.Writing.{AreSections, mapping, canonical_dictionary, c
 use Rattle.hdt_dict.specs.Laws.Writing.{dictionary_encoded}
 use Rattle.hdt_triples.specs.TripleSequences.{Triple, BitmapTriples}
 use Rattle.hdt_triples.specs.Order.{AreAtMostCounts, CountsFit64}
-use Rattle.hdt_triples.specs.Writing.{order_property, sequences_of, canonical_sequences, sequences_parts, canonical_triples, canonical_triples_parts}
+use Rattle.hdt_triples.specs.Writing.{order_property, sequences_of, canonical_sequences, sequences_parts}
+use Rattle.hdt_triples.specs.Writing.{canonical_triples, canonical_triples_parts}
 use Rattle.hdt_triples.specs.Laws.Writing.{triples_stand, triples_are}
 use Rattle.hdt_file.specs.File.{FileParts, GraphParts, IsFile, IsLayout, dictionary_counts, graph_of_file, role_counts}
 use Rattle.hdt_file.specs.Tight.{IsTight}

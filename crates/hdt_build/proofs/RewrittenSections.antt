@@ -1,5 +1,6 @@
 -- The sections of a graph that is rewritten, and the new IDs of its triples.
-use Rattle.std.proofs.Common.{◌≡◌, ◌∙◌, ◌⊎◌, inl, inr, ℕ, ◌+◌, ◌-◌, ◌<◌, ◌≤◌, List, [], ◌++◌, map, length, get_or, refl, ap, sym, subst, arith}
+use Rattle.std.proofs.Common.{◌≡◌, ◌∙◌, ◌⊎◌, inl, inr, ℕ, ◌+◌, ◌-◌, ◌<◌, ◌≤◌, List, [], ◌++◌, map, length, get_or, refl}
+use Rattle.std.proofs.Common.{ap, sym, subst, arith}
 use Rattle.std.specs.List.{Contains}
 use Rattle.std.proofs.lemmas.Bool.{cases_lt}
 use Rattle.std.proofs.lemmas.List.{get_or_append_left, get_or-append_right, length-append}
@@ -20,7 +21,8 @@ use Rattle.hdt_dict.specs.declared.dictionary.SectionId.{SectionId}
 use Rattle.hdt_dict.specs.declared.dictionary.SectionId.TheVariants as sections
 use Rattle.hdt_build.specs.declared.sections.NewIds.{NewIds}
 use Rattle.hdt_build.specs.Graph.{IsEncodedGraph, subjects_of, predicates_of, objects_of}
-use Rattle.hdt_build.specs.Inside.Rewriting.{section_role, IsUsedInBoth, RetainsId, IsIdAfter, IsRewrittenSection, AreRewrittenSections, with_new_ids, new_id, IsIdOf, string_of_id}
+use Rattle.hdt_build.specs.Inside.Rewriting.{section_role, IsUsedInBoth, RetainsId, IsIdAfter, IsRewrittenSection}
+use Rattle.hdt_build.specs.Inside.Rewriting.{AreRewrittenSections, with_new_ids, new_id, IsIdOf, string_of_id}
 use Rattle.hdt_build.specs.Layouts.{denoted_by}
 use Rattle.hdt_build.proofs.Denoting.{encoded_form}
 use Rattle.hdt_build.proofs.Distinct.{Distinct-ascending}

@@ -1,5 +1,6 @@
 -- Writing a section of a graph from two runs.
-use Rattle.std.proofs.Common.{◌≡◌, ◌≢◌, ◌∙◌, inl, inr, ℕ, ◌+◌, ◌<◌, ◌≤◌, List, [], ◌∷◌, ◌++◌, length, set, refl, ap, sym, subst, arith}
+use Rattle.std.proofs.Common.{◌≡◌, ◌≢◌, ◌∙◌, inl, inr, ℕ, ◌+◌, ◌<◌, ◌≤◌, List, [], ◌∷◌, ◌++◌, length, set, refl, ap}
+use Rattle.std.proofs.Common.{sym, subst, arith}
 use Rattle.std.specs.declared.cmp.Ordering.{Ordering}
 use Rattle.std.specs.declared.cmp.Ordering.TheVariants.{Less, Equal, Greater}
 use Rattle.std.specs.Ordering.{ordering_reverse}
@@ -12,7 +13,8 @@ use Rattle.hdt_file.specs.File.{GraphParts}
 use Rattle.hdt_file.specs.Graph.{IsGraph}
 use Rattle.hdt_dict.specs.declared.dictionary.SectionId.{SectionId}
 use Rattle.hdt_build.specs.declared.section_run.SectionRun.{SectionRun}
-use Rattle.hdt_build.specs.Inside.Rewriting.{section_role, RetainsId, first_run_end, second_run_end, IsValidRun, IsRunFrom, IsRewrittenSection, HasPrefixLength, PrefixesDecideOrder}
+use Rattle.hdt_build.specs.Inside.Rewriting.{section_role, RetainsId, first_run_end, second_run_end, IsValidRun}
+use Rattle.hdt_build.specs.Inside.Rewriting.{IsRunFrom, IsRewrittenSection, HasPrefixLength, PrefixesDecideOrder}
 use Rattle.hdt_build.proofs.PrefixOrder.{last_in, tell, last_less}
 use Rattle.hdt_build.proofs.RunMerging.{InWork, Ahead, turn, begun, taken, finished}
 use Rattle.hdt_build.proofs.RunOrder.{kept_before, cut_before, run_up, run_apart}

@@ -6,7 +6,8 @@ use Rattle.std.proofs.lemmas.List.Elements.{All-contains}
 use Rattle.hdt_dict.specs.Strings.{SameMembers}
 use Rattle.hdt_front.specs.Order.{string_cmp}
 use Rattle.hdt_dict.specs.Split.{IsSplit}
-use Rattle.hdt_dict.specs.Laws.Members.{SameMembers-map, SameMembers-trans, Contains-map, Contains-from_map, ascending_unique}
+use Rattle.hdt_dict.specs.Laws.Members.{SameMembers-map, SameMembers-trans, Contains-map, Contains-from_map}
+use Rattle.hdt_dict.specs.Laws.Members.{ascending_unique}
 use Rattle.hdt_triples.specs.TripleSequences.{Triple}
 use Rattle.hdt_file.specs.Denoted.{StringTriple}
 use Rattle.hdt_build.specs.Graph.{IsEncodedGraph}

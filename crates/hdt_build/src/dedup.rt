@@ -3,7 +3,8 @@ ghost use Rattle.std.specs.Prelude.{◌≡◌, ◌+◌, ◌-◌, ◌<◌, [], le
 ghost use Rattle.std.specs.declared.cmp.Ordering.TheVariants.{Less, Greater};
 ghost use Rattle.hdt_front.specs.Canonical.{borrowed_texts};
 ghost use Rattle.hdt_front.specs.Order.{IsAscending, string_cmp};
-ghost use Rattle.hdt_build.specs.Inside.SortedEntries.{entry_strings, AreEntriesOf, AreIndicesOf, IsPushedOnce, IsLessThanLast, NeverDescends};
+ghost use Rattle.hdt_build.specs.Inside.SortedEntries.{entry_strings, AreEntriesOf, AreIndicesOf, IsPushedOnce};
+ghost use Rattle.hdt_build.specs.Inside.SortedEntries.{IsLessThanLast, NeverDescends};
 
 use crate::prefetch::prefetch_entries;
 use crate::string_sort::{sort_by_keys, sort_by_string};

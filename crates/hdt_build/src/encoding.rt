@@ -32,7 +32,8 @@ pub(crate) fn encode_graph(
     requires texts { HasDictionaryStrings (string_triples_of list ids.items) }
     requires block { 1 ≤ block_size }
     ensures form { IfOk result
-        (λ made. IsEncodedGraph (string_triples_of list ids.items) (lists_of_sections made.sections) made.triples.items) }
+        (λ made. IsEncodedGraph (string_triples_of list ids.items) (lists_of_sections made.sections)
+        made.triples.items) }
     ensures blocks { IfOk result (λ made. HaveBlockSize block_size made.sections) }
 {
     let mut triples = ids;

@@ -1,5 +1,6 @@
 //! Triples whose strings have not been looked up yet.
-ghost use Rattle.std.specs.Prelude.{◌≡◌, ◌<◌, ◌++◌, ◌∷◌, [], length, slice_index_or, IfOk, OnOk, IsTrue, IsFalse, ◌≤◌, ◌⊎◌};
+ghost use Rattle.std.specs.Prelude.{◌≡◌, ◌<◌, ◌++◌, ◌∷◌, [], length, slice_index_or, IfOk, OnOk, IsTrue, IsFalse, ◌≤◌};
+ghost use Rattle.std.specs.Prelude.{◌⊎◌};
 ghost use Rattle.std.specs.List.{All};
 ghost use Rattle.hdt_build.specs.Inside.Collecting.{queued_triples, IsValidQueue};
 ghost use Rattle.hdt_build.specs.Inside.SortedEntries.{ExtendsList};

@@ -4,7 +4,8 @@ ghost use Rattle.std.specs.Io.KnownBytes.{IsAtEnd};
 ghost use Rattle.hdt_wire.specs.Counted.{inner, failures};
 ghost use Rattle.hdt_terms.specs.declared.fault.LineReason.TheVariants as reasons;
 ghost use Rattle.hdt_build.specs.Inside.Collecting.{collected_triples, IsValidCollector};
-ghost use Rattle.hdt_build.specs.Reading.{IsInputGraph, HasDictionaryStrings, IsBuildFaultOf, IsConvertedTo, ReadFailed};
+ghost use Rattle.hdt_build.specs.Reading.{IsInputGraph, HasDictionaryStrings, IsBuildFaultOf, IsConvertedTo};
+ghost use Rattle.hdt_build.specs.Reading.{ReadFailed};
 
 use crate::collector::TripleCollector;
 use crate::fault::BuildFault;

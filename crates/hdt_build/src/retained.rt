@@ -1,7 +1,8 @@
 //! Rewriting: the strings of a graph that each new section retains.
 ghost use Rattle.std.specs.Prelude.{◌≡◌, ◌<◌, ◌≤◌, ◌+◌, ◌↔◌, ℕ, IsTrue};
 ghost use Rattle.hdt_file.specs.Graph.{graph_view};
-ghost use Rattle.hdt_build.specs.Inside.Rewriting.{section_role, IsUsedInBoth, RetainsId, first_run_end, second_run_end};
+ghost use Rattle.hdt_build.specs.Inside.Rewriting.{section_role, IsUsedInBoth, RetainsId, first_run_end};
+ghost use Rattle.hdt_build.specs.Inside.Rewriting.{second_run_end};
 
 use hdt_dict::{Role, SectionId};
 use hdt_file::Graph;

@@ -3,7 +3,8 @@ ghost use Rattle.std.specs.Prelude.{◌≡◌, ◌<◌, ◌≤◌, ◌+◌, List
 ghost use Rattle.hdt_front.specs.WriterState.{last_string};
 ghost use Rattle.hdt_front.specs.Order.{lcp_len};
 ghost use Rattle.hdt_file.specs.Graph.{graph_view};
-ghost use Rattle.hdt_build.specs.Inside.Rewriting.{section_role, IsProgressOf, IsAfterString, IsRunFrom, HasPrefixLength};
+ghost use Rattle.hdt_build.specs.Inside.Rewriting.{section_role, IsProgressOf, IsAfterString, IsRunFrom};
+ghost use Rattle.hdt_build.specs.Inside.Rewriting.{HasPrefixLength};
 ghost use Rattle.hdt_dict.specs.Dictionary.{role_strings};
 
 use crate::retained::{next_retained, section_role};

@@ -1,12 +1,15 @@
 //! Rewriting: writing the sections of the strings that triples use, and their new IDs.
-ghost use Rattle.std.specs.Prelude.{◌≡◌, ◌≢◌, ◌<◌, ◌≤◌, ◌+◌, ◌^◌, ◌++◌, ◌∷◌, [], ℕ, length, set, slice_index, IsTrue, IsFalse, IfOk, OnOk};
+ghost use Rattle.std.specs.Prelude.{◌≡◌, ◌≢◌, ◌<◌, ◌≤◌, ◌+◌, ◌^◌, ◌++◌, ◌∷◌, [], ℕ, length, set, slice_index, IsTrue};
+ghost use Rattle.std.specs.Prelude.{IsFalse, IfOk, OnOk};
 ghost use Rattle.std.specs.declared.cmp.Ordering.TheVariants.{Less};
 ghost use Rattle.hdt_front.specs.WriterState.{last_string};
 ghost use Rattle.hdt_front.specs.Order.{string_cmp, lcp_len};
 ghost use Rattle.hdt_file.specs.Denoted.{string_of};
 ghost use Rattle.hdt_file.specs.Graph.{graph_view};
 ghost use Rattle.hdt_wire.specs.declared.role.Role.TheVariants as roles;
-ghost use Rattle.hdt_build.specs.Inside.Rewriting.{section_role, second_run_end, IsValidRun, IsRunFrom, HasPrefixLength, PrefixesDecideOrder, IsRewrittenSection, AreRewrittenSections, HaveBlockSize, lists_of_sections};
+ghost use Rattle.hdt_build.specs.Inside.Rewriting.{section_role, second_run_end, IsValidRun, IsRunFrom};
+ghost use Rattle.hdt_build.specs.Inside.Rewriting.{HasPrefixLength, PrefixesDecideOrder, IsRewrittenSection};
+ghost use Rattle.hdt_build.specs.Inside.Rewriting.{AreRewrittenSections, HaveBlockSize, lists_of_sections};
 ghost use Rattle.hdt_dict.specs.Dictionary.{role_strings};
 ghost use Rattle.hdt_wire.specs.declared.role.Role.TheVariants.{Object};
 
@@ -101,7 +104,8 @@ fn rewrite_section(
     requires few { ids_before ≤ length ids.old.items }
     requires block { 1 ≤ block_size }
     ensures rewritten { IfOk result
-        (λ made. IsRewrittenSection (graph_view graph.now) section ids_before made.strings ids.old.items ids.new.items) }
+        (λ made. IsRewrittenSection (graph_view graph.now) section ids_before made.strings
+        ids.old.items ids.new.items) }
     ensures long { IfOk result (λ made. length ids.new.items
         ≡ length (role_strings (graph_view graph.now).dictionary (section_role section))) }
     ensures block { IfOk result (λ made. made.block_size ≡ block_size) }

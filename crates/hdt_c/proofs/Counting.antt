@@ -1,6 +1,7 @@
 -- Writing a list to a buffer, one by one.
 use mathlib.Core.Path.{refl, ap, sym, ◌∙◌}
-use Rattle.std.proofs.Common.{arith, ◌≡◌, ◌<◌, ◌+◌, ◌-◌, ◌++◌, ℕ, suc, zero, List, [], ◌∷◌, map, take, drop, length, slice_set, subst}
+use Rattle.std.proofs.Common.{arith, ◌≡◌, ◌<◌, ◌+◌, ◌-◌, ◌++◌, ℕ, suc, zero, List, [], ◌∷◌, map, take, drop, length}
+use Rattle.std.proofs.Common.{slice_set, subst}
 use Rattle.std.specs.List.{range_with_len}
 use Rattle.std.proofs.lemmas.List.{take-append-drop}
 use Rattle.hdt_c.specs.CallerBuffer.{overwritten_prefix}

@@ -1,6 +1,7 @@
 //! Building a file from N-Triples.
 ghost use Rattle.std.specs.Prelude.{◌≡◌, IfOk, IfErr};
-ghost use Rattle.hdt_c.specs.Building.{BuildsText, HasBuildFault, ReportsBuild, built_report, report_for, report_of_fault};
+ghost use Rattle.hdt_c.specs.Building.{BuildsText, HasBuildFault, ReportsBuild, built_report, report_for};
+ghost use Rattle.hdt_c.specs.Building.{report_of_fault};
 
 use crate::bytes::HdtBytes;
 use crate::report::HdtReport;

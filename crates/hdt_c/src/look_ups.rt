@@ -1,7 +1,8 @@
 //! Counts, IDs and strings of a graph.
 ghost use Rattle.std.specs.Prelude.{◌≡◌, Some, length};
 ghost use Rattle.hdt_file.specs.Graph.{graph_view};
-ghost use Rattle.hdt_c.specs.LookUps.{ReturnsId, IsIdIn, ReturnsString, closed, role_len, role_by_number, string_with_id};
+ghost use Rattle.hdt_c.specs.LookUps.{ReturnsId, IsIdIn, ReturnsString, closed, role_len, role_by_number};
+ghost use Rattle.hdt_c.specs.LookUps.{string_with_id};
 ghost use Rattle.hdt_c.specs.Handle.{IsClosed, IfOpen, SameGraph};
 ghost use Rattle.hdt_c.specs.CallerBuffer.{overwritten_prefix};
 ghost use Rattle.hdt_dict.specs.Dictionary.{role_strings};

@@ -2,7 +2,9 @@
 ghost use Rattle.std.specs.Prelude.{◌≡◌, ◌<◌, Some, [], IfOk, IfErr, map, replicate};
 ghost use Rattle.std.specs.List.{concat};
 ghost use Rattle.hdt_dict.specs.StringBatch.{ends_from};
-ghost use Rattle.hdt_c.specs.Splitting.{HasSplitFault, JoinsParts, ReportsSplit, SplitsText, report_of_line, split_report, split_report_for, split_report_of_fault, written_text, written_texts};
+ghost use Rattle.hdt_c.specs.Splitting.{HasSplitFault, JoinsParts, ReportsSplit, SplitsText, report_of_line};
+ghost use Rattle.hdt_c.specs.Splitting.{split_report, split_report_for, split_report_of_fault, written_text};
+ghost use Rattle.hdt_c.specs.Splitting.{written_texts};
 
 use crate::bytes::{HdtBytes, copy_into};
 use crate::report::HdtSplitReport;

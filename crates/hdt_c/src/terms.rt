@@ -3,7 +3,8 @@ ghost use Rattle.std.specs.Prelude.{◌≡◌, ◌<◌, ◌↔◌, ◌++◌, ◌
 ghost use Rattle.std.specs.Option.{option_map};
 ghost use Rattle.hdt_terms.specs.declared.triple.Term.TheVariants.{Literal};
 ghost use Rattle.hdt_terms.specs.Terms.{quoted};
-ghost use Rattle.hdt_c.specs.TermParts.{IsStringOfKind, IsTermOfKind, ReturnsParts, ReturnsTermString, no_parts, parts_of_term, string_of_term, term_of_kind};
+ghost use Rattle.hdt_c.specs.TermParts.{IsStringOfKind, IsTermOfKind, ReturnsParts, ReturnsTermString, no_parts};
+ghost use Rattle.hdt_c.specs.TermParts.{parts_of_term, string_of_term, term_of_kind};
 
 use crate::bytes::copy_into;
 use crate::look_ups::{ABSENT, NO_MEMORY};

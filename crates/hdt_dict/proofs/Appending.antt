@@ -1,5 +1,6 @@
 -- Appending control information and four sections, one after another.
-use Rattle.std.proofs.Common.{◌≡◌, Result, Ok, Err, ◌+◌, ◌++◌, ◌<◌, ◌≤◌, ◌^◌, ℕ, List, [], length, append_assoc, append-nil, ap, sym, subst, ◌∙◌}
+use Rattle.std.proofs.Common.{◌≡◌, Result, Ok, Err, ◌+◌, ◌++◌, ◌<◌, ◌≤◌, ◌^◌, ℕ, List, [], length, append_assoc}
+use Rattle.std.proofs.Common.{append-nil, ap, sym, subst, ◌∙◌}
 use Rattle.std.specs.Result.{OnOk}
 use Rattle.hdt_wire.specs.declared.control.Kind.TheVariants as kinds
 use Rattle.hdt_wire.specs.Control.{control}

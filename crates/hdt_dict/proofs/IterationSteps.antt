@@ -1,11 +1,13 @@
 -- One step of an iteration over the strings of a role.
-use Rattle.std.proofs.Common.{◌≡◌, ℕ, ◌+◌, ◌≤◌, Bool, true, false, not, List, [], ◌∷◌, ◌++◌, length, Option, Some, None, refl, sym, ap, ◌∙◌, subst, arith, append-nil}
+use Rattle.std.proofs.Common.{◌≡◌, ℕ, ◌+◌, ◌≤◌, Bool, true, false, not, List, [], ◌∷◌, ◌++◌, length, Option, Some, None}
+use Rattle.std.proofs.Common.{refl, sym, ap, ◌∙◌, subst, arith, append-nil}
 use Rattle.std.specs.Prelude.{is_some}
 use Rattle.hdt_front.specs.declared.section.Section.{Section}
 use Rattle.hdt_front.specs.Laws.CommonPrefix.{lcp_le_flip}
 use Rattle.hdt_front.specs.Order.{lcp_len}
 use Rattle.hdt_front.specs.Strings.{strings_of}
-use Rattle.hdt_front.specs.Iteration.{LocatedString, IterState, strings, next_offset, first_lcp, step_iter, step_iter_by}
+use Rattle.hdt_front.specs.Iteration.{LocatedString, IterState, strings, next_offset, first_lcp, step_iter}
+use Rattle.hdt_front.specs.Iteration.{step_iter_by}
 use Rattle.hdt_front.specs.SectionIteration.{located_strings}
 use Rattle.hdt_front.specs.Laws.Iteration.{located_are_strings}
 use Rattle.hdt_dict.specs.Iteration.{RoleIterState, step_role_iter, step_role_iter_by, next_id}

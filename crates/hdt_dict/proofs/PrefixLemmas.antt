@@ -1,5 +1,6 @@
 -- The IDs of the strings that begin with a prefix, in one list and in two.
-use Rattle.std.proofs.Common.{◌≡◌, ℕ, zero, suc, ◌+◌, ◌-◌, ◌<◌, ◌≤◌, ◌++◌, List, [], length, length-append, get_or, Option, Some, None, refl, sym, arith, subst, inl, inr, ◌⊎◌, ◌↔◌}
+use Rattle.std.proofs.Common.{◌≡◌, ℕ, zero, suc, ◌+◌, ◌-◌, ◌<◌, ◌≤◌, ◌++◌, List, [], length, length-append, get_or}
+use Rattle.std.proofs.Common.{Option, Some, None, refl, sym, arith, subst, inl, inr, ◌⊎◌, ◌↔◌}
 use Rattle.std.specs.Prelude.{slice_get}
 use Rattle.std.proofs.lemmas.Bool.{cases_lt}
 use Rattle.std.proofs.lemmas.List.{get_or_append_left, get_or-append-add}

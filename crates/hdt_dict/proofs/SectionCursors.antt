@@ -1,5 +1,6 @@
 -- Two cursors over the sections of a role: without a second section, the second cursor is over the first one too.
-use Rattle.std.proofs.Common.{◌≡◌, ℕ, ◌<◌, ◌≤◌, ◌++◌, [], length, length-append, max, get_or, Bor, Option, Some, None, option_copied, refl, sym, ◌∙◌, arith}
+use Rattle.std.proofs.Common.{◌≡◌, ℕ, ◌<◌, ◌≤◌, ◌++◌, [], length, length-append, max, get_or, Bor, Option, Some, None}
+use Rattle.std.proofs.Common.{option_copied, refl, sym, ◌∙◌, arith}
 use Rattle.std.specs.Option.{unwrap_or}
 use Rattle.std.proofs.lemmas.List.{get_or_append_left}
 use Rattle.hdt_front.specs.declared.section.Section.{Section}

@@ -1,5 +1,6 @@
 //! Reading a dictionary, look-ups by role, and laws: functions that do nothing, whose contracts are theorems.
-ghost use Rattle.std.specs.Prelude.{◌≡◌, ◌⊎◌, ◌<◌, ◌≤◌, ◌+◌, ◌-◌, ◌*◌, ◌^◌, ◌↔◌, ◌++◌, ◌∷◌, [], ℕ, List, All, length, max, option_copied, Ok, Err, Some, None, IsOk, OnErr, IfOk};
+ghost use Rattle.std.specs.Prelude.{◌≡◌, ◌⊎◌, ◌<◌, ◌≤◌, ◌+◌, ◌-◌, ◌*◌, ◌^◌, ◌↔◌, ◌++◌, ◌∷◌, [], ℕ, List, All, length};
+ghost use Rattle.std.specs.Prelude.{max, option_copied, Ok, Err, Some, None, IsOk, OnErr, IfOk};
 ghost use Rattle.hdt_wire.specs.Checks.{ReadsUnlessOom, IsBytes, HasSlice};
 ghost use Rattle.hdt_wire.specs.Exact.{Exactly, UniqueValue, UniqueFault};
 ghost use Rattle.hdt_wire.specs.declared.fault.Fault.{Fault as FaultIs};
@@ -9,7 +10,9 @@ ghost use Rattle.hdt_front.specs.StringIds.{id_of};
 ghost use Rattle.hdt_front.specs.Strings.{strings_of, section_of, block_size};
 ghost use Rattle.hdt_front.specs.Cost.{section_search_cost};
 ghost use Rattle.hdt_front.specs.Section.{AreSectionStrings, string_offset};
-ghost use Rattle.hdt_dict.specs.Dictionary.{AreDisjoint, DictionaryParts, SectionLists, IsDictionaryAt, section_id, section_by_id, disjoint_at, dictionary_at, checks_before_strings, role_strings, lists_of_dictionary};
+ghost use Rattle.hdt_dict.specs.Dictionary.{AreDisjoint, DictionaryParts, SectionLists, IsDictionaryAt, section_id};
+ghost use Rattle.hdt_dict.specs.Dictionary.{section_by_id, disjoint_at, dictionary_at, checks_before_strings};
+ghost use Rattle.hdt_dict.specs.Dictionary.{role_strings, lists_of_dictionary};
 ghost use Rattle.hdt_dict.specs.Strings.{IsDictionaryString};
 ghost use Rattle.hdt_dict.specs.Ids.{string_at_id, AppendsString};
 ghost use Rattle.hdt_dict.specs.Iteration.{AreLocated};

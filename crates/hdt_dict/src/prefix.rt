@@ -31,7 +31,8 @@ impl<'a> Dictionary<'a> {
         ensures exact { (n : ℕ) → IsInRanges result n
             ↔ SomeBeginsWith prefix.now
             (string_at_id (role_strings (lists_of_dictionary (dictionary_of self.now)) role) n) }
-        ensures ascend { RangesAscend result (length (role_strings (lists_of_dictionary (dictionary_of self.now)) role)) }
+        ensures ascend { RangesAscend result
+            (length (role_strings (lists_of_dictionary (dictionary_of self.now)) role)) }
         ensures cost { steps.new ≤ steps.old + 2 * role_search_cost (dictionary_of self.now) role }
         ensures more { steps.old ≤ steps.new }
     {

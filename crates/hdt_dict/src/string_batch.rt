@@ -1,5 +1,6 @@
 //! Looking up the strings of many IDs at once.
-ghost use Rattle.std.specs.Prelude.{◌≡◌, ◌<◌, ◌≤◌, ◌+◌, ◌-◌, ◌*◌, ◌++◌, ◌^◌, [], ℕ, true, false, length, max, slice_index_or, slice_index, OnOk, OnErr, option_copied};
+ghost use Rattle.std.specs.Prelude.{◌≡◌, ◌<◌, ◌≤◌, ◌+◌, ◌-◌, ◌*◌, ◌++◌, ◌^◌, [], ℕ, true, false, length, max};
+ghost use Rattle.std.specs.Prelude.{slice_index_or, slice_index, OnOk, OnErr, option_copied};
 ghost use Rattle.hdt_wire.specs.Control.{IsPrefixOf};
 ghost use Rattle.hdt_front.specs.Strings.{strings_of, block_size};
 ghost use Rattle.hdt_dict.specs.RoleSections.{second_strings, second_block_size};

@@ -72,7 +72,8 @@ fn append_finished(
     requires blocks { (subjects.block_size ≡ shared.block_size) × (predicates.block_size ≡ shared.block_size)
         × (objects.block_size ≡ shared.block_size) }
     ensures ok { OnOk result (out.new.items
-        ≡ out.old.items ++ canonical_dictionary shared.block_size (lists_of_writers shared subjects predicates objects)) }
+        ≡ out.old.items
+        ++ canonical_dictionary shared.block_size (lists_of_writers shared subjects predicates objects)) }
     ensures err { OnErr result (IsPrefixOf out.old.items out.new.items) }
 {
     put_control(Kind::Dictionary, b"mapping=1;", out)?;
@@ -96,7 +97,8 @@ pub fn finish_dictionary(
     requires blocks { (subjects.block_size ≡ shared.block_size) × (predicates.block_size ≡ shared.block_size)
         × (objects.block_size ≡ shared.block_size) }
     ensures ok { OnOk result (out.new.items
-        ≡ out.old.items ++ canonical_dictionary shared.block_size (lists_of_writers shared subjects predicates objects)) }
+        ≡ out.old.items
+        ++ canonical_dictionary shared.block_size (lists_of_writers shared subjects predicates objects)) }
     ensures dictionary { OnOk result
         (IsDictionaryAt (canonical_dictionary_parts shared.block_size
         (lists_of_writers shared subjects predicates objects) (length out.old.items)) out.new.items

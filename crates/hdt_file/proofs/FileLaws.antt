@@ -15,8 +15,10 @@ use Rattle.hdt_triples.specs.Laws.Triples.{triples_exact}
 use Rattle.hdt_file.specs.Dictionary.{HeadAndDictionary, decode_head_and_dictionary}
 use Rattle.hdt_file.proofs.HeadLaws.{front_exact}
 use Rattle.hdt_file.specs.Faults.{open_fault_of}
-use Rattle.hdt_file.specs.File.{FileParts, IsFile, dictionary_counts, decode_file, GraphParts, graph_of_file, IsLayout, decode_graph}
-use Rattle.hdt_file.specs.Graph.{IsGraph, LayoutParts, decode_parts, graph_of_parts, parts_of_file, parts_of_layout, layout_view}
+use Rattle.hdt_file.specs.File.{FileParts, IsFile, dictionary_counts, decode_file, GraphParts, graph_of_file, IsLayout}
+use Rattle.hdt_file.specs.File.{decode_graph}
+use Rattle.hdt_file.specs.Graph.{IsGraph, LayoutParts, decode_parts, graph_of_parts, parts_of_file, parts_of_layout}
+use Rattle.hdt_file.specs.Graph.{layout_view}
 use Rattle.hdt_file.specs.declared.fault.OpenFault.{OpenFault}
 use Rattle.hdt_file.specs.declared.fault.OpenFault.TheVariants as opens
 use Rattle.hdt_file.specs.declared.layout.Layout.{Layout}

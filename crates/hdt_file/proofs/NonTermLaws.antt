@@ -1,5 +1,6 @@
 -- Listing the strings of a section that are not terms.
-use Rattle.std.proofs.Common.{◌≡◌, ℕ, suc, ◌+◌, ◌<◌, List, [], ◌∷◌, ◌++◌, length, get_or, Option, Some, refl, sym, ap, ◌∙◌, ◌⊎◌, subst, append_assoc, append-nil, inl, inr, arith, ◌^◌, Bool, false}
+use Rattle.std.proofs.Common.{◌≡◌, ℕ, suc, ◌+◌, ◌<◌, List, [], ◌∷◌, ◌++◌, length, get_or, Option, Some, refl, sym, ap}
+use Rattle.std.proofs.Common.{◌∙◌, ◌⊎◌, subst, append_assoc, append-nil, inl, inr, arith, ◌^◌, Bool, false}
 use Rattle.hdt_wire.specs.declared.role.Role.{Role}
 use Rattle.hdt_front.specs.Iteration.{IterState, LocatedString, strings, step_iter_by, next_offset}
 use Rattle.hdt_front.specs.Section.{SectionParts, string_offset}
@@ -12,7 +13,8 @@ use Rattle.hdt_front.specs.Strings.{section_of}
 use Rattle.hdt_dict.specs.Dictionary.{DictionaryParts}
 use Rattle.hdt_dict.specs.Views.{dictionary_of}
 use Rattle.hdt_file.specs.File.{FileParts, IsFile, IsLayout}
-use Rattle.hdt_file.specs.Graph.{graph_counts, LayoutParts, decode_parts, parts_dictionary, parts_of_file, parts_of_layout, layout_view}
+use Rattle.hdt_file.specs.Graph.{graph_counts, LayoutParts, decode_parts, parts_dictionary, parts_of_file}
+use Rattle.hdt_file.specs.Graph.{parts_of_layout, layout_view}
 use Rattle.hdt_file.specs.TermFlags.{IsTermFlag}
 use Rattle.hdt_file.specs.declared.layout.Layout.{Layout}
 use Rattle.hdt_file.specs.declared.non_terms.TermVerdict.{TermVerdict}

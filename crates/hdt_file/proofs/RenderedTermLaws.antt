@@ -1,8 +1,11 @@
 -- The terms of each role as they are written in a line, and the lines put together from them.
-use Rattle.std.proofs.Common.{◌≡◌, ℕ, zero, suc, ◌+◌, ◌<◌, Bool, true, false, List, [], ◌∷◌, ◌++◌, length, map, get_or, take, drop, Option, Some, refl, sym, ap, ◌∙◌, append_assoc, append-nil, subst, inl, inr, arith}
+use Rattle.std.proofs.Common.{◌≡◌, ℕ, zero, suc, ◌+◌, ◌<◌, Bool, true, false, List, [], ◌∷◌, ◌++◌, length, map, get_or}
+use Rattle.std.proofs.Common.{take, drop, Option, Some, refl, sym, ap, ◌∙◌, append_assoc, append-nil, subst, inl, inr}
+use Rattle.std.proofs.Common.{arith}
 use Rattle.std.specs.Option.{unwrap_or}
 use Rattle.std.proofs.lemmas.Bool.{cases_lt}
-use Rattle.std.proofs.lemmas.List.{get_or-drop, get_or-map, get_or-take, get_or_default, get_or_past, length-append, length-drop, length-map, length-take}
+use Rattle.std.proofs.lemmas.List.{get_or-drop, get_or-map, get_or-take, get_or_default, get_or_past, length-append}
+use Rattle.std.proofs.lemmas.List.{length-drop, length-map, length-take}
 use Rattle.std.proofs.lemmas.List.Elements.{Contains-get_or}
 use Rattle.hdt_dict.specs.Laws.Members.{Contains-map}
 use Rattle.hdt_dict.specs.Arena.{AreStringStarts, arena_strings}
@@ -19,7 +22,8 @@ use Rattle.hdt_triples.specs.TripleSequences.{Triple}
 use Rattle.hdt_file.specs.File.{GraphParts}
 use Rattle.hdt_triples.specs.Uses.{AreUseFlags, Uses, role_component}
 use Rattle.hdt_file.specs.Denoted.{string_of, denoted_triple}
-use Rattle.hdt_file.specs.Inside.RenderedTerms.{is_marked, IsRendered, AreRendered, RendersRole, AreTables, AppendsRenderedIfMarked, RendersTriple, rendered_string}
+use Rattle.hdt_file.specs.Inside.RenderedTerms.{is_marked, IsRendered, AreRendered, RendersRole, AreTables}
+use Rattle.hdt_file.specs.Inside.RenderedTerms.{AppendsRenderedIfMarked, RendersTriple, rendered_string}
 use Rattle.hdt_file.specs.Text.{HasTerm, HasNoTerm, IsEarlierRole, IsFirstNonTermOfTriple}
 use Rattle.hdt_file.specs.TextWriting.{AppendsTerm, AppendsLine, ReportsNonTerm, ReportsNonTermOfTriple, separator}
 use Rattle.hdt_file.specs.declared.fault.DumpFault.{DumpFault}

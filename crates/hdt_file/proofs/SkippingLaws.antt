@@ -1,5 +1,7 @@
 -- Skipping matches.
-use Rattle.std.proofs.Common.{◌≡◌, ◌≢◌, ◌⊎◌, ◌&&◌, ℕ, ◌+◌, ◌-◌, ◌≤◌, ◌<◌, zero, suc, List, [], ◌∷◌, Bool, true, false, cond, Option, Some, None, filter, length, drop, inl, inr, refl, ap, sym, ◌∙◌, subst, arith, eq-eqb, eqb}
+use Rattle.std.proofs.Common.{◌≡◌, ◌≢◌, ◌⊎◌, ◌&&◌, ℕ, ◌+◌, ◌-◌, ◌≤◌, ◌<◌, zero, suc, List, [], ◌∷◌, Bool, true, false}
+use Rattle.std.proofs.Common.{cond, Option, Some, None, filter, length, drop, inl, inr, refl, ap, sym, ◌∙◌, subst}
+use Rattle.std.proofs.Common.{arith, eq-eqb, eqb}
 use Rattle.std.proofs.lemmas.Bool.{and_left, and_right, and_parts, and_from, eqb-true, ne_eqb}
 use Rattle.std.proofs.lemmas.List.{drop-drop, drop_all, drop_more}
 use Rattle.std.proofs.lemmas.Option.{none-some}

@@ -1,5 +1,6 @@
 -- Flags of strings: which of them are terms that their roles allow.
-use Rattle.std.proofs.Common.{◌≡◌, ◌&&◌, ℕ, zero, suc, Bool, true, false, List, [], ◌∷◌, ◌++◌, subst, append-nil, inl, inr}
+use Rattle.std.proofs.Common.{◌≡◌, ◌&&◌, ℕ, zero, suc, Bool, true, false, List, [], ◌∷◌, ◌++◌, subst, append-nil, inl}
+use Rattle.std.proofs.Common.{inr}
 use Rattle.std.specs.Option.{unwrap_or}
 use Rattle.std.proofs.lemmas.Bool.{and_cases, and_parts}
 use Rattle.hdt_dict.specs.Ids.{string_at_id}

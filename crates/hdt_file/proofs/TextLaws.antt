@@ -9,7 +9,8 @@ use Rattle.hdt_wire.specs.declared.role.Role.TheVariants.{Subject, Predicate, Ob
 use Rattle.hdt_file.specs.File.{GraphParts}
 use Rattle.hdt_triples.specs.Uses.{role_component}
 use Rattle.hdt_file.specs.Denoted.{StringTriple, denoted_triple, denoted}
-use Rattle.hdt_file.specs.Text.{TermTriple, IsTermOf, AreTermsOf, Pairwise, line, IsTextOf, IsEarlierRole, IsFirstNonTermOfTriple, IsFirstNonTerm}
+use Rattle.hdt_file.specs.Text.{TermTriple, IsTermOf, AreTermsOf, Pairwise, line, IsTextOf, IsEarlierRole}
+use Rattle.hdt_file.specs.Text.{IsFirstNonTermOfTriple, IsFirstNonTerm}
 
 -- no two dictionary terms have the same string
 abbrev pub OneString : Type 0

@@ -1,5 +1,6 @@
 -- The checks of a tight file are exact: those of its strings pass if and only if triples use all of them.
-use Rattle.std.proofs.Common.{◌≡◌, ◌∙◌, ℕ, ◌+◌, ◌-◌, ◌<◌, ◌≤◌, ◌^◌, ◌⊎◌, inl, inr, true, List, length, Result, Ok, Err, refl, ap, sym, subst, arith}
+use Rattle.std.proofs.Common.{◌≡◌, ◌∙◌, ℕ, ◌+◌, ◌-◌, ◌<◌, ◌≤◌, ◌^◌, ◌⊎◌, inl, inr, true, List, length, Result, Ok, Err}
+use Rattle.std.proofs.Common.{refl, ap, sym, subst, arith}
 use Rattle.std.proofs.lemmas.Bool.{and_from, and_parts, cases_lt}
 use Rattle.std.proofs.lemmas.List.{length-append}
 use Rattle.hdt_wire.specs.declared.fault.Fault.{Fault}
@@ -20,7 +21,8 @@ use Rattle.hdt_dict.specs.declared.dictionary.SectionId.{SectionId}
 use Rattle.hdt_dict.specs.declared.dictionary.SectionId.TheVariants as parts
 use Rattle.hdt_file.specs.File.{FileParts, GraphParts, decode_file, graph_of_file, decode_graph}
 use Rattle.hdt_file.proofs.FileLaws.{file_exact}
-use Rattle.hdt_file.specs.Tight.{IsTight, IsTightLayout, is_used, check_string_used, check_section_used, check_strings_used, decode_tight_graph}
+use Rattle.hdt_file.specs.Tight.{IsTight, IsTightLayout, is_used, check_string_used, check_section_used}
+use Rattle.hdt_file.specs.Tight.{check_strings_used, decode_tight_graph}
 
 -- ---- one section
 

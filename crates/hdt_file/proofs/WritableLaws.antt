@@ -1,5 +1,7 @@
 -- The matches that have a line, collected one by one.
-use Rattle.std.proofs.Common.{◌≡◌, ◌≤◌, ◌+◌, ◌⊎◌, ℕ, zero, suc, not, Bool, true, false, cond, List, [], ◌∷◌, ◌++◌, length, take, Option, None, Some, refl, sym, ap, ◌∙◌, subst, append_assoc, append-nil, inl, inr, arith}
+use Rattle.std.proofs.Common.{◌≡◌, ◌≤◌, ◌+◌, ◌⊎◌, ℕ, zero, suc, not, Bool, true, false, cond, List, [], ◌∷◌, ◌++◌}
+use Rattle.std.proofs.Common.{length, take, Option, None, Some, refl, sym, ap, ◌∙◌, subst, append_assoc, append-nil}
+use Rattle.std.proofs.Common.{inl, inr, arith}
 use Rattle.std.specs.Option.{unwrap_or}
 use Rattle.std.specs.List.{filter}
 use Rattle.std.proofs.lemmas.List.{take_all}
@@ -8,7 +10,8 @@ use Rattle.std.proofs.lemmas.List.Sums.{count_by-le-length, length-filter}
 use Rattle.hdt_triples.specs.TripleSequences.{Triple}
 use Rattle.hdt_triples.specs.declared.pattern.Pattern.{Pattern}
 use Rattle.hdt_file.specs.File.{GraphParts}
-use Rattle.hdt_file.specs.Writable.{DecidesWritable, IsWritable, AreWritableTriples, SkipsNonTerms, skipped_before, skipped_among}
+use Rattle.hdt_file.specs.Writable.{DecidesWritable, IsWritable, AreWritableTriples, SkipsNonTerms, skipped_before}
+use Rattle.hdt_file.specs.Writable.{skipped_among}
 use Rattle.hdt_file.specs.TermFlags.{AreTermFlags, is_writable}
 use Rattle.hdt_file.specs.TextWriting.{limited, matches_if_given}
 use Rattle.hdt_file.specs.declared.writable.WritableMatches.{WritableMatches}

@@ -1,7 +1,8 @@
 -- The head of a file (HDT submission, header; rdfhdt.org, "HDT binary format"): the global control information, that of
 -- the header, and the header body, one after another from byte 0. The header's property `length` is the length of the
 -- body in bytes.
-use Rattle.std.specs.Prelude.{ℕ, List, codes, length, IsSomeAnd, Result, Ok, ◌≡◌, ◌^◌, ◌&&◌, Bool, nat_lt, Option, Some, None, if◌then◌else◌}
+use Rattle.std.specs.Prelude.{ℕ, List, codes, length, IsSomeAnd, Result, Ok, ◌≡◌, ◌^◌, ◌&&◌, Bool, nat_lt, Option, Some}
+use Rattle.std.specs.Prelude.{None, if◌then◌else◌}
 use Rattle.std.specs.Option.{ok_or, option_and_then}
 use Rattle.hdt_wire.specs.declared.fault.Fault.{Fault}
 use Rattle.hdt_wire.specs.declared.fault.Reason.TheVariants.{HeaderLength}

@@ -11,7 +11,8 @@ use Rattle.hdt_triples.specs.declared.pattern.Pattern.{Pattern}
 use Rattle.hdt_file.specs.File.{GraphParts}
 use Rattle.hdt_triples.specs.Uses.{role_component}
 use Rattle.hdt_file.specs.Denoted.{denoted_triple, denoted}
-use Rattle.hdt_file.specs.Text.{TermTriple, IsTermOf, AreTermsOf, HasNoTerm, IsFirstNonTermOfTriple, IsFirstNonTerm, IsTextOf, line}
+use Rattle.hdt_file.specs.Text.{TermTriple, IsTermOf, AreTermsOf, HasNoTerm, IsFirstNonTermOfTriple, IsFirstNonTerm}
+use Rattle.hdt_file.specs.Text.{IsTextOf, line}
 use Rattle.hdt_file.specs.declared.fault.DumpFault.{DumpFault}
 use Rattle.hdt_file.specs.declared.fault.DumpFault.TheVariants.{NotATerm, Write, OutOfMemory}
 

@@ -1,5 +1,6 @@
 -- Triples that have no line of N-Triples, since one of their strings is not a term which its role allows.
-use Rattle.std.specs.Prelude.{◌≡◌, ℕ, zero, suc, not, cond, Bool, true, false, List, [], ◌∷◌, length, Option, None, Some}
+use Rattle.std.specs.Prelude.{◌≡◌, ℕ, zero, suc, not, cond, Bool, true, false, List, [], ◌∷◌, length, Option, None}
+use Rattle.std.specs.Prelude.{Some}
 use Rattle.std.specs.List.{All, filter}
 use Rattle.hdt_wire.specs.declared.role.Role.{Role}
 use Rattle.hdt_triples.specs.TripleSequences.{Triple}

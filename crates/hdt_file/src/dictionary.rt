@@ -6,7 +6,8 @@ ghost use Rattle.hdt_wire.specs.declared.role.Role.{Role};
 ghost use Rattle.hdt_dict.specs.Dictionary.{lists_of_dictionary, role_strings};
 ghost use Rattle.hdt_dict.specs.Views.{dictionary_of};
 ghost use Rattle.hdt_file.specs.Faults.{open_fault_of};
-ghost use Rattle.hdt_file.specs.Dictionary.{HeadAndDictionary, IsHeadAndDictionary, head_and_dictionary_of, decode_head_and_dictionary};
+ghost use Rattle.hdt_file.specs.Dictionary.{HeadAndDictionary, IsHeadAndDictionary, head_and_dictionary_of};
+ghost use Rattle.hdt_file.specs.Dictionary.{decode_head_and_dictionary};
 
 use crate::fault::OpenFault;
 use crate::head::{Head, read_head};

@@ -36,7 +36,8 @@ impl<'a> Graph<'a> {
     ghost use Rattle.hdt_dict.specs.Ids.{string_at_id, AppendsString};
     ghost use Rattle.hdt_dict.specs.Prefixes.{IsInRanges, RangesAscend, SomeBeginsWith};
     ghost use Rattle.hdt_triples.specs.Uses.{Uses};
-    ghost use Rattle.hdt_file.specs.Graph.{IsGraph, layout_view, parts_dictionary, parts_held, parts_of_graph, parts_of_layout, graph_view};
+    ghost use Rattle.hdt_file.specs.Graph.{IsGraph, layout_view, parts_dictionary, parts_held, parts_of_graph};
+    ghost use Rattle.hdt_file.specs.Graph.{parts_of_layout, graph_view};
     ghost use Rattle.hdt_dict.specs.Cost.{role_decode_cost, role_search_cost};
     ghost use Rattle.hdt_dict.specs.Dictionary.{role_strings};
 
@@ -158,7 +159,8 @@ impl<'a> Graph<'a> {
         steps: &mut Steps,
     ) -> Result<bool, AllocError>
         ensures ok { IfOk result (λ appended. AppendsString
-            (string_at_id (role_strings (graph_view self.now).dictionary role) n) appended out.old.items out.new.items) }
+            (string_at_id (role_strings (graph_view self.now).dictionary role) n) appended
+            out.old.items out.new.items) }
         ensures err { OnErr result (out.new.items ≡ out.old.items) }
         ensures cost { steps.new ≤ steps.old + role_decode_cost (parts_dictionary (parts_of_graph self.now)) role }
         ensures absent { string_at_id (role_strings (graph_view self.now).dictionary role) n ≡ None → IsOk result }

@@ -53,7 +53,8 @@ impl<'a> Layout<'a> {
     ghost use Rattle.hdt_triples.specs.Patterns.{matches};
     ghost use Rattle.hdt_file.specs.Faults.{open_fault_of};
     ghost use Rattle.hdt_file.specs.File.{GraphParts, IsLayout, decode_graph};
-    ghost use Rattle.hdt_file.specs.Graph.{layout_view, parts_bitmap, parts_dictionary, decode_parts, parts_of_layout, graph_counts};
+    ghost use Rattle.hdt_file.specs.Graph.{layout_view, parts_bitmap, parts_dictionary, decode_parts, parts_of_layout};
+    ghost use Rattle.hdt_file.specs.Graph.{graph_counts};
     ghost use Rattle.hdt_dict.specs.Cost.{role_decode_cost, role_search_cost};
     ghost use Rattle.hdt_file.specs.Laws.LayoutParts.{parts_by_checks};
     ghost use Rattle.hdt_file.specs.Search.{IsPatternPart, IsPattern, pattern_steps, part_steps};
@@ -153,7 +154,8 @@ impl<'a> Layout<'a> {
         steps: &mut Steps,
     ) -> Result<bool, AllocError>
         ensures ok { IfOk result (λ appended. AppendsString
-            (string_at_id (role_strings (layout_view self.now).dictionary role) n) appended out.old.items out.new.items) }
+            (string_at_id (role_strings (layout_view self.now).dictionary role) n) appended
+            out.old.items out.new.items) }
         ensures err { OnErr result (out.new.items ≡ out.old.items) }
         ensures cost { steps.new ≤ steps.old + role_decode_cost (parts_dictionary (parts_of_layout self.now)) role }
         ensures absent { string_at_id (role_strings (layout_view self.now).dictionary role) n ≡ None → IsOk result }

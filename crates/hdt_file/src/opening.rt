@@ -5,7 +5,8 @@ ghost use Rattle.hdt_wire.specs.Checks.{ReadsUnlessOom, IsBytes};
 ghost use Rattle.hdt_file.specs.Faults.{open_fault_of};
 ghost use Rattle.hdt_file.specs.declared.fault.OpenFault.TheVariants as opens;
 ghost use Rattle.hdt_file.specs.File.{FileParts, IsFile, GraphParts, IsLayout, decode_graph};
-ghost use Rattle.hdt_file.specs.Graph.{IsGraph, layout_view, graph_of_parts, parts_of_file, decode_parts, parts_of_graph, parts_of_layout, graph_view, graph_counts};
+ghost use Rattle.hdt_file.specs.Graph.{IsGraph, layout_view, graph_of_parts, parts_of_file, decode_parts};
+ghost use Rattle.hdt_file.specs.Graph.{parts_of_graph, parts_of_layout, graph_view, graph_counts};
 
 use crate::fault::OpenFault;
 use crate::graph::Graph;

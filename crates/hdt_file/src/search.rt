@@ -1,6 +1,8 @@
 //! Searching a graph, by IDs and by strings; skipping matches, and pages of matches.
-ghost use Rattle.std.specs.Prelude.{◌≡◌, ◌↔◌, ◌≤◌, ◌<◌, ◌+◌, ◌-◌, ◌*◌, ◌^◌, ◌++◌, [], None, Some, IfErr, IfOk, IfSome, IsTrue, OnErr, OnOk, drop, filter, length, min, take};
-ghost use Rattle.hdt_triples.specs.Bounds.{counting_steps, most_steps, shorter_list_counting_steps, shorter_list_steps, start_cost};
+ghost use Rattle.std.specs.Prelude.{◌≡◌, ◌↔◌, ◌≤◌, ◌<◌, ◌+◌, ◌-◌, ◌*◌, ◌^◌, ◌++◌, [], None, Some, IfErr, IfOk, IfSome};
+ghost use Rattle.std.specs.Prelude.{IsTrue, OnErr, OnOk, drop, filter, length, min, take};
+ghost use Rattle.hdt_triples.specs.Bounds.{counting_steps, most_steps, shorter_list_counting_steps, shorter_list_steps};
+ghost use Rattle.hdt_triples.specs.Bounds.{start_cost};
 ghost use Rattle.hdt_triples.specs.Remaining.{remaining_matches, step_limit, shorter_list_step_limit, steps_taken};
 ghost use Rattle.hdt_triples.specs.Patterns.{matches};
 ghost use Rattle.hdt_file.specs.CachedTerms.{CachesTerms};

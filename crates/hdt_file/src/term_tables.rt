@@ -2,8 +2,10 @@
 ghost use Rattle.std.specs.Prelude.{◌≡◌, ℕ, List, map, IfOk, IfErr, OnOk};
 ghost use Rattle.hdt_file.specs.File.{GraphParts};
 ghost use Rattle.hdt_wire.specs.Control.{IsPrefixOf};
-ghost use Rattle.hdt_file.specs.Inside.RenderedTerms.{AreRendered, RendersRole, AreTables, AppendsRenderedIfMarked, RendersTriple, IsRendered, is_marked, rendered_string};
-ghost use Rattle.hdt_file.specs.TextWriting.{AppendsLine, AppendsTerm, AppendsText, ReportsFirstNonTerm, ReportsNonTermOfTriple, ReportsNonTerm};
+ghost use Rattle.hdt_file.specs.Inside.RenderedTerms.{AreRendered, RendersRole, AreTables, AppendsRenderedIfMarked};
+ghost use Rattle.hdt_file.specs.Inside.RenderedTerms.{RendersTriple, IsRendered, is_marked, rendered_string};
+ghost use Rattle.hdt_file.specs.TextWriting.{AppendsLine, AppendsTerm, AppendsText, ReportsFirstNonTerm};
+ghost use Rattle.hdt_file.specs.TextWriting.{ReportsNonTermOfTriple, ReportsNonTerm};
 ghost use Rattle.hdt_file.specs.Graph.{layout_view};
 ghost use Rattle.hdt_dict.specs.Dictionary.{role_strings};
 

@@ -1,5 +1,6 @@
 //! Writing the strings of a graph as N-Triples terms.
-ghost use Rattle.std.specs.Prelude.{◌≡◌, ◌↔◌, ◌++◌, ◌∷◌, [], None, Some, IfErr, IfOk, OnOk, OnErr, IsErrOf, IfSome, IsTrue};
+ghost use Rattle.std.specs.Prelude.{◌≡◌, ◌↔◌, ◌++◌, ◌∷◌, [], None, Some, IfErr, IfOk, OnOk, OnErr, IsErrOf, IfSome};
+ghost use Rattle.std.specs.Prelude.{IsTrue};
 ghost use Rattle.std.specs.List.{All};
 ghost use Rattle.hdt_terms.specs.Strings.{kind_of};
 ghost use Rattle.hdt_terms.specs.declared.triple.Term.{Term};
@@ -10,7 +11,8 @@ ghost use Rattle.hdt_file.specs.File.{GraphParts};
 ghost use Rattle.hdt_file.specs.CachedTerms.{CachesPredicate, CachesTerm, CachesTerms};
 ghost use Rattle.hdt_wire.specs.Control.{IsPrefixOf};
 ghost use Rattle.hdt_wire.specs.declared.role.Role.TheVariants.{Predicate, Object};
-ghost use Rattle.hdt_file.specs.TextWriting.{AppendsLine, AppendsTerm, ReportsNonTermOfTriple, ReportsNonTerm, separator};
+ghost use Rattle.hdt_file.specs.TextWriting.{AppendsLine, AppendsTerm, ReportsNonTermOfTriple, ReportsNonTerm};
+ghost use Rattle.hdt_file.specs.TextWriting.{separator};
 ghost use Rattle.hdt_file.specs.Graph.{layout_view};
 
 use crate::fault::DumpFault;
@@ -71,7 +73,8 @@ fn append_string_as_term(
     string: &mut Vec<u8>,
     out: &mut Vec<u8>,
 ) -> Result<(), DumpFault>
-    ensures ok { OnOk result (AppendsTerm role (string_of (layout_view layout.now) role n) out.old.items out.new.items) }
+    ensures ok { OnOk result
+        (AppendsTerm role (string_of (layout_view layout.now) role n) out.old.items out.new.items) }
     ensures err { IfErr result (ReportsNonTerm role n (string_of (layout_view layout.now) role n)) }
     ensures left { OnErr result (out.new.items ≡ out.old.items) }
 {

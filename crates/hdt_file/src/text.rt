@@ -6,7 +6,8 @@ ghost use Rattle.hdt_file.specs.Denoted.{denoted};
 ghost use Rattle.hdt_file.specs.CachedTerms.{CachesTerms};
 ghost use Rattle.hdt_file.specs.Graph.{layout_view, graph_view};
 ghost use Rattle.hdt_file.specs.Text.{IsFirstNonTerm, IsTextOf};
-ghost use Rattle.hdt_file.specs.TextWriting.{AppendsText, ReportsFirstNonTerm, WritesPrefix, WritesText, matches_if_given, limited};
+ghost use Rattle.hdt_file.specs.TextWriting.{AppendsText, ReportsFirstNonTerm, WritesPrefix, WritesText};
+ghost use Rattle.hdt_file.specs.TextWriting.{matches_if_given, limited};
 
 use crate::fault::DumpFault;
 use crate::graph::Graph;

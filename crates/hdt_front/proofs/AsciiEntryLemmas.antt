@@ -1,5 +1,7 @@
 -- The usual entry: its suffix is ASCII, and the first byte of that decides the order.
-use Rattle.std.proofs.Common.{◌≡◌, ℕ, zero, suc, ◌+◌, ◌-◌, ◌%◌, ◌<◌, ◌≤◌, ◌++◌, ◌||◌, Bool, true, false, List, length, take, drop, get_or, Ok, refl, sym, ap, subst, ◌∙◌, arith, eqb, nat_le, nat_lt, le-leb, lt-ltb, length-drop, length-take-le, add-zero}
+use Rattle.std.proofs.Common.{◌≡◌, ℕ, zero, suc, ◌+◌, ◌-◌, ◌%◌, ◌<◌, ◌≤◌, ◌++◌, ◌||◌, Bool, true, false, List, length}
+use Rattle.std.proofs.Common.{take, drop, get_or, Ok, refl, sym, ap, subst, ◌∙◌, arith, eqb, nat_le, nat_lt, le-leb}
+use Rattle.std.proofs.Common.{lt-ltb, length-drop, length-take-le, add-zero}
 use Rattle.std.proofs.lemmas.Bool.Decides.{nat_tests}
 use Rattle.std.specs.Ordering.{is_lt}
 use Rattle.std.specs.Str.{is_utf8}

@@ -1,9 +1,12 @@
 -- The entries of a section whose checks hold: first entries of blocks, and others.
-use Rattle.std.proofs.Common.{◌≡◌, ℕ, zero, suc, ◌+◌, ◌-◌, ◌*◌, ◌/◌, ◌<◌, ◌≤◌, ◌++◌, ◌||◌, Bool, true, false, cond, List, [], length, take, drop, get_or, Ok, refl, sym, ap, ◌∙◌, arith, subst, eq-eqb, eqb, add-one, zero-add}
+use Rattle.std.proofs.Common.{◌≡◌, ℕ, zero, suc, ◌+◌, ◌-◌, ◌*◌, ◌/◌, ◌<◌, ◌≤◌, ◌++◌, ◌||◌, Bool, true, false, cond}
+use Rattle.std.proofs.Common.{List, [], length, take, drop, get_or, Ok, refl, sym, ap, ◌∙◌, arith, subst, eq-eqb, eqb}
+use Rattle.std.proofs.Common.{add-one, zero-add}
 use Rattle.std.proofs.Math.Nat.{mul-div_left, mul-mod_left, div-eq_of_lt, div-zero, mul-le-mul_left, le-div_iff_mul-le}
 use Rattle.std.proofs.lemmas.Nat.{mod-mul-add}
 use Rattle.hdt_wire.specs.Checks.{len_before_zero}
-use Rattle.hdt_front.specs.Decoding.{is_head, kept, bytes_from_suffix, suffix_of, decoded_string, after_entry, decoded_strings}
+use Rattle.hdt_front.specs.Decoding.{is_head, kept, bytes_from_suffix, suffix_of, decoded_string, after_entry}
+use Rattle.hdt_front.specs.Decoding.{decoded_strings}
 use Rattle.hdt_front.specs.StringChecks.{BlockLayout, strings_check, precedes}
 use Rattle.hdt_front.specs.EntryFacts.{IsCheckedEntry, bytes_from_entry, string_before_entry}
 use Rattle.hdt_front.specs.Laws.StringSteps.{entry_check_at, string_is, rest_is, length-decoded_strings}

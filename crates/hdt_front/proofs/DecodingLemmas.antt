@@ -1,5 +1,7 @@
 -- Decoding a string from the first string of its block on.
-use Rattle.std.proofs.Common.{◌≡◌, ℕ, zero, suc, ◌+◌, ◌-◌, ◌*◌, ◌/◌, ◌%◌, ◌<◌, ◌≤◌, ◌++◌, Bool, true, false, nat_eq, eqb, List, [], length, take, get_or, drop, Ok, Result, sym, ap, ◌∙◌, arith, subst, eq-eqb, add-zero, append_assoc, length-drop, length-take-le}
+use Rattle.std.proofs.Common.{◌≡◌, ℕ, zero, suc, ◌+◌, ◌-◌, ◌*◌, ◌/◌, ◌%◌, ◌<◌, ◌≤◌, ◌++◌, Bool, true, false, nat_eq}
+use Rattle.std.proofs.Common.{eqb, List, [], length, take, get_or, drop, Ok, Result, sym, ap, ◌∙◌, arith, subst, eq-eqb}
+use Rattle.std.proofs.Common.{add-zero, append_assoc, length-drop, length-take-le}
 use Rattle.std.proofs.Math.Nat.{mul-mod_left}
 use Rattle.std.proofs.lemmas.Nat.{mod-mul-add, div-add-mod', le-div}
 use Rattle.std.proofs.Math.Seq.{take-append-add, take-add}
@@ -7,7 +9,8 @@ use Rattle.std.proofs.lemmas.List.{append-nil, take-take, drop-drop}
 use Rattle.std.proofs.lemmas.Simd.{take_more_put_chunk, length-chunk}
 use lib.Lanes.{chunk, put_chunk}
 use Rattle.hdt_wire.specs.Checks.{len_before_zero}
-use Rattle.hdt_front.specs.Decoding.{is_head, kept, value_or, bytes_from_suffix, suffix_of, decoded_string, after_entry, decoded_strings}
+use Rattle.hdt_front.specs.Decoding.{is_head, kept, value_or, bytes_from_suffix, suffix_of, decoded_string, after_entry}
+use Rattle.hdt_front.specs.Decoding.{decoded_strings}
 use Rattle.hdt_front.specs.StringChecks.{BlockLayout, strings_check}
 use Rattle.hdt_front.specs.EntryFacts.{bytes_from_entry, string_before_entry}
 use Rattle.hdt_front.specs.Inside.PartialStrings.{partial_string, IsPartlyDecoded}

@@ -1,7 +1,10 @@
 -- From the comparison mask of one load to a run of bytes.
-use Rattle.std.proofs.Common.{◌≡◌, ℕ, zero, suc, ◌+◌, ◌^◌, ◌%◌, ◌<◌, ◌≤◌, Bool, true, false, not, cond, List, [], ◌∷◌, length, map, take, drop, nat_eq, min, refl, sym, ap, ◌∙◌, arith, w8, get_or, Fits, nat_lt, ltb-true, inl, inr, length-take-le, ◌&&◌}
+use Rattle.std.proofs.Common.{◌≡◌, ℕ, zero, suc, ◌+◌, ◌^◌, ◌%◌, ◌<◌, ◌≤◌, Bool, true, false, not, cond, List, [], ◌∷◌}
+use Rattle.std.proofs.Common.{length, map, take, drop, nat_eq, min, refl, sym, ap, ◌∙◌, arith, w8, get_or, Fits, nat_lt}
+use Rattle.std.proofs.Common.{ltb-true, inl, inr, length-take-le, ◌&&◌}
 use Rattle.std.proofs.lemmas.List.{map-id, length-map, get_or-take, get_or_past}
-use Rattle.std.proofs.lemmas.Simd.{tops_compared, mask_l-mod, first_set_mask_l, length-zip2, length-chunk, map-map, get_or-chunk}
+use Rattle.std.proofs.lemmas.Simd.{tops_compared, mask_l-mod, first_set_mask_l, length-zip2, length-chunk, map-map}
+use Rattle.std.proofs.lemmas.Simd.{get_or-chunk}
 use Rattle.std.proofs.lemmas.Bool.{agree_below, agree_below_at, cases_lt, eq-eqb}
 use Rattle.std.proofs.lemmas.List.Sums.{prefix_len_passes, position_or_len_is}
 use Rattle.std.proofs.lemmas.Str.{is_utf8-from_IsUtf8, IsUtf8-from_ascii}

@@ -1,5 +1,6 @@
 -- Adding a string to a section writer.
-use Rattle.std.proofs.Common.{◌≡◌, ℕ, suc, ◌+◌, ◌<◌, ◌≤◌, ◌^◌, cond, List, [], ◌∷◌, ◌++◌, length, get_or, refl, sym, ap, subst, ◌∙◌, arith, append_assoc, append-nil, add-zero, zero-add, length-append}
+use Rattle.std.proofs.Common.{◌≡◌, ℕ, suc, ◌+◌, ◌<◌, ◌≤◌, ◌^◌, cond, List, [], ◌∷◌, ◌++◌, length, get_or, refl, sym, ap}
+use Rattle.std.proofs.Common.{subst, ◌∙◌, arith, append_assoc, append-nil, add-zero, zero-add, length-append}
 use Rattle.std.specs.List.{All, concat}
 use Rattle.std.proofs.lemmas.List.Elements.{All-nil, All-push}
 use Rattle.std.proofs.lemmas.List.Folds.{concat-append}
@@ -13,7 +14,8 @@ use Rattle.hdt_front.specs.Laws.StringSteps.{length-decoded_strings}
 use Rattle.hdt_front.specs.Laws.ChecksComplete.{entry_decodes}
 use Rattle.hdt_front.specs.Section.{AreSectionStrings, IsSectionAt, before}
 use Rattle.hdt_front.specs.SectionWriting.{section_encoding}
-use Rattle.hdt_front.specs.Canonical.{encode_entry, encode_entries, block_offsets_from, packed_of, block_offsets, canonical, canonical_parts}
+use Rattle.hdt_front.specs.Canonical.{encode_entry, encode_entries, block_offsets_from, packed_of, block_offsets}
+use Rattle.hdt_front.specs.Canonical.{canonical, canonical_parts}
 use Rattle.hdt_front.specs.Laws.Canonical.{entry_count, enough_bytes, front_coded, canonical_encoded}
 use Rattle.hdt_front.specs.Inside.WriterFields.{starts_without_end, IsWriterState}
 

@@ -1,6 +1,7 @@
 -- Decoding front-coded strings. These functions are total: on bytes that are not a valid front coding their values have
 -- no meaning.
-use Rattle.std.specs.Prelude.{ℕ, ◌+◌, ◌-◌, ◌/◌, ◌%◌, ◌==◌, Bool, List, [], ◌∷◌, ◌++◌, take, drop, cond, zero, suc, Result, Ok, Err}
+use Rattle.std.specs.Prelude.{ℕ, ◌+◌, ◌-◌, ◌/◌, ◌%◌, ◌==◌, Bool, List, [], ◌∷◌, ◌++◌, take, drop, cond, zero, suc}
+use Rattle.std.specs.Prelude.{Result, Ok, Err}
 use Rattle.hdt_wire.specs.declared.fault.Fault.{Fault}
 use Rattle.hdt_wire.specs.Checks.{len_before_zero}
 use Rattle.hdt_wire.specs.VByte.{vbyte_at}

@@ -1,5 +1,6 @@
 -- Facts about each entry of a section whose checks hold.
-use Rattle.std.specs.Prelude.{◌≡◌, ℕ, zero, suc, ◌-◌, ◌/◌, ◌<◌, ◌≤◌, ◌==◌, ◌||◌, true, false, List, [], length, get_or, Ok}
+use Rattle.std.specs.Prelude.{◌≡◌, ℕ, zero, suc, ◌-◌, ◌/◌, ◌<◌, ◌≤◌, ◌==◌, ◌||◌, true, false, List, [], length, get_or}
+use Rattle.std.specs.Prelude.{Ok}
 use Rattle.std.specs.Str.{is_utf8}
 use Rattle.hdt_wire.specs.Checks.{len_before_zero}
 use Rattle.hdt_wire.specs.VByte.{vbyte_at}

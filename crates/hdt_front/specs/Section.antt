@@ -1,12 +1,15 @@
 -- Dictionary sections (rdfhdt.org, "HDT binary format", Plain Front Coding): the type byte 2; as VBytes the number of
 -- strings, the size of the front-coded bytes, and the block size; the CRC-8 of these; the block offsets as a log
 -- sequence; the front-coded bytes with their CRC-32C.
-use Rattle.std.specs.Prelude.{◌≡◌, ℕ, zero, suc, ◌+◌, ◌-◌, ◌*◌, ◌/◌, ◌<◌, ◌==◌, ◌||◌, ◌⊎◌, not, Bool, nat_lt, nat_le, List, [], ◌∷◌, ◌++◌, length, slice_index, slice_index_or, slice_range, take, true, Result, Ok}
+use Rattle.std.specs.Prelude.{◌≡◌, ℕ, zero, suc, ◌+◌, ◌-◌, ◌*◌, ◌/◌, ◌<◌, ◌==◌, ◌||◌, ◌⊎◌, not, Bool, nat_lt, nat_le}
+use Rattle.std.specs.Prelude.{List, [], ◌∷◌, ◌++◌, length, slice_index, slice_index_or, slice_range, take, true, Result}
+use Rattle.std.specs.Prelude.{Ok}
 use Rattle.std.specs.List.{concat}
 use Rattle.std.specs.Str.{IsUtf8}
 use Rattle.byteorder.specs.Endian.{little_bytes}
 use Rattle.hdt_wire.specs.declared.fault.Fault.{Fault}
-use Rattle.hdt_wire.specs.declared.fault.Reason.TheVariants.{SectionKind, BlockSize, PackedLength, BlockCount, BlockPlace}
+use Rattle.hdt_wire.specs.declared.fault.Reason.TheVariants.{SectionKind, BlockSize, PackedLength, BlockCount}
+use Rattle.hdt_wire.specs.declared.fault.Reason.TheVariants.{BlockPlace}
 use Rattle.hdt_wire.specs.Crc.{crc8, crc32}
 use Rattle.hdt_wire.specs.Checks.{◌>>=◌, demand, HasSlice}
 use Rattle.hdt_wire.specs.Control.{HasNoZero}

@@ -1,10 +1,12 @@
 -- The checks of the strings of a section.
-use Rattle.std.specs.Prelude.{ℕ, zero, suc, ◌+◌, ◌-◌, ◌/◌, ◌==◌, ◌||◌, Bool, nat_le, nat_lt, List, ◌++◌, length, take, drop, get_or, Result, Ok, Err, if◌then◌else◌}
+use Rattle.std.specs.Prelude.{ℕ, zero, suc, ◌+◌, ◌-◌, ◌/◌, ◌==◌, ◌||◌, Bool, nat_le, nat_lt, List, ◌++◌, length, take}
+use Rattle.std.specs.Prelude.{drop, get_or, Result, Ok, Err, if◌then◌else◌}
 use Rattle.std.specs.Str.{is_utf8}
 use Rattle.std.specs.Ordering.{is_lt}
 use Rattle.hdt_wire.specs.declared.fault.Fault.{Fault}
 use Rattle.hdt_wire.specs.declared.fault.Reason.{Reason}
-use Rattle.hdt_wire.specs.declared.fault.Reason.TheVariants.{Truncated, BlockPlace, PrefixTooLong, PackedLength, NotUtf8, StringsNotAscending}
+use Rattle.hdt_wire.specs.declared.fault.Reason.TheVariants.{Truncated, BlockPlace, PrefixTooLong, PackedLength}
+use Rattle.hdt_wire.specs.declared.fault.Reason.TheVariants.{NotUtf8, StringsNotAscending}
 use Rattle.hdt_wire.specs.Checks.{◌>>=◌, demand, len_before_zero}
 use Rattle.hdt_wire.specs.VByte.{vbyte_at}
 use Rattle.hdt_seq.specs.Sequence.{SequenceOffsets, entry_offset}

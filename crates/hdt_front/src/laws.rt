@@ -1,5 +1,6 @@
 //! Laws about sections that callers can use. They do nothing when called.
-ghost use Rattle.std.specs.Prelude.{◌≡◌, ◌⊎◌, ◌+◌, ◌<◌, ◌≤◌, ◌^◌, ◌-◌, ◌*◌, ◌++◌, [], ℕ, List, length, take, get_or, Ok, Some};
+ghost use Rattle.std.specs.Prelude.{◌≡◌, ◌⊎◌, ◌+◌, ◌<◌, ◌≤◌, ◌^◌, ◌-◌, ◌*◌, ◌++◌, [], ℕ, List, length, take, get_or};
+ghost use Rattle.std.specs.Prelude.{Ok, Some};
 ghost use Rattle.std.specs.List.{concat};
 ghost use Rattle.hdt_wire.specs.Checks.{IsBytes, HasSlice};
 ghost use Rattle.hdt_wire.specs.Exact.{Exactly, UniqueValue, UniqueFault};

@@ -7,7 +7,8 @@ ghost use Rattle.hdt_front.specs.declared.section.ReadFault.TheVariants.{Fault a
 ghost use Rattle.hdt_front.specs.Inside.ReadViews.{preamble_view, packed_parts_view};
 ghost use Rattle.hdt_seq.specs.Numbers.{numbers_of, numbers_offsets};
 ghost use Rattle.hdt_seq.specs.Sequence.{entry_offset};
-ghost use Rattle.hdt_front.specs.Section.{SectionParts, IsSectionAt, preamble_at, packed_parts_at, section_at, is_start_count};
+ghost use Rattle.hdt_front.specs.Section.{SectionParts, IsSectionAt, preamble_at, packed_parts_at, section_at};
+ghost use Rattle.hdt_front.specs.Section.{is_start_count};
 
 use crate::packed::PackedStrings;
 use crate::section::{ReadFault, Section};

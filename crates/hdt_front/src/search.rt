@@ -1,9 +1,11 @@
 //! Searching for a string, or for the strings that begin with a prefix, in the front-coded bytes, without decoding.
-ghost use Rattle.std.specs.Prelude.{◌≡◌, ◌≤◌, ◌<◌, ◌+◌, ◌-◌, ◌*◌, ◌^◌, ◌++◌, length, take, drop, get_or, [], List, ℕ, false};
+ghost use Rattle.std.specs.Prelude.{◌≡◌, ◌≤◌, ◌<◌, ◌+◌, ◌-◌, ◌*◌, ◌^◌, ◌++◌, length, take, drop, get_or, [], List, ℕ};
+ghost use Rattle.std.specs.Prelude.{false};
 ghost use Rattle.hdt_wire.specs.Checks.{len_before_zero};
 ghost use Rattle.hdt_front.specs.Decoding.{bytes_from_suffix, kept, suffix_of, after_entry};
 ghost use Rattle.hdt_front.specs.EntryFacts.{bytes_from_entry};
-ghost use Rattle.hdt_front.specs.Inside.Searching.{IsBefore, IsEntryProbe, IsBlockProbe, IsPosition, IsBoundary, is_before_by};
+ghost use Rattle.hdt_front.specs.Inside.Searching.{IsBefore, IsEntryProbe, IsBlockProbe, IsPosition, IsBoundary};
+ghost use Rattle.hdt_front.specs.Inside.Searching.{is_before_by};
 ghost use Rattle.hdt_front.specs.Order.{string_cmp, lcp_len};
 ghost use Rattle.hdt_front.specs.Prefixes.{IsPrefixRange};
 

@@ -1,5 +1,6 @@
 //! A section that was read: its strings and its blocks.
-ghost use Rattle.std.specs.Prelude.{◌≡◌, ◌≤◌, ◌<◌, ◌+◌, ◌-◌, ◌*◌, length, drop, get_or, [], Ok, ◌&&◌, ◌||◌, true, nat_eq};
+ghost use Rattle.std.specs.Prelude.{◌≡◌, ◌≤◌, ◌<◌, ◌+◌, ◌-◌, ◌*◌, length, drop, get_or, [], Ok, ◌&&◌, ◌||◌, true};
+ghost use Rattle.std.specs.Prelude.{nat_eq};
 ghost use Rattle.hdt_front.specs.StringChecks.{strings_check, precedes};
 ghost use Rattle.hdt_front.specs.PackedView.{block_layout};
 ghost use Rattle.hdt_wire.specs.Checks.{IsBytes, len_before_zero};

@@ -1,5 +1,6 @@
 //! Iteration over the strings of a section, in order.
-ghost use Rattle.std.specs.Prelude.{◌≡◌, ◌≤◌, ◌<◌, ◌+◌, ◌-◌, ◌++◌, ◌==◌, Bool, length, take, [], Ok, IsOk, OnOk, OnErr, IfOk};
+ghost use Rattle.std.specs.Prelude.{◌≡◌, ◌≤◌, ◌<◌, ◌+◌, ◌-◌, ◌++◌, ◌==◌, Bool, length, take, [], Ok, IsOk, OnOk, OnErr};
+ghost use Rattle.std.specs.Prelude.{IfOk};
 ghost use Rattle.hdt_wire.specs.Checks.{len_before_zero};
 ghost use Rattle.hdt_front.specs.Decoding.{kept, bytes_from_suffix, suffix_of, after_entry};
 ghost use Rattle.hdt_front.specs.SectionIteration.{located_strings};

@@ -1,5 +1,6 @@
 -- The counts of a rank/select index around a position.
-use Rattle.std.proofs.Common.{◌≡◌, ℕ, ◌+◌, ◌-◌, ◌*◌, ◌/◌, ◌%◌, ◌<◌, ◌≤◌, List, Bool, length, slice_index, min, ap, ◌∙◌, arith, inl, inr, ◌⊎◌}
+use Rattle.std.proofs.Common.{◌≡◌, ℕ, ◌+◌, ◌-◌, ◌*◌, ◌/◌, ◌%◌, ◌<◌, ◌≤◌, List, Bool, length, slice_index, min, ap, ◌∙◌}
+use Rattle.std.proofs.Common.{arith, inl, inr, ◌⊎◌}
 use Rattle.hdt_seq.specs.RankSelect.{ones_before}
 use Rattle.hdt_seq.specs.Laws.RankSelect.{ones_before_past_end}
 use Rattle.hdt_seq.specs.Directory.{AreGroupCounts}

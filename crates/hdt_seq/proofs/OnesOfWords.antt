@@ -1,5 +1,7 @@
 -- The 1-bits of a bitmap, counted by those of words.
-use Rattle.std.proofs.Common.{◌≡◌, ℕ, ◌+◌, ◌-◌, ◌*◌, ◌/◌, ◌%◌, ◌^◌, ◌<◌, ◌≤◌, zero, suc, List, Bool, true, false, cond, nat_eq, nat_lt, bit_and, map, refl, ap, subst, sym, ◌∙◌, arith, add-zero, ltb-true, ltb-false}
+use Rattle.std.proofs.Common.{◌≡◌, ℕ, ◌+◌, ◌-◌, ◌*◌, ◌/◌, ◌%◌, ◌^◌, ◌<◌, ◌≤◌, zero, suc, List, Bool, true, false, cond}
+use Rattle.std.proofs.Common.{nat_eq, nat_lt, bit_and, map, refl, ap, subst, sym, ◌∙◌, arith, add-zero, ltb-true}
+use Rattle.std.proofs.Common.{ltb-false}
 use Rattle.std.proofs.lemmas.Nat.{shr-shr, mod-pow-add, ones_cat, mod_below, pow_pos, one_shl, and_mask}
 use Rattle.std.proofs.Math.Nat.{mod-one}
 use Rattle.std.proofs.lemmas.List.FromFn.{take-map-range_with_len, sum_by-map-range_with_len_more}

@@ -1,5 +1,6 @@
 -- The clauses of the readers, from the laws of their checks.
-use Rattle.std.proofs.Common.{◌≡◌, ℕ, ◌+◌, ◌-◌, ◌<◌, ◌≤◌, Bool, List, length, drop, get_or, Result, Ok, Err, refl, ap, arith}
+use Rattle.std.proofs.Common.{◌≡◌, ℕ, ◌+◌, ◌-◌, ◌<◌, ◌≤◌, Bool, List, length, drop, get_or, Result, Ok, Err, refl, ap}
+use Rattle.std.proofs.Common.{arith}
 use Rattle.std.specs.Prelude.{IfOk, slice_range}
 use Rattle.std.proofs.lemmas.List.{length-take}
 use Rattle.std.proofs.lemmas.Bool.{lt-leb}
@@ -9,9 +10,11 @@ use Rattle.hdt_wire.specs.Checks.{Reads, IsBytes, EncodedAt, bytes_at}
 use Rattle.hdt_seq.specs.declared.numbers.Numbers.{Numbers}
 use Rattle.hdt_seq.specs.declared.bits.Bits.{Bits}
 use Rattle.hdt_seq.specs.Sequence.{Sequence}
-use Rattle.hdt_seq.specs.Numbers.{EncodesNumbers, numbers_of, numbers_offsets, expected_numbers_offsets, numbers_and_end, numbers_view, numbers_at}
+use Rattle.hdt_seq.specs.Numbers.{EncodesNumbers, numbers_of, numbers_offsets, expected_numbers_offsets}
+use Rattle.hdt_seq.specs.Numbers.{numbers_and_end, numbers_view, numbers_at}
 use Rattle.hdt_seq.specs.Laws.NumbersReading.{numbers_found, numbers_only}
-use Rattle.hdt_seq.specs.Bits.{EncodesBits, bits_of, bits_offsets, expected_bits_offsets, bits_and_end, bits_view, bits_at}
+use Rattle.hdt_seq.specs.Bits.{EncodesBits, bits_of, bits_offsets, expected_bits_offsets, bits_and_end, bits_view}
+use Rattle.hdt_seq.specs.Bits.{bits_at}
 use Rattle.hdt_seq.specs.Laws.BitsReading.{bits_found, bits_only}
 
 -- a count above the length of the input fails

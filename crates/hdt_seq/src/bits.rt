@@ -29,7 +29,8 @@ impl<'a> Bits<'a> {
     ghost use Rattle.std.specs.Int.Count.{ones};
     ghost use Rattle.hdt_seq.specs.Sequence.{entry_offset};
     ghost use Rattle.hdt_seq.specs.RankSelect.{ones_before};
-    ghost use Rattle.hdt_seq.specs.Bits.{EncodesBits, bits_of, bits_offsets, expected_bits_offsets, bits_and_end, bits_view, bits_at};
+    ghost use Rattle.hdt_seq.specs.Bits.{EncodesBits, bits_of, bits_offsets, expected_bits_offsets, bits_and_end};
+    ghost use Rattle.hdt_seq.specs.Bits.{bits_view, bits_at};
 
     /// Reads a bitmap in the order of the format.
     #[tactic(auto, unfolding(crate::specs::Bits::bits_at, crate::specs::Bits::bits_of, crate::specs::Bits::bits_offsets))]

@@ -1,5 +1,6 @@
 //! Rank/select indexes: the 1-bits of a bitmap, counted by groups of 512 bits.
-ghost use Rattle.std.specs.Prelude.{◌≡◌, ◌≤◌, ◌<◌, nat_lt, if◌then◌else◌, ◌+◌, ◌-◌, ◌*◌, ◌/◌, ◌%◌, ◌^◌, ℕ, List, Bool, length, slice_index, slice_get, Some, true, IfOk, SomeIndex};
+ghost use Rattle.std.specs.Prelude.{◌≡◌, ◌≤◌, ◌<◌, nat_lt, if◌then◌else◌, ◌+◌, ◌-◌, ◌*◌, ◌/◌, ◌%◌, ◌^◌, ℕ, List, Bool};
+ghost use Rattle.std.specs.Prelude.{length, slice_index, slice_get, Some, true, IfOk, SomeIndex};
 ghost use Rattle.std.specs.Int.Count.{ones};
 ghost use Rattle.hdt_seq.specs.Width.{digits};
 ghost use Rattle.hdt_seq.specs.RankSelect.{ones_before, IsSelect};

@@ -31,7 +31,8 @@ impl<'a> Numbers<'a> {
     ghost use Rattle.std.specs.Prelude.{List, Ok, IfOk, slice_index};
     ghost use Rattle.hdt_wire.specs.Checks.{Reads, EncodedAt};
     ghost use Rattle.hdt_seq.specs.Sequence.{entry_offset};
-    ghost use Rattle.hdt_seq.specs.Numbers.{EncodesNumbers, numbers_of, numbers_offsets, expected_numbers_offsets, numbers_and_end, numbers_view, numbers_at};
+    ghost use Rattle.hdt_seq.specs.Numbers.{EncodesNumbers, numbers_of, numbers_offsets, expected_numbers_offsets};
+    ghost use Rattle.hdt_seq.specs.Numbers.{numbers_and_end, numbers_view, numbers_at};
 
     /// Reads a log sequence in the order of the format.
     #[tactic(auto, unfolding(crate::specs::Numbers::numbers_at, crate::specs::Numbers::numbers_of, crate::specs::Numbers::numbers_offsets))]

@@ -1,5 +1,6 @@
 //! Packing entries and bits into bytes.
-ghost use Rattle.std.specs.Prelude.{◌≡◌, ◌<◌, ◌≤◌, ◌+◌, ◌*◌, ◌/◌, ◌%◌, ◌^◌, ◌++◌, ◌∷◌, [], ℕ, length, drop, OnOk, OnErr, slice_index};
+ghost use Rattle.std.specs.Prelude.{◌≡◌, ◌<◌, ◌≤◌, ◌+◌, ◌*◌, ◌/◌, ◌%◌, ◌^◌, ◌++◌, ◌∷◌, [], ℕ, length, drop, OnOk};
+ghost use Rattle.std.specs.Prelude.{OnErr, slice_index};
 ghost use Rattle.byteorder.specs.Endian.{little_bytes};
 ghost use Rattle.hdt_wire.specs.Crc.{crc8, crc32};
 ghost use Rattle.hdt_wire.specs.Control.{IsPrefixOf};

@@ -1,5 +1,6 @@
 -- Parsing a complete text: its term or its error.
-use Rattle.std.proofs.Common.{◌≡◌, ℕ, ◌<◌, eqb, List, [], length, Result, Ok, Err, refl, sym, ap, subst, ◌∙◌, inl, inr, ◌⊎◌, arith, ne_eqb}
+use Rattle.std.proofs.Common.{◌≡◌, ℕ, ◌<◌, eqb, List, [], length, Result, Ok, Err, refl, sym, ap, subst, ◌∙◌, inl, inr}
+use Rattle.std.proofs.Common.{◌⊎◌, arith, ne_eqb}
 use Rattle.std.specs.Prelude.{IsUtf8, IfOk, IfErr, OnOk}
 use Rattle.std.proofs.lemmas.Str.{utf8_valid_len-IsUtf8}
 use Rattle.std.proofs.lemmas.List.{append-nil, nil_from_length}
@@ -10,7 +11,8 @@ use Rattle.hdt_terms.specs.declared.fault.TermFault.{TermFault}
 use Rattle.hdt_terms.specs.declared.fault.ParseError.{ParseError}
 use Rattle.hdt_terms.specs.declared.fault.ParseError.TheVariants as errors
 use Rattle.hdt_terms.specs.declared.triple.Term.{Term}
-use Rattle.hdt_terms.specs.Faults.{fault_at, out_of_memory, LocatesError, whole, unless_not_utf8, EqualsUnlessOom, AppendsParsedTerm, term_in}
+use Rattle.hdt_terms.specs.Faults.{fault_at, out_of_memory, LocatesError, whole, unless_not_utf8, EqualsUnlessOom}
+use Rattle.hdt_terms.specs.Faults.{AppendsParsedTerm, term_in}
 use Rattle.hdt_terms.specs.Appending.{AppendsStringOfText}
 use Rattle.hdt_terms.specs.TermParsing.{Fails, term_at}
 use Rattle.hdt_terms.specs.Grammar.{EncodesTermForm, Encodes}

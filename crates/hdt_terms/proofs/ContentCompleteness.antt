@@ -1,5 +1,6 @@
 -- Completeness for the content of a token: parsing reads the content that the text encodes.
-use Rattle.std.proofs.Common.{◌≡◌, ℕ, suc, true, eqb, leb, List, [], ◌∷◌, ◌++◌, length, Some, None, Result, Ok, refl, ap, ◌∙◌, append_assoc, arith, length-append, ne_eqb}
+use Rattle.std.proofs.Common.{◌≡◌, ℕ, suc, true, eqb, leb, List, [], ◌∷◌, ◌++◌, length, Some, None, Result, Ok, refl}
+use Rattle.std.proofs.Common.{ap, ◌∙◌, append_assoc, arith, length-append, ne_eqb}
 use Rattle.std.specs.Prelude.{encode_utf8, not}
 use Rattle.std.specs.List.{AllByRecursion}
 use Rattle.std.proofs.lemmas.Bool.{le-leb}
@@ -10,8 +11,10 @@ use Rattle.hdt_terms.specs.declared.escaped_tokens.TokenItem.TheVariants.{End, B
 use Rattle.hdt_terms.specs.declared.escaped_tokens.Token.{Token}
 use Rattle.hdt_terms.specs.declared.escaped_tokens.Token.TheVariants.{Iri, Quoted}
 use Rattle.hdt_terms.specs.Chars.{is_iri_char, is_string_char, echar}
-use Rattle.hdt_terms.specs.Grammar.{Piece, raw, letter, short, long, piece_text, piece_value, pieces_text, pieces_value, WritesHex, closing_byte, is_unescaped, is_escapable, IsTokenPiece, EncodesIri}
-use Rattle.hdt_terms.specs.TermParsing.{◌>>=◌, prepend_parsed, hex_escape, uchar, iri_item, string_item, item, goes_on, skip_of, token_content, iri_at}
+use Rattle.hdt_terms.specs.Grammar.{Piece, raw, letter, short, long, piece_text, piece_value, pieces_text, pieces_value}
+use Rattle.hdt_terms.specs.Grammar.{WritesHex, closing_byte, is_unescaped, is_escapable, IsTokenPiece, EncodesIri}
+use Rattle.hdt_terms.specs.TermParsing.{◌>>=◌, prepend_parsed, hex_escape, uchar, iri_item, string_item, item, goes_on}
+use Rattle.hdt_terms.specs.TermParsing.{skip_of, token_content, iri_at}
 use Rattle.hdt_terms.proofs.Ranges.{echar_range}
 use Rattle.hdt_terms.proofs.Bools.{apart, and_second}
 use Rattle.hdt_terms.proofs.ContentReading.{token_content-skip, Reading}

@@ -1,16 +1,20 @@
 -- Completeness of content errors: if a check fails after valid pieces, parsing fails there.
-use Rattle.std.proofs.Common.{◌≡◌, ◌≢◌, ℕ, true, false, ◌⊎◌, List, [], ◌∷◌, ◌++◌, Option, Some, None, Result, Ok, Err, refl, sym, ap, ◌∙◌, append_assoc, ne_eqb, inl, inr}
+use Rattle.std.proofs.Common.{◌≡◌, ◌≢◌, ℕ, true, false, ◌⊎◌, List, [], ◌∷◌, ◌++◌, Option, Some, None, Result, Ok, Err}
+use Rattle.std.proofs.Common.{refl, sym, ap, ◌∙◌, append_assoc, ne_eqb, inl, inr}
 use Rattle.std.specs.List.{AllByRecursion}
 use Rattle.hdt_terms.specs.declared.fault.FailedCheck.{FailedCheck}
 use Rattle.hdt_terms.specs.declared.fault.LineReason.{LineReason}
-use Rattle.hdt_terms.specs.declared.fault.LineReason.TheVariants.{Syntax, NotUtf8, BadEscape, RelativeIri, IriCharacter, ZeroCharacter, Read, OutOfMemory, TooLong}
+use Rattle.hdt_terms.specs.declared.fault.LineReason.TheVariants.{Syntax, NotUtf8, BadEscape, RelativeIri, IriCharacter}
+use Rattle.hdt_terms.specs.declared.fault.LineReason.TheVariants.{ZeroCharacter, Read, OutOfMemory, TooLong}
 use Rattle.hdt_terms.specs.declared.escaped_tokens.TokenItem.{TokenItem}
 use Rattle.hdt_terms.specs.declared.escaped_tokens.Token.{Token}
 use Rattle.hdt_terms.specs.declared.escaped_tokens.Token.TheVariants.{Iri, Quoted}
 use Rattle.hdt_terms.specs.Chars.{is_string_char}
-use Rattle.hdt_terms.specs.Grammar.{Piece, raw, letter, short, long, piece_text, pieces_text, piece_value, pieces_value, IsTokenPiece}
+use Rattle.hdt_terms.specs.Grammar.{Piece, raw, letter, short, long, piece_text, pieces_text, piece_value, pieces_value}
+use Rattle.hdt_terms.specs.Grammar.{IsTokenPiece}
 use Rattle.hdt_terms.specs.ContentErrors.{IsEscape, EscapeAt, CheckFails, ContentCheckFails}
-use Rattle.hdt_terms.specs.TermParsing.{◌>>=◌, stops, prepend_parsed, iri_item, string_item, item, goes_on, skip_of, token_content}
+use Rattle.hdt_terms.specs.TermParsing.{◌>>=◌, stops, prepend_parsed, iri_item, string_item, item, goes_on, skip_of}
+use Rattle.hdt_terms.specs.TermParsing.{token_content}
 use Rattle.hdt_terms.proofs.ContentReading.{Reading, regroup}
 use Rattle.hdt_terms.proofs.ContentCompleteness.{piece_again}
 use Rattle.hdt_terms.proofs.ContentEscapes.{escape_of, escape_at, at_reads}

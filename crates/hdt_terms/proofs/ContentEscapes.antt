@@ -1,5 +1,6 @@
 -- The escapes in the content of a token: parsing reads exactly them.
-use Rattle.std.proofs.Common.{◌≡◌, ℕ, suc, ◌≤◌, true, cond, eqb, leb, List, [], ◌∷◌, ◌++◌, length, take, drop, Option, Some, None, refl, sym, ap, subst, ◌∙◌, arith, inl, inr}
+use Rattle.std.proofs.Common.{◌≡◌, ℕ, suc, ◌≤◌, true, cond, eqb, leb, List, [], ◌∷◌, ◌++◌, length, take, drop, Option}
+use Rattle.std.proofs.Common.{Some, None, refl, sym, ap, subst, ◌∙◌, arith, inl, inr}
 use Rattle.std.specs.Prelude.{encode_utf8, option_and_then}
 use Rattle.std.specs.Option.{option_or}
 use lib.Utf8.{scalar}
@@ -9,7 +10,8 @@ use Rattle.std.proofs.lemmas.Option.{same_Some}
 use Rattle.hdt_terms.specs.declared.escaped_tokens.Token.{Token}
 use Rattle.hdt_terms.specs.declared.escaped_tokens.Token.TheVariants.{Iri, Quoted}
 use Rattle.hdt_terms.specs.Chars.{hex_value, echar}
-use Rattle.hdt_terms.specs.Grammar.{Piece, raw, letter, short, long, piece_text, piece_value, WritesHex, is_escapable, IsTokenPiece}
+use Rattle.hdt_terms.specs.Grammar.{Piece, raw, letter, short, long, piece_text, piece_value, WritesHex, is_escapable}
+use Rattle.hdt_terms.specs.Grammar.{IsTokenPiece}
 use Rattle.hdt_terms.specs.TermParsing.{hex_escape, uchar, echar_at}
 use Rattle.hdt_terms.proofs.Cases.{chosen, some_then}
 use Rattle.hdt_terms.proofs.ContentCompleteness.{escaped_again}

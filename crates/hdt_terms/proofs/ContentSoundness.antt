@@ -1,5 +1,6 @@
 -- Soundness for the content of a token: the text encodes what parsing reads, or a check fails after valid pieces.
-use Rattle.std.proofs.Common.{◌≡◌, ℕ, zero, suc, ◌≤◌, true, List, [], ◌∷◌, ◌++◌, length, drop, Option, Some, None, Result, Ok, Err, refl, sym, ap, subst, ◌∙◌, append_assoc, arith, inl, inr}
+use Rattle.std.proofs.Common.{◌≡◌, ℕ, zero, suc, ◌≤◌, true, List, [], ◌∷◌, ◌++◌, length, drop, Option, Some, None}
+use Rattle.std.proofs.Common.{Result, Ok, Err, refl, sym, ap, subst, ◌∙◌, append_assoc, arith, inl, inr}
 use Rattle.std.specs.Prelude.{encode_utf8, not}
 use Rattle.std.specs.Option.{option_or}
 use Rattle.std.specs.List.{AllByRecursion}
@@ -10,8 +11,10 @@ use Rattle.hdt_terms.specs.declared.escaped_tokens.TokenItem.TheVariants.{End, B
 use Rattle.hdt_terms.specs.declared.escaped_tokens.Token.{Token}
 use Rattle.hdt_terms.specs.declared.escaped_tokens.Token.TheVariants.{Iri, Quoted}
 use Rattle.hdt_terms.specs.Chars.{is_iri_char, is_string_char, is_absolute}
-use Rattle.hdt_terms.specs.Grammar.{Piece, raw, piece_text, piece_value, pieces_text, pieces_value, closing_byte, is_unescaped, is_escapable, IsTokenPiece, EncodesIri}
-use Rattle.hdt_terms.specs.TermParsing.{◌>>=◌, prepend_parsed, uchar, echar_at, iri_escape, string_escape, iri_item, string_item, item, goes_on, skip_of, token_content, require_absolute, iri_at}
+use Rattle.hdt_terms.specs.Grammar.{Piece, raw, piece_text, piece_value, pieces_text, pieces_value, closing_byte}
+use Rattle.hdt_terms.specs.Grammar.{is_unescaped, is_escapable, IsTokenPiece, EncodesIri}
+use Rattle.hdt_terms.specs.TermParsing.{◌>>=◌, prepend_parsed, uchar, echar_at, iri_escape, string_escape, iri_item}
+use Rattle.hdt_terms.specs.TermParsing.{string_item, item, goes_on, skip_of, token_content, require_absolute, iri_at}
 use Rattle.hdt_terms.specs.ContentErrors.{EscapeAt, CheckFails, ContentCheckFails}
 use Rattle.std.proofs.lemmas.Bool.{cases_Bool}
 use Rattle.std.proofs.lemmas.Bool.Decides.{eqb_tells}

@@ -1,5 +1,7 @@
 -- Reading the lines of a document, and what is written for them.
-use Rattle.std.proofs.Common.{◌≡◌, ◌⊎◌, ◌+◌, ◌<◌, ◌≤◌, ℕ, Bool, true, false, List, [], ◌∷◌, ◌++◌, length, take, drop, Option, None, Some, refl, sym, ap, subst, ◌∙◌, inl, inr, arith, append_assoc, append-nil, zero-add, add-zero}
+use Rattle.std.proofs.Common.{◌≡◌, ◌⊎◌, ◌+◌, ◌<◌, ◌≤◌, ℕ, Bool, true, false, List, [], ◌∷◌, ◌++◌, length, take, drop}
+use Rattle.std.proofs.Common.{Option, None, Some, refl, sym, ap, subst, ◌∙◌, inl, inr, arith, append_assoc, append-nil}
+use Rattle.std.proofs.Common.{zero-add, add-zero}
 use Rattle.std.proofs.lemmas.List.{length-append, length-take-le}
 use Rattle.std.proofs.Math.Seq.{drop-append_seam}
 use Rattle.std.proofs.lemmas.List.Elements.{All-head, All-tail, filter_map-append}
@@ -11,12 +13,16 @@ use Rattle.hdt_terms.specs.Chars.{is_line_end}
 use Rattle.hdt_terms.specs.Lines.{HasNoLineEnd, count_line_ends, ends_in_cr}
 use Rattle.hdt_terms.specs.LinesReader.{LinesState, Takes, left, line_number, start}
 use Rattle.hdt_terms.specs.LinesTexts.{TakesWholeLine, IsNextLineError}
-use Rattle.hdt_terms.specs.Documents.{AreDocumentLines, AreEndedLines, BeginsWithLines, DocumentLine, FaultAfterDocumentLines, document_lines}
-use Rattle.hdt_terms.specs.Lint.{GainsAllBut, GainsPrefix, LintsUntilFault, fault_of_line, fault_reports, faulty_lines, kept_if, kept_line, kept_lines, last_faulty, last_faulty_of, lines_without_faults, numbered, report_if_faulty}
+use Rattle.hdt_terms.specs.Documents.{AreDocumentLines, AreEndedLines, BeginsWithLines, DocumentLine}
+use Rattle.hdt_terms.specs.Documents.{FaultAfterDocumentLines, document_lines}
+use Rattle.hdt_terms.specs.Lint.{GainsAllBut, GainsPrefix, LintsUntilFault, fault_of_line, fault_reports, faulty_lines}
+use Rattle.hdt_terms.specs.Lint.{kept_if, kept_line, kept_lines, last_faulty, last_faulty_of, lines_without_faults}
+use Rattle.hdt_terms.specs.Lint.{numbered, report_if_faulty}
 use Rattle.hdt_terms.specs.declared.fault.LineFault.{LineFault}
 use Rattle.hdt_terms.specs.declared.lint.LintFault.{LintFault}
 use Rattle.hdt_terms.specs.declared.lint.LintFault.TheVariants.{Write, OutOfMemory}
-use Rattle.hdt_terms.proofs.LineEndCounts.{head_no_cr, head_no_lf, ends_in_cr-append, ends_in_cr-ended, count_line_ends-append, count_line_ends-no_end, Takes-trans}
+use Rattle.hdt_terms.proofs.LineEndCounts.{head_no_cr, head_no_lf, ends_in_cr-append, ends_in_cr-ended}
+use Rattle.hdt_terms.proofs.LineEndCounts.{count_line_ends-append, count_line_ends-no_end, Takes-trans}
 use Rattle.hdt_terms.proofs.TripleRuns.{nothing_taken}
 
 -- ---- one line at the front

@@ -1,5 +1,6 @@
 -- What a text encodes is a term of the grammar.
-use Rattle.std.proofs.Common.{◌≡◌, ℕ, ◌<◌, ◌≤◌, Bool, true, eqb, List, [], ◌∷◌, ◌++◌, Some, None, refl, sym, ap, subst, ◌∙◌, append_assoc, inl, inr, arith}
+use Rattle.std.proofs.Common.{◌≡◌, ℕ, ◌<◌, ◌≤◌, Bool, true, eqb, List, [], ◌∷◌, ◌++◌, Some, None, refl, sym, ap, subst}
+use Rattle.std.proofs.Common.{◌∙◌, append_assoc, inl, inr, arith}
 use Rattle.std.specs.Prelude.{not, encode_utf8, IsUtf8}
 use Rattle.std.specs.List.{list_all, AllByRecursion}
 use Rattle.std.specs.Char.{IsScalar}
@@ -15,7 +16,9 @@ use Rattle.hdt_terms.specs.declared.triple.Suffix.{Suffix}
 use Rattle.hdt_terms.specs.declared.triple.Suffix.TheVariants.{Plain, Tag, Datatype}
 use Rattle.hdt_terms.specs.Chars.{is_string_char, is_whitespace, is_hex, hex_value, echar}
 use Rattle.hdt_terms.specs.Terms.{IsIri, IsLiteralSuffix, IsNotXsdString, IsGrammarTerm}
-use Rattle.hdt_terms.specs.Grammar.{Piece, raw, letter, short, long, piece_value, pieces_text, pieces_value, WritesHex, IsTokenPiece, is_escapable, EncodesContent, EncodesIri, EncodesDatatype, EncodesSuffix, EncodesTermForm, Encodes}
+use Rattle.hdt_terms.specs.Grammar.{Piece, raw, letter, short, long, piece_value, pieces_text, pieces_value, WritesHex}
+use Rattle.hdt_terms.specs.Grammar.{IsTokenPiece, is_escapable, EncodesContent, EncodesIri, EncodesDatatype}
+use Rattle.hdt_terms.specs.Grammar.{EncodesSuffix, EncodesTermForm, Encodes}
 use Rattle.hdt_terms.proofs.Bools.{and_first, and_second, and_both}
 use Rattle.hdt_terms.proofs.Cases.{chosen}
 use Rattle.hdt_terms.proofs.Ranges.{echar_range, hex_ascii, blank_ascii, iri_char_beyond, other_beyond, encode_passes}

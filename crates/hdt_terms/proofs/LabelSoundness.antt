@@ -1,11 +1,13 @@
 -- A parsed label is a label, and a label is parsed in full.
-use Rattle.std.proofs.Common.{◌≡◌, ℕ, Bool, true, false, cond, eqb, List, [], ◌∷◌, ◌++◌, length, take, drop, Option, Some, None, Ok, refl, sym, ap, subst, ◌∙◌, inl, inr}
+use Rattle.std.proofs.Common.{◌≡◌, ℕ, Bool, true, false, cond, eqb, List, [], ◌∷◌, ◌++◌, length, take, drop, Option}
+use Rattle.std.proofs.Common.{Some, None, Ok, refl, sym, ap, subst, ◌∙◌, inl, inr}
 use Rattle.std.specs.Prelude.{◌||◌, IsUtf8, encode_utf8, encode_utf8_all, option_map}
 use Rattle.std.specs.Str.{chars}
 use lib.Utf8.{scalar, scalars}
 use Rattle.std.proofs.lemmas.Bool.{cases_Bool, eqb-true}
 use Rattle.std.proofs.lemmas.List.{take_at, drop_at}
-use Rattle.std.proofs.lemmas.Str.{chars-encodes, encodes-append, encodes-chars, scalars-chars, chars-append, chars_past_char}
+use Rattle.std.proofs.lemmas.Str.{chars-encodes, encodes-append, encodes-chars, scalars-chars, chars-append}
+use Rattle.std.proofs.lemmas.Str.{chars_past_char}
 use Rattle.hdt_terms.specs.Chars.{is_pn_chars, is_label_start}
 use Rattle.hdt_terms.specs.Labels.{dot_if_continued, label_rest, is_label_rest, is_label, label_prefix, label_bytes}
 use Rattle.hdt_terms.specs.TermParsing.{blank_at}

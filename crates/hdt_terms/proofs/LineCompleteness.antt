@@ -1,5 +1,6 @@
 -- Completeness for lines: parsing reads what a line encodes.
-use Rattle.std.proofs.Common.{◌≡◌, ℕ, zero, suc, ◌<◌, true, false, eqb, List, [], ◌∷◌, ◌++◌, Option, None, Some, Ok, sym, refl, ap, subst, ◌∙◌, inl, inr, ◌⊎◌, arith}
+use Rattle.std.proofs.Common.{◌≡◌, ℕ, zero, suc, ◌<◌, true, false, eqb, List, [], ◌∷◌, ◌++◌, Option, None, Some, Ok}
+use Rattle.std.proofs.Common.{sym, refl, ap, subst, ◌∙◌, inl, inr, ◌⊎◌, arith}
 use Rattle.std.specs.Str.{chars, IsAscii}
 use Rattle.std.proofs.lemmas.Bool.Decides.{eqb_tells, nat_tests}
 use Rattle.std.proofs.lemmas.Str.{IsUtf8-from_ascii, chars-append, chars-IsAscii, chars-nil}
@@ -12,7 +13,9 @@ use Rattle.hdt_terms.specs.declared.triple.Term.TheVariants as terms
 use Rattle.hdt_terms.specs.declared.triple.Triple.{Triple}
 use Rattle.hdt_terms.specs.Chars.{is_whitespace, is_pn_chars}
 use Rattle.hdt_terms.specs.Labels.{label_rest, dot_if_continued}
-use Rattle.hdt_terms.specs.LineParsing.{begins, role_term_at, role_term_after_whitespace, is_comment_or_end, is_blank_or_comment, full_stop_at, full_stop_after_whitespace, line_triple_at, line_in}
+use Rattle.hdt_terms.specs.LineParsing.{begins, role_term_at, role_term_after_whitespace, is_comment_or_end}
+use Rattle.hdt_terms.specs.LineParsing.{is_blank_or_comment, full_stop_at, full_stop_after_whitespace, line_triple_at}
+use Rattle.hdt_terms.specs.LineParsing.{line_in}
 use Rattle.hdt_terms.specs.Lines.{IsCommentOrEnd, IsBlankOrComment, IsSubject, IsPredicate, EncodesTriple, Line}
 use Rattle.hdt_terms.specs.TermParsing.{skip_whitespace, suffix_after, suffix_at, term_at}
 use Rattle.hdt_terms.specs.Grammar.{IsWhitespace, Encodes, EncodesTermForm}

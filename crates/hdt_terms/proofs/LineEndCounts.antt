@@ -1,5 +1,7 @@
 -- Line ends of texts, of lines and of input that is consumed in parts.
-use Rattle.std.proofs.Common.{◌≡◌, ℕ, suc, ◌+◌, ◌<◌, Bool, true, false, ◌&&◌, ◌||◌, not, cond, eqb, List, [], ◌∷◌, ◌++◌, length, take, drop, get_or, Option, sym, refl, ap, ◌∙◌, arith, append_assoc, zero-add, add-zero, add_assoc}
+use Rattle.std.proofs.Common.{◌≡◌, ℕ, suc, ◌+◌, ◌<◌, Bool, true, false, ◌&&◌, ◌||◌, not, cond, eqb, List, [], ◌∷◌, ◌++◌}
+use Rattle.std.proofs.Common.{length, take, drop, get_or, Option, sym, refl, ap, ◌∙◌, arith, append_assoc, zero-add}
+use Rattle.std.proofs.Common.{add-zero, add_assoc}
 use Rattle.std.proofs.lemmas.Bool.{eqb-true, ne_eqb}
 use Rattle.std.proofs.lemmas.List.{length-append, length-take-le, take_more, take_all}
 use Rattle.std.proofs.lemmas.List.Elements.{All-head, All-tail, filter_map-append}

@@ -1,5 +1,6 @@
 -- The exits of code that parses a line, and laws for any kind of line.
-use Rattle.std.proofs.Common.{◌≡◌, true, false, ℕ, List, length, Option, None, Some, Result, Ok, Err, refl, sym, subst, ◌∙◌, inl, inr, ◌⊎◌}
+use Rattle.std.proofs.Common.{◌≡◌, true, false, ℕ, List, length, Option, None, Some, Result, Ok, Err, refl, sym, subst}
+use Rattle.std.proofs.Common.{◌∙◌, inl, inr, ◌⊎◌}
 use Rattle.std.specs.Prelude.{IsUtf8}
 use Rattle.std.specs.Str.Lossy.{utf8_valid_len}
 use Rattle.hdt_terms.specs.declared.fault.ParseError.{ParseError}

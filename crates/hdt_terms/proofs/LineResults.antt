@@ -1,13 +1,16 @@
 -- Results after lines without a triple: a triple, the end or an error.
-use Rattle.std.proofs.Common.{◌≡◌, ℕ, true, false, List, [], ◌∷◌, ◌++◌, ◌+◌, take, Option, None, Some, Ok, inl, inr, sym, refl, subst}
+use Rattle.std.proofs.Common.{◌≡◌, ℕ, true, false, List, [], ◌∷◌, ◌++◌, ◌+◌, take, Option, None, Some, Ok, inl, inr}
+use Rattle.std.proofs.Common.{sym, refl, subst}
 use Rattle.hdt_terms.specs.declared.fault.LineFault.{LineFault}
 use Rattle.hdt_terms.specs.declared.triple.Triple.{Triple}
 use Rattle.hdt_terms.specs.LineParsing.{line_triple}
 use Rattle.hdt_terms.specs.Lines.{HasNoLineEnd, Line, LinesWithoutTriples}
-use Rattle.hdt_terms.specs.LinesReader.{LinesState, left, take_line, Takes, IsTakenLine, TakesTriple, TakesRest, IsNextTripleError, FindsTripleLine, IsTripleLineError}
+use Rattle.hdt_terms.specs.LinesReader.{LinesState, left, take_line, Takes, IsTakenLine, TakesTriple, TakesRest}
+use Rattle.hdt_terms.specs.LinesReader.{IsNextTripleError, FindsTripleLine, IsTripleLineError}
 use Rattle.hdt_terms.proofs.LineEndCounts.{LinesWithoutTriples-append, Takes-trans}
 use Rattle.hdt_terms.proofs.LineSoundness.{line_found}
-use Rattle.hdt_terms.proofs.LineTaking.{AppendsInput-same, LineTaken, line_taken, whole_line, stands_in_triple, stands_behind}
+use Rattle.hdt_terms.proofs.LineTaking.{AppendsInput-same, LineTaken, line_taken, whole_line, stands_in_triple}
+use Rattle.hdt_terms.proofs.LineTaking.{stands_behind}
 
 -- one line without a triple
 one_bare : (bytes : List ℕ) (new : LinesState) (after : Option (List ℕ)) → IsTakenLine bytes None new after

@@ -1,5 +1,6 @@
 -- Soundness for lines: a line encodes what parsing reads.
-use Rattle.std.proofs.Common.{◌≡◌, ℕ, true, false, List, [], ◌∷◌, ◌++◌, Option, Some, Result, Ok, Err, refl, ap, subst, ◌∙◌, inl, inr, sym, ◌⊎◌}
+use Rattle.std.proofs.Common.{◌≡◌, ℕ, true, false, List, [], ◌∷◌, ◌++◌, Option, Some, Result, Ok, Err, refl, ap, subst}
+use Rattle.std.proofs.Common.{◌∙◌, inl, inr, sym, ◌⊎◌}
 use Rattle.std.specs.Prelude.{IsUtf8}
 use Rattle.std.proofs.lemmas.Bool.{cases_Bool, eqb-true}
 use Rattle.std.proofs.lemmas.Bool.Decides.{eqb_tells}
@@ -10,7 +11,9 @@ use Rattle.hdt_wire.specs.declared.role.Role.TheVariants.{Subject, Predicate, Ob
 use Rattle.hdt_terms.specs.declared.triple.Term.{Term}
 use Rattle.hdt_terms.specs.declared.triple.Term.TheVariants as terms
 use Rattle.hdt_terms.specs.declared.triple.Triple.{Triple}
-use Rattle.hdt_terms.specs.LineParsing.{begins, role_term_at, role_term_after_whitespace, is_comment_or_end, is_blank_or_comment, full_stop_at, full_stop_after_whitespace, line_triple_at, line_triple, line_in, with_column, unless_blank}
+use Rattle.hdt_terms.specs.LineParsing.{begins, role_term_at, role_term_after_whitespace, is_comment_or_end}
+use Rattle.hdt_terms.specs.LineParsing.{is_blank_or_comment, full_stop_at, full_stop_after_whitespace, line_triple_at}
+use Rattle.hdt_terms.specs.LineParsing.{line_triple, line_in, with_column, unless_blank}
 use Rattle.hdt_terms.specs.Lines.{IsCommentOrEnd, IsBlankOrComment, IsSubject, IsPredicate, EncodesTriple, Line}
 use Rattle.hdt_terms.specs.TermParsing.{◌>>=◌, skip_whitespace, term_at}
 use Rattle.hdt_terms.specs.Grammar.{IsWhitespace, Encodes}

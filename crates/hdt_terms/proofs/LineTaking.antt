@@ -1,5 +1,7 @@
 -- What one line consumes of the remaining input, and the errors of a line.
-use Rattle.std.proofs.Common.{◌≡◌, ℕ, ◌+◌, ◌-◌, ◌<◌, ◌≤◌, Bool, true, false, cond, List, [], ◌∷◌, ◌++◌, length, take, drop, get_or, Option, None, Some, Ok, Err, inl, inr, sym, refl, ap, subst, ◌∙◌, arith, append_assoc, append-nil, take-append-drop}
+use Rattle.std.proofs.Common.{◌≡◌, ℕ, ◌+◌, ◌-◌, ◌<◌, ◌≤◌, Bool, true, false, cond, List, [], ◌∷◌, ◌++◌, length, take}
+use Rattle.std.proofs.Common.{drop, get_or, Option, None, Some, Ok, Err, inl, inr, sym, refl, ap, subst, ◌∙◌, arith}
+use Rattle.std.proofs.Common.{append_assoc, append-nil, take-append-drop}
 use Rattle.std.proofs.lemmas.Bool.{lt-ltb, le-ltb}
 use Rattle.std.proofs.lemmas.List.{length-take-le, length-drop, take_all, take_more}
 use Rattle.std.proofs.Math.Seq.{drop-length, take-length}
@@ -8,12 +10,14 @@ use Rattle.std.specs.Prelude.{IsUtf8}
 use Rattle.std.specs.Io.KnownBytes.{Consumes, Keeps, IsAtEnd, prepend_known}
 use Rattle.hdt_terms.specs.declared.fault.LineFault.{LineFault}
 use Rattle.hdt_terms.specs.declared.fault.LineReason.{LineReason}
-use Rattle.hdt_terms.specs.declared.fault.LineReason.TheVariants.{Syntax, NotUtf8, BadEscape, RelativeIri, IriCharacter, ZeroCharacter, Read, OutOfMemory, TooLong}
+use Rattle.hdt_terms.specs.declared.fault.LineReason.TheVariants.{Syntax, NotUtf8, BadEscape, RelativeIri, IriCharacter}
+use Rattle.hdt_terms.specs.declared.fault.LineReason.TheVariants.{ZeroCharacter, Read, OutOfMemory, TooLong}
 use Rattle.hdt_terms.specs.Chars.{is_line_end}
 use Rattle.hdt_terms.specs.Inside.LineBuffer.{AppendsInput, IsFirstLineLength, BuffersLine}
 use Rattle.hdt_terms.specs.LineParsing.{is_blank_or_comment}
 use Rattle.hdt_terms.specs.Lines.{HasNoLineEnd, LinesWithoutTriples}
-use Rattle.hdt_terms.specs.LinesReader.{LinesState, IsTakenLineText, left, take_bytes, take_line, Takes, BeginsWithLine, IsLineError, IsNextTripleError, IsTripleLineError, ChecksLine}
+use Rattle.hdt_terms.specs.LinesReader.{LinesState, IsTakenLineText, left, take_bytes, take_line, Takes, BeginsWithLine}
+use Rattle.hdt_terms.specs.LinesReader.{IsLineError, IsNextTripleError, IsTripleLineError, ChecksLine}
 use Rattle.hdt_terms.proofs.LineSoundness.{line_fault}
 
 -- ---- the remaining input

@@ -1,11 +1,13 @@
 -- Parsing a request by dictionary strings is sound and complete.
-use Rattle.std.proofs.Common.{◌≡◌, ℕ, true, false, eqb, ne_eqb, List, [], ◌∷◌, ◌++◌, Option, Some, None, Result, Ok, Err, refl, sym, ap, subst, ◌∙◌, append_assoc, append-nil, inl, inr}
+use Rattle.std.proofs.Common.{◌≡◌, ℕ, true, false, eqb, ne_eqb, List, [], ◌∷◌, ◌++◌, Option, Some, None, Result, Ok}
+use Rattle.std.proofs.Common.{Err, refl, sym, ap, subst, ◌∙◌, append_assoc, append-nil, inl, inr}
 use Rattle.std.proofs.lemmas.Bool.{eqb-true, false_from_ne_true}
 use Rattle.hdt_terms.specs.declared.fault.LineReason.TheVariants.{Syntax}
 use Rattle.std.proofs.lemmas.Bool.Decides.{eqb_tells}
 use Rattle.hdt_terms.specs.declared.fault.FailedCheck.{FailedCheck}
 use Rattle.hdt_terms.specs.LineParsing.{is_blank_or_comment}
-use Rattle.hdt_terms.specs.RawRequestParsing.{StringPattern, raw_escape_byte, raw_string_at, tab_at, end_at, raw_request_at, raw_request_in}
+use Rattle.hdt_terms.specs.RawRequestParsing.{StringPattern, raw_escape_byte, raw_string_at, tab_at, end_at}
+use Rattle.hdt_terms.specs.RawRequestParsing.{raw_request_at, raw_request_in}
 use Rattle.hdt_terms.specs.RawRequests.{EncodesByte, EncodesRawString, EncodesRawRequest, RawRequestLine}
 use Rattle.hdt_terms.specs.TermParsing.{◌>>=◌, stops, prepend_parsed}
 use Rattle.hdt_terms.proofs.Cases.{bind_ok, chosen, done, ok_is}

@@ -1,5 +1,6 @@
 -- Reading the dictionary strings of a line, step by step.
-use Rattle.std.proofs.Common.{◌≡◌, ◌≢◌, ℕ, false, eqb, ne_eqb, List, [], ◌∷◌, ◌++◌, length, Option, Some, None, Ok, Err, refl, sym, ap, ◌∙◌, arith}
+use Rattle.std.proofs.Common.{◌≡◌, ◌≢◌, ℕ, false, eqb, ne_eqb, List, [], ◌∷◌, ◌++◌, length, Option, Some, None, Ok, Err}
+use Rattle.std.proofs.Common.{refl, sym, ap, ◌∙◌, arith}
 use Rattle.std.proofs.lemmas.List.{append-nil}
 use Rattle.hdt_terms.specs.declared.fault.LineReason.TheVariants.{BadEscape}
 use Rattle.hdt_terms.specs.Appending.{Appended, identity_bytes}

@@ -6,10 +6,13 @@ use Rattle.hdt_terms.specs.declared.triple.Term.{Term}
 use Rattle.hdt_terms.specs.LineParsing.{is_comment_or_end, is_blank_or_comment}
 use Rattle.hdt_terms.specs.Lines.{IsCommentOrEnd, IsBlankOrComment, IsSubject}
 use Rattle.hdt_terms.specs.TermParsing.{◌>>=◌, skip_whitespace}
-use Rattle.hdt_terms.specs.RequestParsing.{as_pattern_term, pattern_term_at, pattern_term_after_whitespace, optional_stop_at, optional_stop_after_whitespace, request_at, request_in}
+use Rattle.hdt_terms.specs.RequestParsing.{as_pattern_term, pattern_term_at, pattern_term_after_whitespace}
+use Rattle.hdt_terms.specs.RequestParsing.{optional_stop_at, optional_stop_after_whitespace, request_at, request_in}
 use Rattle.hdt_terms.specs.Requests.{TermPattern, EncodesPatternTerm, IsOptionalStop, EncodesRequest, RequestLine}
 use Rattle.hdt_terms.specs.Grammar.{IsWhitespace}
-use Rattle.hdt_terms.proofs.LineCompleteness.{bare_again, first_of, here_again, label_behind, ClosesPart, closes_subject, closes_predicate, closes_object, predicate_label, term_not_bare}
+use Rattle.hdt_terms.proofs.LineCompleteness.{bare_again, first_of, here_again, label_behind, ClosesPart}
+use Rattle.hdt_terms.proofs.LineCompleteness.{closes_subject, closes_predicate, closes_object, predicate_label}
+use Rattle.hdt_terms.proofs.LineCompleteness.{term_not_bare}
 use Rattle.hdt_terms.proofs.LineSoundness.{IsOf}
 use Rattle.hdt_terms.proofs.TermCompleteness.{skip_whitespace-blanks, term_again}
 use Rattle.hdt_terms.proofs.PatternTerms.{here_is}

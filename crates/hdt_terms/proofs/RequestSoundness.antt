@@ -1,5 +1,6 @@
 -- Soundness for requests: a line encodes the request that parsing reads.
-use Rattle.std.proofs.Common.{◌≡◌, ℕ, eqb, List, [], ◌∷◌, ◌++◌, Option, Ok, refl, ap, subst, ◌∙◌, inl, inr, sym, Result, Err}
+use Rattle.std.proofs.Common.{◌≡◌, ℕ, eqb, List, [], ◌∷◌, ◌++◌, Option, Ok, refl, ap, subst, ◌∙◌, inl, inr, sym, Result}
+use Rattle.std.proofs.Common.{Err}
 use Rattle.std.specs.Prelude.{IsUtf8}
 use Rattle.std.proofs.lemmas.Bool.{cases_Bool}
 use Rattle.std.proofs.lemmas.Bool.Decides.{eqb_tells}
@@ -10,7 +11,8 @@ use Rattle.hdt_terms.specs.declared.triple.Term.{Term}
 use Rattle.hdt_terms.specs.LineParsing.{role_term_at, is_comment_or_end, is_blank_or_comment}
 use Rattle.hdt_terms.specs.Lines.{IsBlankOrComment}
 use Rattle.hdt_terms.specs.TermParsing.{◌>>=◌, skip_whitespace}
-use Rattle.hdt_terms.specs.RequestParsing.{as_pattern_term, pattern_term_at, pattern_term_after_whitespace, optional_stop_at, optional_stop_after_whitespace, request_at}
+use Rattle.hdt_terms.specs.RequestParsing.{as_pattern_term, pattern_term_at, pattern_term_after_whitespace}
+use Rattle.hdt_terms.specs.RequestParsing.{optional_stop_at, optional_stop_after_whitespace, request_at}
 use Rattle.hdt_terms.specs.Requests.{TermPattern, EncodesPatternTerm, IsOptionalStop, EncodesRequest}
 use Rattle.hdt_terms.specs.Grammar.{IsWhitespace}
 use Rattle.hdt_terms.proofs.Cases.{bind_ok, ok_is}

@@ -1,6 +1,9 @@
 -- Splitting a document: the pending lines of each part, and what each writer has gained.
-use Rattle.std.proofs.Common.{◌≡◌, ◌≢◌, ◌⊎◌, ◌+◌, ◌<◌, ◌≤◌, ◌||◌, ℕ, false, List, [], ◌∷◌, ◌++◌, length, map, take, drop, get_or, slice_set, replicate, Option, None, Some, Result, Ok, Err, option_map, refl, sym, ap, subst, ◌∙◌, inl, inr, arith, append_assoc, append-nil}
-use Rattle.std.proofs.lemmas.List.{map-set, get_or-map, get_or-set_same, get_or-set_other, get_or-replicate, length-append, length-map, length-replicate, length-set, take_all}
+use Rattle.std.proofs.Common.{◌≡◌, ◌≢◌, ◌⊎◌, ◌+◌, ◌<◌, ◌≤◌, ◌||◌, ℕ, false, List, [], ◌∷◌, ◌++◌, length, map, take}
+use Rattle.std.proofs.Common.{drop, get_or, slice_set, replicate, Option, None, Some, Result, Ok, Err, option_map, refl}
+use Rattle.std.proofs.Common.{sym, ap, subst, ◌∙◌, inl, inr, arith, append_assoc, append-nil}
+use Rattle.std.proofs.lemmas.List.{map-set, get_or-map, get_or-set_same, get_or-set_other, get_or-replicate}
+use Rattle.std.proofs.lemmas.List.{length-append, length-map, length-replicate, length-set, take_all}
 use Rattle.std.proofs.Math.Seq.{drop-length}
 use Rattle.std.proofs.lemmas.List.Elements.{filter_map-append}
 use Rattle.std.specs.List.{filter_map}
@@ -19,15 +22,21 @@ use Rattle.hdt_terms.specs.declared.split.SplitFault.TheVariants.{Line, Write, O
 use Rattle.hdt_terms.specs.declared.split.SplitReport.{SplitReport}
 use Rattle.hdt_terms.specs.declared.triple.Triple.{Triple}
 use Rattle.hdt_terms.specs.Faults.{unless_not_utf8}
-use Rattle.hdt_terms.specs.LineParsing.{as_line, is_blank_or_comment, line_in, line_triple, line_triple_at, unless_blank, with_column}
+use Rattle.hdt_terms.specs.LineParsing.{as_line, is_blank_or_comment, line_in, line_triple, line_triple_at}
+use Rattle.hdt_terms.specs.LineParsing.{unless_blank, with_column}
 use Rattle.hdt_terms.specs.LinesReader.{IsTripleLineError, LinesState, start}
 use Rattle.hdt_terms.specs.LinesTexts.{TakesWholeLine}
 use Rattle.hdt_terms.specs.Documents.{DocumentLine}
 use Rattle.hdt_terms.specs.Lint.{GainsAllBut, GainsPrefix, at_line, fault_of, fault_of_line, faulty_lines}
-use Rattle.hdt_terms.specs.Split.{EachGains, EachGainsAllBut, EachGainsPrefix, IsSplitReadFault, IsReportOf, SplitsUntilFault, TripleLine, has_blank_node, have_blank_nodes, last_number, triple_line_after, last_triple_line, line_if_in_part, no_triple_line, number_if_nonempty, part_lines, further_part_lines, triple_of_line, triples_of_document, prefixed_line}
+use Rattle.hdt_terms.specs.Split.{EachGains, EachGainsAllBut, EachGainsPrefix, IsSplitReadFault, IsReportOf}
+use Rattle.hdt_terms.specs.Split.{SplitsUntilFault, TripleLine, has_blank_node, have_blank_nodes, last_number}
+use Rattle.hdt_terms.specs.Split.{triple_line_after, last_triple_line, line_if_in_part, no_triple_line}
+use Rattle.hdt_terms.specs.Split.{number_if_nonempty, part_lines, further_part_lines, triple_of_line}
+use Rattle.hdt_terms.specs.Split.{triples_of_document, prefixed_line}
 use Rattle.hdt_terms.proofs.LawsLemmas.{all_valid}
 use Rattle.hdt_terms.proofs.LineSoundness.{fault_of_triple}
-use Rattle.hdt_terms.proofs.DocumentLines.{HasReadLines, begins_with, grown, none_read, wrote, wrote_all, wrote_none, wrote_prefix}
+use Rattle.hdt_terms.proofs.DocumentLines.{HasReadLines, begins_with, grown, none_read, wrote, wrote_all, wrote_none}
+use Rattle.hdt_terms.proofs.DocumentLines.{wrote_prefix}
 
 -- ---- one element of a list is replaced
 

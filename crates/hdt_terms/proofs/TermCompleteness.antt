@@ -1,5 +1,6 @@
 -- Completeness for terms: parsing a text that encodes a term returns that term.
-use Rattle.std.proofs.Common.{◌≡◌, ◌≢◌, ℕ, Bool, true, false, List, [], ◌∷◌, ◌++◌, Ok, refl, sym, ap, subst, ◌∙◌, append_assoc, inl, inr, arith}
+use Rattle.std.proofs.Common.{◌≡◌, ◌≢◌, ℕ, Bool, true, false, List, [], ◌∷◌, ◌++◌, Ok, refl, sym, ap, subst, ◌∙◌}
+use Rattle.std.proofs.Common.{append_assoc, inl, inr, arith}
 use Rattle.std.specs.Prelude.{IsUtf8}
 use Rattle.std.specs.Str.{chars, bytes_eq}
 use Rattle.std.proofs.lemmas.List.{append-nil}
@@ -13,8 +14,10 @@ use Rattle.hdt_terms.specs.declared.triple.Suffix.TheVariants.{Plain, Tag, Datat
 use Rattle.hdt_terms.specs.Chars.{is_whitespace}
 use Rattle.hdt_terms.specs.Labels.{label_rest}
 use Rattle.hdt_terms.specs.Terms.{xsd_string}
-use Rattle.hdt_terms.specs.Grammar.{IsWhitespace, EncodesIri, EncodesBlankNode, EncodesDatatype, EncodesSuffix, EncodesLiteral, EncodesTermForm}
-use Rattle.hdt_terms.specs.TermParsing.{token_content, iri_at, skip_whitespace, tag_at, datatype_of, datatype_at, suffix_at, literal_at, term_at}
+use Rattle.hdt_terms.specs.Grammar.{IsWhitespace, EncodesIri, EncodesBlankNode, EncodesDatatype, EncodesSuffix}
+use Rattle.hdt_terms.specs.Grammar.{EncodesLiteral, EncodesTermForm}
+use Rattle.hdt_terms.specs.TermParsing.{token_content, iri_at, skip_whitespace, tag_at, datatype_of, datatype_at}
+use Rattle.hdt_terms.specs.TermParsing.{suffix_at, literal_at, term_at}
 use Rattle.hdt_terms.proofs.Bools.{and_first, and_second}
 use Rattle.hdt_terms.proofs.ContentCompleteness.{pieces_again, iri_again}
 use Rattle.hdt_terms.proofs.LabelSoundness.{blank_again}

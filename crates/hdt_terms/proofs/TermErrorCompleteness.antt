@@ -1,5 +1,6 @@
 -- Completeness of term errors: if a check of the table fails, parsing fails there.
-use Rattle.std.proofs.Common.{inl, inr, arith, ◌≡◌, ℕ, Bool, true, false, eqb, List, [], ◌∷◌, ◌++◌, None, Result, Ok, Err, refl, sym, ap, subst, ◌∙◌}
+use Rattle.std.proofs.Common.{inl, inr, arith, ◌≡◌, ℕ, Bool, true, false, eqb, List, [], ◌∷◌, ◌++◌, None, Result, Ok}
+use Rattle.std.proofs.Common.{Err, refl, sym, ap, subst, ◌∙◌}
 use Rattle.std.specs.Prelude.{◌||◌, IsUtf8, encode_utf8_all}
 use Rattle.std.specs.Char.{is_ascii_alphabetic}
 use Rattle.std.specs.Str.{chars}
@@ -11,8 +12,11 @@ use Rattle.hdt_terms.specs.Labels.{label_bytes}
 use Rattle.hdt_terms.specs.Tags.{tag_len}
 use Rattle.hdt_terms.specs.Grammar.{EncodesContent, IsWhitespace}
 use Rattle.hdt_terms.specs.ContentErrors.{ContentCheckFails}
-use Rattle.hdt_terms.specs.TermErrors.{DoesNotBeginWith, syntax_at, relative_at, IriCheckFails, no_iri, in_iri, relative, BeginsLabel, SuffixCheckFails, no_tag, no_caret, no_datatype, is_term_start, TermCheckFails, no_term, iri, blank, string, suffix}
-use Rattle.hdt_terms.specs.TermParsing.{◌>>=◌, token_content, iri_at, blank_at, skip_whitespace, tag_at, datatype_at, suffix_at, with_suffix, literal_at, term_at}
+use Rattle.hdt_terms.specs.TermErrors.{DoesNotBeginWith, syntax_at, relative_at, IriCheckFails, no_iri, in_iri}
+use Rattle.hdt_terms.specs.TermErrors.{relative, BeginsLabel, SuffixCheckFails, no_tag, no_caret, no_datatype}
+use Rattle.hdt_terms.specs.TermErrors.{is_term_start, TermCheckFails, no_term, iri, blank, string, suffix}
+use Rattle.hdt_terms.specs.TermParsing.{◌>>=◌, token_content, iri_at, blank_at, skip_whitespace, tag_at, datatype_at}
+use Rattle.hdt_terms.specs.TermParsing.{suffix_at, with_suffix, literal_at, term_at}
 use Rattle.std.proofs.lemmas.Bool.{cases_Bool}
 use Rattle.std.proofs.lemmas.Bool.Decides.{eqb_tells}
 use Rattle.hdt_terms.proofs.AsciiBorders.{behind_ascii}

@@ -1,5 +1,7 @@
 -- The error of a text is the one of the table.
-use Rattle.std.proofs.Common.{◌≡◌, ◌≢◌, ◌≤◌, ◌+◌, ℕ, Bool, true, false, cond, eqb, List, [], ◌∷◌, ◌++◌, length, take, drop, Some, Result, Ok, Err, refl, sym, ap, subst, ◌∙◌, append_assoc, length-append, inl, inr, ◌⊎◌, arith, ne_eqb}
+use Rattle.std.proofs.Common.{◌≡◌, ◌≢◌, ◌≤◌, ◌+◌, ℕ, Bool, true, false, cond, eqb, List, [], ◌∷◌, ◌++◌, length, take}
+use Rattle.std.proofs.Common.{drop, Some, Result, Ok, Err, refl, sym, ap, subst, ◌∙◌, append_assoc, length-append, inl}
+use Rattle.std.proofs.Common.{inr, ◌⊎◌, arith, ne_eqb}
 use Rattle.std.specs.Prelude.{IfErr, IsUtf8, encode_utf8_all, option_map}
 use Rattle.std.specs.Str.{chars, is_utf8}
 use Rattle.std.specs.Str.Lossy.{utf8_valid_len}
@@ -13,10 +15,13 @@ use Rattle.hdt_terms.specs.declared.triple.Suffix.{Suffix}
 use Rattle.hdt_terms.specs.declared.triple.Suffix.TheVariants.{Plain, Tag, Datatype}
 use Rattle.hdt_terms.specs.declared.triple.Term.{Term}
 use Rattle.hdt_terms.specs.declared.triple.Term.TheVariants as terms
-use Rattle.hdt_terms.specs.Faults.{fault_at, out_of_memory, whole, unless_not_utf8, term_in, TermParseFails, EqualsUnlessOom, not_utf8_at}
+use Rattle.hdt_terms.specs.Faults.{fault_at, out_of_memory, whole, unless_not_utf8, term_in, TermParseFails}
+use Rattle.hdt_terms.specs.Faults.{EqualsUnlessOom, not_utf8_at}
 use Rattle.hdt_terms.specs.Labels.{label_bytes}
-use Rattle.hdt_terms.specs.TermParsing.{◌>>=◌, token_content, tag_at, suffix_at, blank_at, with_suffix, literal_at, term_at}
-use Rattle.hdt_terms.specs.Grammar.{EncodesBlankNode, EncodesDatatype, EncodesSuffix, EncodesLiteral, EncodesTermForm, Encodes}
+use Rattle.hdt_terms.specs.TermParsing.{◌>>=◌, token_content, tag_at, suffix_at, blank_at, with_suffix, literal_at}
+use Rattle.hdt_terms.specs.TermParsing.{term_at}
+use Rattle.hdt_terms.specs.Grammar.{EncodesBlankNode, EncodesDatatype, EncodesSuffix, EncodesLiteral, EncodesTermForm}
+use Rattle.hdt_terms.specs.Grammar.{Encodes}
 use Rattle.hdt_terms.specs.TermErrors.{IsLongest, IsTermError, not_utf8, stopped, left_over, TermCheckFails}
 use Rattle.hdt_terms.specs.Terms.{IsTag, xsd_string}
 use Rattle.hdt_terms.proofs.ContentCompleteness.{pieces_again}
@@ -153,7 +158,8 @@ read_table : (read : Read) (text : List ℕ) (fault : TermFault) → IsUtf8 text
     → whole text read ≡ Err fault → IsTermError text fault
 unfolding whole
 read_table (Ok x) text fault utf8 e h =
-    elim (chosen (eqb (length x.1) 0) (Ok x.0) (refused (fault_at (length text) (length x.1) Syntax)) (refused fault) h) [
+    elim (chosen (eqb (length x.1) 0) (Ok x.0) (refused (fault_at (length text) (length x.1) Syntax))
+    (refused fault) h) [
       | inl p ↦ absurd cc
       | inr p ↦
           let f = term_found text x.1 x.0 utf8 e in

@@ -1,5 +1,6 @@
 -- Soundness for terms: the text encodes the term that parsing reads, or a check of the table of errors fails.
-use Rattle.std.proofs.Common.{◌≡◌, ◌≢◌, ℕ, Bool, true, false, eqb, List, [], ◌∷◌, ◌++◌, Result, Ok, refl, sym, ap, subst, ◌∙◌, append_assoc, inl, inr, take, drop, Option, Some, None, Err, arith}
+use Rattle.std.proofs.Common.{◌≡◌, ◌≢◌, ℕ, Bool, true, false, eqb, List, [], ◌∷◌, ◌++◌, Result, Ok, refl, sym, ap}
+use Rattle.std.proofs.Common.{subst, ◌∙◌, append_assoc, inl, inr, take, drop, Option, Some, None, Err, arith}
 use Rattle.std.specs.Prelude.{IsUtf8, encode_utf8}
 use Rattle.std.specs.Str.{bytes_eq, chars}
 use Rattle.std.proofs.lemmas.Bool.Decides.{not_from_Decides, eqb_tells}
@@ -12,7 +13,9 @@ use Rattle.hdt_terms.specs.declared.triple.Suffix.{Suffix}
 use Rattle.hdt_terms.specs.Chars.{is_whitespace}
 use Rattle.hdt_terms.specs.Terms.{xsd_string}
 use Rattle.hdt_terms.specs.Grammar.{pieces_text, IsWhitespace, EncodesDatatype, EncodesSuffix, Encodes, EncodesContent}
-use Rattle.hdt_terms.specs.TermParsing.{◌>>=◌, token_content, iri_at, blank_at, skip_whitespace, tag_at, datatype_of, as_datatype, datatype_at, suffix_after, suffix_at, as_iri, as_blank, with_suffix, literal_at, term_at, cut_label, cut_tag}
+use Rattle.hdt_terms.specs.TermParsing.{◌>>=◌, token_content, iri_at, blank_at, skip_whitespace, tag_at, datatype_of}
+use Rattle.hdt_terms.specs.TermParsing.{as_datatype, datatype_at, suffix_after, suffix_at, as_iri, as_blank}
+use Rattle.hdt_terms.specs.TermParsing.{with_suffix, literal_at, term_at, cut_label, cut_tag}
 use Rattle.hdt_terms.proofs.Bools.{and_both}
 use Rattle.hdt_terms.proofs.FrontUtf8.{iri_front, blank_utf8, literal_front}
 use Rattle.std.proofs.lemmas.List.{take-append-drop}
@@ -20,7 +23,8 @@ use Rattle.hdt_terms.proofs.LabelSoundness.{LabelSays, label_says}
 use Rattle.hdt_terms.proofs.TagSoundness.{TagSays, tag_says}
 use Rattle.hdt_terms.specs.Labels.{label_bytes}
 use Rattle.hdt_terms.specs.Tags.{tag_len}
-use Rattle.hdt_terms.specs.TermErrors.{DoesNotBeginWith, SuffixCheckFails, no_tag, no_caret, no_datatype, TermCheckFails, no_term, iri, blank, string, suffix}
+use Rattle.hdt_terms.specs.TermErrors.{DoesNotBeginWith, SuffixCheckFails, no_tag, no_caret, no_datatype}
+use Rattle.hdt_terms.specs.TermErrors.{TermCheckFails, no_term, iri, blank, string, suffix}
 use Rattle.hdt_terms.proofs.AsciiBorders.{behind_ascii}
 use Rattle.hdt_terms.proofs.ContentSoundness.{IriSays, ContentSays, inside_says, iri_says}
 

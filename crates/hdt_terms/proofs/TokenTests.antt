@@ -1,5 +1,6 @@
 -- Tests of complete texts: a tag, a label, a UTF-8 text.
-use Rattle.std.proofs.Common.{◌≡◌, ◌<◌, ◌≤◌, ℕ, Bool, true, false, eqb, inl, inr, List, [], length, take, Option, Some, None, refl, sym, ap, subst, ◌∙◌, arith}
+use Rattle.std.proofs.Common.{◌≡◌, ◌<◌, ◌≤◌, ℕ, Bool, true, false, eqb, inl, inr, List, [], length, take, Option, Some}
+use Rattle.std.proofs.Common.{None, refl, sym, ap, subst, ◌∙◌, arith}
 use Rattle.std.specs.Prelude.{IsUtf8, nat_eq, not, is_some, slice_index}
 use Rattle.std.specs.Char.{is_ascii}
 use Rattle.std.specs.List.{list_all}

@@ -1,13 +1,15 @@
 -- The reason of an error in the text of a line is never a failed read or the limit.
 use Rattle.std.proofs.Common.{◌≡◌, ℕ, List, Err, sym, ap, subst}
 use Rattle.hdt_terms.specs.declared.fault.LineReason.{LineReason}
-use Rattle.hdt_terms.specs.declared.fault.LineReason.TheVariants.{Syntax, NotUtf8, BadEscape, RelativeIri, IriCharacter, ZeroCharacter, Read, OutOfMemory, TooLong}
+use Rattle.hdt_terms.specs.declared.fault.LineReason.TheVariants.{Syntax, NotUtf8, BadEscape, RelativeIri, IriCharacter}
+use Rattle.hdt_terms.specs.declared.fault.LineReason.TheVariants.{ZeroCharacter, Read, OutOfMemory, TooLong}
 use Rattle.hdt_terms.specs.declared.fault.FailedCheck.{FailedCheck}
 use Rattle.hdt_terms.specs.declared.escaped_tokens.Token.{Token}
 use Rattle.hdt_terms.specs.declared.escaped_tokens.Token.TheVariants.{Iri, Quoted}
 use Rattle.hdt_terms.specs.LineParsing.{begins, line_triple}
 use Rattle.hdt_terms.specs.ContentErrors.{CheckFails, ContentCheckFails}
-use Rattle.hdt_terms.specs.TermErrors.{IriCheckFails, no_iri, in_iri, relative, SuffixCheckFails, no_tag, no_caret, no_datatype, TermCheckFails, no_term, iri, blank, string, suffix}
+use Rattle.hdt_terms.specs.TermErrors.{IriCheckFails, no_iri, in_iri, relative, SuffixCheckFails, no_tag, no_caret}
+use Rattle.hdt_terms.specs.TermErrors.{no_datatype, TermCheckFails, no_term, iri, blank, string, suffix}
 use Rattle.hdt_terms.specs.LinesReader.{IsTripleLineError}
 
 abbrev pub OfText : LineReason → Type 0

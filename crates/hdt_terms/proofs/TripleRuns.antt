@@ -1,5 +1,6 @@
 -- Collecting the triples of an input, line by line, up to its end or its first error.
-use Rattle.std.proofs.Common.{◌≡◌, ℕ, true, false, List, [], ◌∷◌, ◌++◌, length, ◌+◌, arith, Option, None, Some, inl, inr, sym, refl, ap, subst, ◌∙◌, append_assoc, append-nil, zero-add}
+use Rattle.std.proofs.Common.{◌≡◌, ℕ, true, false, List, [], ◌∷◌, ◌++◌, length, ◌+◌, arith, Option, None, Some, inl}
+use Rattle.std.proofs.Common.{inr, sym, refl, ap, subst, ◌∙◌, append_assoc, append-nil, zero-add}
 use Rattle.std.proofs.lemmas.List.Elements.{filter_map-append}
 use Rattle.std.proofs.lemmas.List.{length-append}
 use Rattle.std.proofs.KnownBytes.{Consumes-trans}
@@ -8,7 +9,8 @@ use Rattle.hdt_terms.specs.declared.fault.LineFault.{LineFault}
 use Rattle.hdt_terms.specs.declared.triple.Triple.{Triple}
 use Rattle.hdt_terms.specs.Documents.{IsDocumentInput, FaultInDocument, TriplesSoFar}
 use Rattle.hdt_terms.specs.Lines.{HasNoLineEnd, Line, TerminatedLines, triples_of_lines, count_line_ends, ends_in_cr}
-use Rattle.hdt_terms.specs.LinesReader.{LinesState, start, left, Takes, TakesTriple, TakesRest, IsNextTripleError, IsLineError}
+use Rattle.hdt_terms.specs.LinesReader.{LinesState, start, left, Takes, TakesTriple, TakesRest, IsNextTripleError}
+use Rattle.hdt_terms.specs.LinesReader.{IsLineError}
 use Rattle.hdt_terms.proofs.LineEndCounts.{TerminatedLines-append, Takes-trans, count_line_ends-append}
 
 pub nothing_taken : (all : Option (List ℕ)) → Consumes all (prepend_known [] all) []

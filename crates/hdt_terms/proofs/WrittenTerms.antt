@@ -1,5 +1,6 @@
 -- The text that is written for a term of the grammar encodes it.
-use Rattle.std.proofs.Common.{◌≡◌, ◌<◌, ℕ, Bool, true, false, eqb, List, [], ◌∷◌, ◌++◌, refl, sym, ap, subst, ◌∙◌, append_assoc, inl, inr, ◌⊎◌, arith}
+use Rattle.std.proofs.Common.{◌≡◌, ◌<◌, ℕ, Bool, true, false, eqb, List, [], ◌∷◌, ◌++◌, refl, sym, ap, subst, ◌∙◌}
+use Rattle.std.proofs.Common.{append_assoc, inl, inr, ◌⊎◌, arith}
 use Rattle.std.specs.Prelude.{not, IsUtf8}
 use Rattle.std.specs.List.{list_all, flat_map}
 use Rattle.std.proofs.lemmas.Bool.{eqb-true}
@@ -12,7 +13,8 @@ use Rattle.hdt_terms.specs.declared.triple.Term.TheVariants as terms
 use Rattle.hdt_terms.specs.declared.triple.Suffix.{Suffix}
 use Rattle.hdt_terms.specs.declared.triple.Suffix.TheVariants.{Plain, Tag, Datatype}
 use Rattle.hdt_terms.specs.Terms.{IsIri, IsLiteralSuffix, IsNotXsdString, IsGrammarTerm}
-use Rattle.hdt_terms.specs.Grammar.{Piece, raw, letter, piece_text, piece_value, IsTokenPiece, is_escapable, closing_byte, EncodesContent, EncodesIri, EncodesSuffix, EncodesTermForm, Encodes}
+use Rattle.hdt_terms.specs.Grammar.{Piece, raw, letter, piece_text, piece_value, IsTokenPiece, is_escapable}
+use Rattle.hdt_terms.specs.Grammar.{closing_byte, EncodesContent, EncodesIri, EncodesSuffix, EncodesTermForm, Encodes}
 use Rattle.hdt_terms.specs.Writing.{written_byte, string_byte, opening_byte, written_token, written_suffix, written}
 use Rattle.hdt_terms.proofs.Bools.{and_first, and_second}
 use Rattle.hdt_terms.proofs.FrontUtf8.{one_byte}

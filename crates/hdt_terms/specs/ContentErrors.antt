@@ -7,7 +7,8 @@ use Rattle.hdt_terms.specs.declared.fault.FailedCheck.{FailedCheck}
 use Rattle.hdt_terms.specs.declared.escaped_tokens.Token.{Token}
 use Rattle.hdt_terms.specs.declared.escaped_tokens.Token.TheVariants.{Iri, Quoted}
 use Rattle.hdt_terms.specs.Chars.{is_iri_char, is_string_char}
-use Rattle.hdt_terms.specs.Grammar.{Piece, raw, letter, short, long, piece_text, pieces_text, WritesHex, IsEscapeLetter, IsTokenPiece, closing_byte}
+use Rattle.hdt_terms.specs.Grammar.{Piece, raw, letter, short, long, piece_text, pieces_text, WritesHex, IsEscapeLetter}
+use Rattle.hdt_terms.specs.Grammar.{IsTokenPiece, closing_byte}
 
 -- The piece is an escape of the character d, which the token may exclude.
 abbrev pub IsEscape : Token → Piece → ℕ → Type 0

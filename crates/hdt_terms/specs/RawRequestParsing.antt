@@ -1,6 +1,7 @@
 -- Parsing a request by dictionary strings: three strings, separated by one tab each. \\, \n, \r and \t are a backslash,
 -- a line feed, a carriage return and a tab. The string ? matches any.
-use Rattle.std.specs.Prelude.{◌≡◌, ℕ, zero, suc, Bool, not, ◌⊎◌, List, [], ◌∷◌, Option, None, Some, Result, Ok, Err, ◌==◌, if◌then◌else◌}
+use Rattle.std.specs.Prelude.{◌≡◌, ℕ, zero, suc, Bool, not, ◌⊎◌, List, [], ◌∷◌, Option, None, Some, Result, Ok, Err}
+use Rattle.std.specs.Prelude.{◌==◌, if◌then◌else◌}
 use Rattle.std.specs.Str.{bytes_eq}
 use Rattle.hdt_terms.specs.declared.fault.LineReason.TheVariants.{Syntax, BadEscape}
 use Rattle.hdt_terms.specs.declared.fault.ParseError.{ParseError}

@@ -1,5 +1,6 @@
 -- Splitting a document by the subjects of its triples: the lines of each part.
-use Rattle.std.specs.Prelude.{◌≡◌, ℕ, ◌-◌, ◌<◌, take, ◌==◌, ◌||◌, ◌&&◌, ◌⊎◌, if◌then◌else◌, Bool, false, List, [], ◌∷◌, ◌++◌, length, get_or, Option, None, Some, Result, Ok, Err}
+use Rattle.std.specs.Prelude.{◌≡◌, ℕ, ◌-◌, ◌<◌, take, ◌==◌, ◌||◌, ◌&&◌, ◌⊎◌, if◌then◌else◌, Bool, false, List, [], ◌∷◌}
+use Rattle.std.specs.Prelude.{◌++◌, length, get_or, Option, None, Some, Result, Ok, Err}
 use Rattle.std.specs.Io.KnownBytes.{Appends}
 use Rattle.std.specs.List.{filter_map}
 use Rattle.hdt_terms.specs.declared.fault.LineFault.{LineFault}

@@ -1,6 +1,7 @@
 -- The table of errors (docs/NTRIPLES.md) as a relation, for a text that is to be one term: the check that fails, and
 -- what precedes it.
-use Rattle.std.specs.Prelude.{◌≡◌, ◌≢◌, ℕ, Bool, true, false, ◌≤◌, ◌||◌, ◌==◌, List, [], ◌∷◌, ◌++◌, length, encode_utf8, IsUtf8}
+use Rattle.std.specs.Prelude.{◌≡◌, ◌≢◌, ℕ, Bool, true, false, ◌≤◌, ◌||◌, ◌==◌, List, [], ◌∷◌, ◌++◌, length, encode_utf8}
+use Rattle.std.specs.Prelude.{IsUtf8}
 use Rattle.std.specs.Char.{is_ascii_alphabetic}
 use Rattle.std.specs.Str.Lossy.{utf8_valid_len}
 use Rattle.hdt_terms.specs.declared.fault.LineReason.TheVariants.{Syntax, RelativeIri}

@@ -1,7 +1,9 @@
 -- Parsing a term from left to right, up to the first check that fails: the table of errors in docs/NTRIPLES.md.
-use Rattle.std.specs.Prelude.{◌≡◌, ℕ, zero, suc, ◌&&◌, List, [], ◌∷◌, ◌++◌, length, take, drop, Option, Some, None, Result, Ok, Err, nat_le, ◌==◌, if◌then◌else◌, encode_utf8, option_and_then}
+use Rattle.std.specs.Prelude.{◌≡◌, ℕ, zero, suc, ◌&&◌, List, [], ◌∷◌, ◌++◌, length, take, drop, Option, Some, None}
+use Rattle.std.specs.Prelude.{Result, Ok, Err, nat_le, ◌==◌, if◌then◌else◌, encode_utf8, option_and_then}
 use Rattle.hdt_terms.specs.declared.fault.LineReason.{LineReason}
-use Rattle.hdt_terms.specs.declared.fault.LineReason.TheVariants.{Syntax, BadEscape, RelativeIri, IriCharacter, ZeroCharacter}
+use Rattle.hdt_terms.specs.declared.fault.LineReason.TheVariants.{Syntax, BadEscape, RelativeIri, IriCharacter}
+use Rattle.hdt_terms.specs.declared.fault.LineReason.TheVariants.{ZeroCharacter}
 use Rattle.hdt_terms.specs.declared.fault.FailedCheck.{FailedCheck}
 use Rattle.hdt_terms.specs.declared.fault.ParseError.{ParseError}
 use Rattle.hdt_terms.specs.declared.fault.ParseError.TheVariants as errors

@@ -1,7 +1,8 @@
 //! The length of a run of bytes of one class, 16 at a time.
 ghost use Rattle.std.specs.Prelude.{◌≡◌, ◌+◌, ◌<◌, ◌≤◌, false, length, map, slice_index};
 ghost use Rattle.hdt_terms.specs.declared.escaped_tokens.Token.TheVariants.{Iri, Quoted};
-ghost use Rattle.hdt_terms.specs.declared.byte_runs.ByteClass.TheVariants.{Unescaped, NonzeroAscii, NotLineEnd, AsciiNotLineEnd};
+ghost use Rattle.hdt_terms.specs.declared.byte_runs.ByteClass.TheVariants.{Unescaped, NonzeroAscii, NotLineEnd};
+ghost use Rattle.hdt_terms.specs.declared.byte_runs.ByteClass.TheVariants.{AsciiNotLineEnd};
 ghost use Rattle.hdt_terms.specs.Chars.{is_line_end};
 ghost use Rattle.hdt_wire.specs.Masks.{first_set};
 ghost use Rattle.hdt_terms.specs.Inside.ByteRuns.{IsRunOfBytes, PassBetween, bit_by_high, excluded_by_low, passes};

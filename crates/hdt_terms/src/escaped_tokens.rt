@@ -1,9 +1,11 @@
 //! The content of an IRI or a string, with its escapes decoded.
-ghost use Rattle.std.specs.Prelude.{◌≡◌, ◌≤◌, ◌+◌, ◌^◌, ◌<◌, length, false, ◌++◌, encode_utf8, IfSome, IfOk, IfErr, OnOk, OnErr};
+ghost use Rattle.std.specs.Prelude.{◌≡◌, ◌≤◌, ◌+◌, ◌^◌, ◌<◌, length, false, ◌++◌, encode_utf8, IfSome, IfOk, IfErr};
+ghost use Rattle.std.specs.Prelude.{OnOk, OnErr};
 ghost use Rattle.std.specs.Prelude.{ℕ, true, slice_index};
 ghost use Rattle.hdt_terms.specs.Chars.{echar};
 ghost use Rattle.hdt_terms.specs.Grammar.{closing_byte, is_unescaped};
-ghost use Rattle.hdt_terms.specs.TermParsing.{ReturnsUnlessOom, hex_escape, uchar, echar_at, iri_item, string_item, item, skip_of, token_content, prepend_parsed};
+ghost use Rattle.hdt_terms.specs.TermParsing.{ReturnsUnlessOom, hex_escape, uchar, echar_at, iri_item, string_item};
+ghost use Rattle.hdt_terms.specs.TermParsing.{item, skip_of, token_content, prepend_parsed};
 ghost use Rattle.hdt_terms.specs.Appending.{AppendsParsed, identity_bytes};
 ghost use Rattle.hdt_terms.specs.Writing.{Extends};
 ghost use Rattle.hdt_terms.specs.declared.fault.ParseError.TheVariants.{OutOfMemory};

@@ -2,7 +2,10 @@
 ghost use Rattle.std.specs.Prelude.{◌≡◌, [], ◌<◌, IfOk, OnOk, IsUtf8};
 ghost use Rattle.hdt_terms.specs.Appending.{AppendsParsed};
 ghost use Rattle.hdt_terms.specs.Faults.{EqualsUnlessOom};
-ghost use Rattle.hdt_terms.specs.LineParsing.{begins, role_term_at, role_term_after_whitespace, is_comment_or_end, is_blank_or_comment, comment_or_end_at, full_stop_after_whitespace, line_triple_at, line_triple, line_in, PutsTripleStrings, ReturnsTripleStrings, ReturnsLineStrings};
+ghost use Rattle.hdt_terms.specs.LineParsing.{begins, role_term_at, role_term_after_whitespace, is_comment_or_end};
+ghost use Rattle.hdt_terms.specs.LineParsing.{is_blank_or_comment, comment_or_end_at, full_stop_after_whitespace};
+ghost use Rattle.hdt_terms.specs.LineParsing.{line_triple_at, line_triple, line_in, PutsTripleStrings};
+ghost use Rattle.hdt_terms.specs.LineParsing.{ReturnsTripleStrings, ReturnsLineStrings};
 ghost use Rattle.hdt_terms.specs.TermParsing.{ReturnsUnlessOom};
 ghost use Rattle.hdt_terms.specs.Terms.{dictionary_string};
 

@@ -1,5 +1,6 @@
 //! Reading until a complete line is buffered.
-ghost use Rattle.std.specs.Prelude.{ℕ, ◌≡◌, ◌≢◌, IfOk, IfErr, ◌+◌, ◌≤◌, true, take, length, Some, OnOk, IsErrOf, IsUtf8};
+ghost use Rattle.std.specs.Prelude.{ℕ, ◌≡◌, ◌≢◌, IfOk, IfErr, ◌+◌, ◌≤◌, true, take, length, Some, OnOk, IsErrOf};
+ghost use Rattle.std.specs.Prelude.{IsUtf8};
 ghost use Rattle.hdt_wire.specs.Counted.{inner, failures};
 ghost use Rattle.hdt_terms.specs.Inside.LineBuffer.{IsFirstLineEnd, ReadMore, BuffersLine, text_len};
 ghost use Rattle.hdt_terms.specs.Lines.{HasNoLineEnd};

@@ -1,5 +1,6 @@
 //! The texts of the lines of an input, valid or not: the first bytes of each, or each line with its end.
-ghost use Rattle.std.specs.Prelude.{◌≡◌, ◌≢◌, ◌+◌, ◌++◌, ◌-◌, take, ◌<◌, ◌≤◌, true, false, [], length, OnOk, IfOk, IfErr, IsErrOf, None, Some, Ok, Err, IfSome};
+ghost use Rattle.std.specs.Prelude.{◌≡◌, ◌≢◌, ◌+◌, ◌++◌, ◌-◌, take, ◌<◌, ◌≤◌, true, false, [], length, OnOk, IfOk};
+ghost use Rattle.std.specs.Prelude.{IfErr, IsErrOf, None, Some, Ok, Err, IfSome};
 ghost use Rattle.hdt_wire.specs.Counted.{inner, failures};
 ghost use Rattle.hdt_terms.specs.Inside.LineBuffer.{ReadMore};
 ghost use Rattle.hdt_terms.specs.Lines.{HasNoLineEnd};
@@ -13,7 +14,8 @@ use std::alloc::AllocError;
 use std::io::Read;
 
 impl Lines {
-    ghost use Rattle.hdt_terms.specs.LinesTexts.{TakesLinePrefix, TakesWholeLine, IsNextLineError, ReturnsNextPrefix, TextClearedUnlessFound};
+    ghost use Rattle.hdt_terms.specs.LinesTexts.{TakesLinePrefix, TakesWholeLine, IsNextLineError, ReturnsNextPrefix};
+    ghost use Rattle.hdt_terms.specs.LinesTexts.{TextClearedUnlessFound};
     ghost use Rattle.hdt_terms.specs.LinesReader.{HasBufferedLine, left};
 
     /// Returns whether a complete line with its end is buffered. If so, the next call of [`Lines::next_prefix`] reads

@@ -1,5 +1,6 @@
 //! The lines of a document, from any reader.
-ghost use Rattle.std.specs.Prelude.{◌≡◌, ◌≢◌, ◌+◌, ◌-◌, ◌==◌, take, slice_index, ◌^◌, ◌<◌, ◌≤◌, true, false, [], length, IfOk, OnOk, IfErr, IsErrOf, IsUtf8, None, Some, Ok, Err, IfSome};
+ghost use Rattle.std.specs.Prelude.{◌≡◌, ◌≢◌, ◌+◌, ◌-◌, ◌==◌, take, slice_index, ◌^◌, ◌<◌, ◌≤◌, true, false, []};
+ghost use Rattle.std.specs.Prelude.{length, IfOk, OnOk, IfErr, IsErrOf, IsUtf8, None, Some, Ok, Err, IfSome};
 ghost use Rattle.hdt_wire.specs.Counted.{inner, failures};
 ghost use Rattle.hdt_terms.specs.Chars.{is_line_end};
 ghost use Rattle.hdt_terms.specs.Inside.LineBuffer.{BuffersLine, text_len};
@@ -66,7 +67,9 @@ impl Model for Lines {
 
 impl Lines {
     ghost use Rattle.hdt_terms.specs.LineParsing.{is_blank_or_comment};
-    ghost use Rattle.hdt_terms.specs.LinesReader.{HasBufferedLine, start, left, line_number, take_bytes, take_line, ChecksLine, ParsesTriple, ParsesTripleStrings, FindsTripleLine, ReturnsNextTriple, ReturnsNextStrings, StringsClearedUnlessFound};
+    ghost use Rattle.hdt_terms.specs.LinesReader.{HasBufferedLine, start, left, line_number, take_bytes, take_line};
+    ghost use Rattle.hdt_terms.specs.LinesReader.{ChecksLine, ParsesTriple, ParsesTripleStrings, FindsTripleLine};
+    ghost use Rattle.hdt_terms.specs.LinesReader.{ReturnsNextTriple, ReturnsNextStrings, StringsClearedUnlessFound};
 
     /// Returns a reader of lines at the start of its input. If the input has more than `limit` bytes, the error
     /// [`LineReason::TooLong`] follows the lines that end within the limit. Allocates 64 KiB, whatever the limit.

@@ -1,8 +1,11 @@
 //! Every faulty line of a document.
-ghost use Rattle.std.specs.Prelude.{◌≡◌, ◌≢◌, ◌+◌, ◌++◌, ◌∷◌, ◌⊎◌, ◌<◌, ◌≤◌, ℕ, [], OnOk, OnErr, IfOk, IfErr, Some, length, true, false};
+ghost use Rattle.std.specs.Prelude.{◌≡◌, ◌≢◌, ◌+◌, ◌++◌, ◌∷◌, ◌⊎◌, ◌<◌, ◌≤◌, ℕ, [], OnOk, OnErr, IfOk, IfErr, Some};
+ghost use Rattle.std.specs.Prelude.{length, true, false};
 ghost use Rattle.std.specs.Int.{from_bool};
 ghost use Rattle.hdt_wire.specs.Counted.{inner, failures};
-ghost use Rattle.hdt_terms.specs.Lint.{LintsInput, LintsUntilFault, GainsAllBut, GainsPrefix, at_line, IsReadFault, fault_of_line, fault_report, faulty_lines, kept_if, last_faulty, numbered, report_if_faulty, text_fault};
+ghost use Rattle.hdt_terms.specs.Lint.{LintsInput, LintsUntilFault, GainsAllBut, GainsPrefix, at_line, IsReadFault};
+ghost use Rattle.hdt_terms.specs.Lint.{fault_of_line, fault_report, faulty_lines, kept_if, last_faulty, numbered};
+ghost use Rattle.hdt_terms.specs.Lint.{report_if_faulty, text_fault};
 ghost use Rattle.hdt_terms.specs.declared.lint.LintFault.TheVariants.{OutOfMemory, Write as write_failed};
 
 use crate::fault::{LineFault, LineReason, TermFault};

@@ -1,7 +1,9 @@
 //! Parsing a request by dictionary strings: a line of three strings, separated by tabs.
 ghost use Rattle.std.specs.Prelude.{◌≡◌, [], Ok, Err, Option};
 ghost use Rattle.hdt_terms.specs.Appending.{AppendsParsed, identity_bytes};
-ghost use Rattle.hdt_terms.specs.RawRequestParsing.{raw_escape_byte, raw_string_at, tab_at, end_at, raw_request_at, raw_request_in, is_raw_given, PutsRawStrings, ReturnsRawRequest, IsRawEscapeAt};
+ghost use Rattle.hdt_terms.specs.RawRequestParsing.{raw_escape_byte, raw_string_at, tab_at, end_at, raw_request_at};
+ghost use Rattle.hdt_terms.specs.RawRequestParsing.{raw_request_in, is_raw_given, PutsRawStrings, ReturnsRawRequest};
+ghost use Rattle.hdt_terms.specs.RawRequestParsing.{IsRawEscapeAt};
 ghost use Rattle.hdt_terms.specs.TermParsing.{ReturnsUnlessOom};
 
 use crate::fault::{LineReason, ParseError, TermFault, fail_at, locate_error};

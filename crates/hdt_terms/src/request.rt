@@ -1,6 +1,7 @@
 //! Parsing a request: a line of subject, predicate and object, each a term or `?` for any.
 ghost use Rattle.std.specs.Prelude.{IfOk, IsUtf8};
-ghost use Rattle.hdt_terms.specs.RequestParsing.{pattern_term_after_whitespace, optional_stop_after_whitespace, request_at, request_in, PutsPatternTerm, PutsPattern, ReturnsRequest};
+ghost use Rattle.hdt_terms.specs.RequestParsing.{pattern_term_after_whitespace, optional_stop_after_whitespace};
+ghost use Rattle.hdt_terms.specs.RequestParsing.{request_at, request_in, PutsPatternTerm, PutsPattern, ReturnsRequest};
 ghost use Rattle.hdt_terms.specs.TermParsing.{ReturnsUnlessOom};
 
 use crate::chars::skip_whitespace;

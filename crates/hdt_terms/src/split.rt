@@ -1,10 +1,15 @@
 //! Splitting a document by the subjects of its triples.
-ghost use Rattle.std.specs.Prelude.{◌≡◌, ◌≢◌, ◌+◌, ◌++◌, ◌∷◌, ◌⊎◌, ◌<◌, ◌≤◌, ◌^◌, ℕ, [], List, OnOk, OnErr, IfOk, IfErr, None, Some, map, length, get_or, replicate, take, true, false, IsUtf8};
+ghost use Rattle.std.specs.Prelude.{◌≡◌, ◌≢◌, ◌+◌, ◌++◌, ◌∷◌, ◌⊎◌, ◌<◌, ◌≤◌, ◌^◌, ℕ, [], List, OnOk, OnErr, IfOk};
+ghost use Rattle.std.specs.Prelude.{IfErr, None, Some, map, length, get_or, replicate, take, true, false, IsUtf8};
 ghost use Rattle.hdt_wire.specs.Counted.{inner, failures};
 ghost use Rattle.hdt_terms.specs.Lint.{fault_of_line, numbered};
-ghost use Rattle.hdt_terms.specs.Split.{EachGains, EachGainsPrefix, EachGainsAllBut, IsSplitReadFault, SplitsInput, SplitsUntilFault, has_blank_node, is_blank_string, triple_line_after, line_if_in_part, number_if_nonempty, prefix_label, triple_of_line, triples_of_document, prefixed_line};
+ghost use Rattle.hdt_terms.specs.Split.{EachGains, EachGainsPrefix, EachGainsAllBut, IsSplitReadFault, SplitsInput};
+ghost use Rattle.hdt_terms.specs.Split.{SplitsUntilFault, has_blank_node, is_blank_string, triple_line_after};
+ghost use Rattle.hdt_terms.specs.Split.{line_if_in_part, number_if_nonempty, prefix_label, triple_of_line};
+ghost use Rattle.hdt_terms.specs.Split.{triples_of_document, prefixed_line};
 ghost use Rattle.hdt_terms.specs.Parts.{part_of_string};
-ghost use Rattle.hdt_terms.specs.declared.split.SplitFault.TheVariants.{Line as line_failed, OutOfMemory, Write as write_failed};
+ghost use Rattle.hdt_terms.specs.declared.split.SplitFault.TheVariants.{Line as line_failed, OutOfMemory};
+ghost use Rattle.hdt_terms.specs.declared.split.SplitFault.TheVariants.{Write as write_failed};
 
 use crate::fault::{LineFault, LineReason};
 use crate::label_prefix::{append_prefixed, append_with_prefix};
@@ -288,7 +293,8 @@ fn write_all_parts<W: Write>(
     requires within { length outs.old < 2 ^ 32 }
     requires len { length pending.old ≡ length outs.old }
     ensures ok { OnOk result (EachGains (map (λ out. W.contents (inner out)) outs.old)
-        (map (λ out. W.contents (inner out)) outs.new) (λ part. get_or (map (λ text. text.items) pending.old) part [])) }
+        (map (λ out. W.contents (inner out)) outs.new)
+        (λ part. get_or (map (λ text. text.items) pending.old) part [])) }
     ensures well { OnOk result (map (λ out. failures out) outs.new ≡ map (λ out. failures out) outs.old) }
     ensures err { IfErr result (λ e. (part : ℕ) × (part < length outs.old) × (e ≡ write_failed part)) }
     ensures part { OnErr result

@@ -1,8 +1,11 @@
 -- The lines of IDs with their counts, one after another.
-use Rattle.std.proofs.Common.{◌≡◌, ◌⊎◌, ◌+◌, ◌-◌, ◌^◌, ◌<◌, ◌≤◌, ℕ, zero, suc, Bool, false, List, [], ◌∷◌, ◌++◌, Option, None, Some, refl, sym, ap, subst, ◌∙◌, inl, inr, arith, length, map, take, drop, min, get_or, append_assoc, append-nil, take-append-drop, take-take}
+use Rattle.std.proofs.Common.{◌≡◌, ◌⊎◌, ◌+◌, ◌-◌, ◌^◌, ◌<◌, ◌≤◌, ℕ, zero, suc, Bool, false, List, [], ◌∷◌, ◌++◌, Option}
+use Rattle.std.proofs.Common.{None, Some, refl, sym, ap, subst, ◌∙◌, inl, inr, arith, length, map, take, drop, min}
+use Rattle.std.proofs.Common.{get_or, append_assoc, append-nil, take-append-drop, take-take}
 use Rattle.std.proofs.Math.Numerals.{add-one}
 use Rattle.std.proofs.Math.Seq.{drop-cons, get_or-append_seam, take-length}
-use Rattle.std.proofs.lemmas.List.{get_or-map, get_or-take, length-append, length-map, length-take, map-append, take-map, take_more, take_all}
+use Rattle.std.proofs.lemmas.List.{get_or-map, get_or-take, length-append, length-map, length-take, map-append}
+use Rattle.std.proofs.lemmas.List.{take-map, take_more, take_all}
 use Rattle.std.proofs.lemmas.Bool.{cases_lt}
 use Rattle.std.proofs.lemmas.List.FromFn.{get_or-map-range_with_len, length-map-range_with_len}
 use Rattle.std.proofs.lemmas.List.Sorted.{All-permutation, IsPermutation-map}
@@ -21,7 +24,8 @@ use Rattle.hdt_dict.specs.Ids.{string_at_id, AppendsString}
 use Rattle.hdt_dict.specs.Iteration.{RoleIterState, step_role_iter, step_role_iter_by, next_id}
 use Rattle.hdt_file.specs.File.{GraphParts}
 use Rattle.hdt_tool.specs.StringsText.{AreLinesOf, IsIdOfNonTerm}
-use Rattle.hdt_tool.specs.TermCounts.{AreCountedIds, AreCountLines, IsCountFault, IsCountLine, IsStringOrTerm, PrintsCounts, role_ids, use_cmp, use_count}
+use Rattle.hdt_tool.specs.TermCounts.{AreCountedIds, AreCountLines, IsCountFault, IsCountLine, IsStringOrTerm}
+use Rattle.hdt_tool.specs.TermCounts.{PrintsCounts, role_ids, use_cmp, use_count}
 use Rattle.hdt_tool.specs.Inside.FrequencyKeys.{AreFrequencyKeys, CountsFit, frequency_key, pair_cmp}
 use Rattle.hdt_tool.specs.declared.fault.ToolFault.{ToolFault}
 use Rattle.hdt_tool.specs.declared.fault.ToolFault.TheVariants.{NotATerm, OutOfMemory}

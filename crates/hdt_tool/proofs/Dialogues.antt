@@ -1,12 +1,15 @@
 -- Concatenated answers.
-use Rattle.std.proofs.Common.{◌≡◌, ℕ, Bool, true, false, cond, ◌||◌, ◌⊎◌, ◌+◌, ◌-◌, List, [], ◌∷◌, ◌++◌, length, Option, None, Some, Result, Ok, Err, refl, sym, ap, subst, ◌∙◌, inl, inr, arith, map, get_or, append_assoc, append-nil, take}
+use Rattle.std.proofs.Common.{◌≡◌, ℕ, Bool, true, false, cond, ◌||◌, ◌⊎◌, ◌+◌, ◌-◌, List, [], ◌∷◌, ◌++◌, length, Option}
+use Rattle.std.proofs.Common.{None, Some, Result, Ok, Err, refl, sym, ap, subst, ◌∙◌, inl, inr, arith, map, get_or}
+use Rattle.std.proofs.Common.{append_assoc, append-nil, take}
 use Rattle.std.proofs.Math.Bool.{or-false, or_assoc}
 use Rattle.std.proofs.Math.Seq.{take-append-add, take-append_seam}
 use Rattle.std.proofs.lemmas.Bool.{cases_lt, lt-ltb}
 use Rattle.std.proofs.lemmas.List.{length-append, length-take-le, take_all}
 use Rattle.hdt_terms.specs.Documents.{AreLines, LinesSoFar, FaultAfterLines}
 use Rattle.hdt_terms.specs.LinesReader.{LinesState, start, left, line_number}
-use Rattle.hdt_terms.specs.LinesTexts.{ReturnsNextPrefix, TakesLinePrefix, TakesText, IsNextLineError, IsUnreadLineError}
+use Rattle.hdt_terms.specs.LinesTexts.{ReturnsNextPrefix, TakesLinePrefix, TakesText, IsNextLineError}
+use Rattle.hdt_terms.specs.LinesTexts.{IsUnreadLineError}
 use Rattle.hdt_terms.specs.declared.fault.LineFault.{LineFault}
 use Rattle.hdt_terms.specs.declared.fault.LineReason.{LineReason}
 use Rattle.hdt_terms.specs.declared.fault.LineReason.TheVariants as reasons
@@ -29,7 +32,10 @@ use Rattle.hdt_tool.specs.NonTermText.{kept_format}
 use Rattle.hdt_tool.specs.TriplesText.{AppendsTriples, PrintsTriples}
 use Rattle.hdt_triples.specs.TripleSequences.{Triple}
 use Rattle.hdt_file.specs.Writable.{SkipsNonTerms}
-use Rattle.hdt_tool.specs.Dialogue.{AnswersKept, AnswersLine, AnswersLines, AnswersRequest, AnswersUntilFault, AreFirstLines, FollowsLines, StopsAfterAnswers, RequestStrings, bounded_request_in, ended, given_strings, is_count, joined_reports, max_input_bytes, plain_report, skips_in}
+use Rattle.hdt_tool.specs.Dialogue.{AnswersKept, AnswersLine, AnswersLines, AnswersRequest, AnswersUntilFault}
+use Rattle.hdt_tool.specs.Dialogue.{AreFirstLines, FollowsLines, StopsAfterAnswers, RequestStrings, bounded_request_in}
+use Rattle.hdt_tool.specs.Dialogue.{ended, given_strings, is_count, joined_reports, max_input_bytes, plain_report}
+use Rattle.hdt_tool.specs.Dialogue.{skips_in}
 
 -- Reports are joined in any order.
 abbrev made : Bool → ℕ → AnswerReport

@@ -1,10 +1,13 @@
 -- What the words of `find` give.
-use Rattle.std.proofs.Common.{◌≡◌, ◌⊎◌, ◌∙◌, ℕ, Bool, false, List, Option, None, Some, codes, refl, sym, subst, inl, inr}
+use Rattle.std.proofs.Common.{◌≡◌, ◌⊎◌, ◌∙◌, ℕ, Bool, false, List, Option, None, Some, codes, refl, sym, subst, inl}
+use Rattle.std.proofs.Common.{inr}
 use Rattle.std.specs.Prelude.{IsSome}
 use Rattle.std.specs.declared.alloc.Global.{Global}
 use Rattle.std.specs.declared.vec.Vec.{Vec}
 use Rattle.clap.specs.Words.{Row, Text, first_of, one_of}
-use Rattle.hdt_tool.specs.CommandLine.{HasInvalidTerm, IsQueryAction, IsFindAction, IsInvalidPatternTerm, ParsesAsFlag, ParsesAsFormat, ParsesAsNumberOrNone, ParsesAsPatternTerm, ParsesAsPattern, ParsesAsStringOrAny, RefutesOrInvalidTerm, SkipsIn, SkipsNothing}
+use Rattle.hdt_tool.specs.CommandLine.{HasInvalidTerm, IsQueryAction, IsFindAction, IsInvalidPatternTerm, ParsesAsFlag}
+use Rattle.hdt_tool.specs.CommandLine.{ParsesAsFormat, ParsesAsNumberOrNone, ParsesAsPatternTerm, ParsesAsPattern}
+use Rattle.hdt_tool.specs.CommandLine.{ParsesAsStringOrAny, RefutesOrInvalidTerm, SkipsIn, SkipsNothing}
 use Rattle.hdt_tool.specs.ErrorLines.{argument_name}
 use Rattle.hdt_tool.specs.TriplesText.{GivenStrings, find_format}
 use Rattle.hdt_tool.specs.declared.fault.TermArgument.{TermArgument}

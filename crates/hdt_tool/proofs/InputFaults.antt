@@ -3,15 +3,18 @@ use Rattle.std.proofs.Common.{◌≡◌, ◌≢◌, ◌⊎◌, ℕ, Bool, List, 
 use Rattle.std.specs.declared.alloc.Global.{Global}
 use Rattle.std.specs.declared.vec.Vec.{Vec}
 use Rattle.hdt_tool.specs.declared.fault.ToolFault.{ToolFault}
-use Rattle.hdt_tool.specs.declared.fault.ToolFault.TheVariants.{Input, NoTriples, NoSuchTerm, NoMatch, NoSuchNumber, NotATerm, BadOptions, Read, Write, OutOfMemory}
+use Rattle.hdt_tool.specs.declared.fault.ToolFault.TheVariants.{Input, NoTriples, NoSuchTerm, NoMatch, NoSuchNumber}
+use Rattle.hdt_tool.specs.declared.fault.ToolFault.TheVariants.{NotATerm, BadOptions, Read, Write, OutOfMemory}
 use Rattle.hdt_tool.specs.declared.request.Action.{Action}
-use Rattle.hdt_tool.specs.declared.request.Action.TheVariants.{ListStrings, Nth, Number, Find, Search, Exists, Count, Rewrite}
+use Rattle.hdt_tool.specs.declared.request.Action.TheVariants.{ListStrings, Nth, Number, Find, Search, Exists, Count}
+use Rattle.hdt_tool.specs.declared.request.Action.TheVariants.{Rewrite}
 use Rattle.hdt_tool.specs.declared.request.OutputFormat.{OutputFormat}
 use Rattle.hdt_wire.specs.declared.role.Role.{Role}
 use Rattle.hdt_dict.specs.Ids.{string_at_id}
 use Rattle.hdt_file.specs.File.{GraphParts, IsLayout}
 use Rattle.hdt_dict.specs.Dictionary.{role_strings}
-use Rattle.hdt_tool.specs.Outcomes.{HasBadBlockSize, HasNonTerm, IsFaultOfBytes, ReadsAll, IsFaultOfInput, HasBadOptions}
+use Rattle.hdt_tool.specs.Outcomes.{HasBadBlockSize, HasNonTerm, IsFaultOfBytes, ReadsAll, IsFaultOfInput}
+use Rattle.hdt_tool.specs.Outcomes.{HasBadOptions}
 use Rattle.hdt_tool.specs.ListedStrings.{IsListFault}
 use Rattle.hdt_tool.specs.TermCounts.{IsCountFault}
 use Rattle.hdt_tool.specs.TriplesText.{GivenStrings, IsFindFault, LacksMatch, find_format}

@@ -1,5 +1,7 @@
 -- The lines of the strings that begin with a prefix, one after another.
-use Rattle.std.proofs.Common.{◌≡◌, ◌↔◌, ◌⊎◌, ◌+◌, ◌-◌, ◌<◌, ◌≤◌, ℕ, zero, suc, Bool, true, List, [], ◌∷◌, ◌++◌, Option, None, Some, refl, sym, ap, subst, ◌∙◌, inl, inr, arith, length, take, drop, get_or, append_assoc, append-nil}
+use Rattle.std.proofs.Common.{◌≡◌, ◌↔◌, ◌⊎◌, ◌+◌, ◌-◌, ◌<◌, ◌≤◌, ℕ, zero, suc, Bool, true, List, [], ◌∷◌, ◌++◌, Option}
+use Rattle.std.proofs.Common.{None, Some, refl, sym, ap, subst, ◌∙◌, inl, inr, arith, length, take, drop, get_or}
+use Rattle.std.proofs.Common.{append_assoc, append-nil}
 use Rattle.std.proofs.Math.Seq.{get_or-append_right, take-length}
 use Rattle.std.proofs.Math.ListN.{get_or-append}
 use Rattle.std.proofs.lemmas.Bool.{cases_lt}
@@ -14,12 +16,14 @@ use Rattle.hdt_dict.specs.Ids.{string_at_id, AppendsString}
 use Rattle.hdt_dict.specs.Iteration.{RoleIterState, next_id}
 use Rattle.hdt_dict.specs.Prefixes.{IsInRanges, RangesAscend, SomeBeginsWith}
 use Rattle.hdt_dict.specs.declared.prefix.PrefixRanges.{PrefixRanges}
-use Rattle.hdt_tool.specs.ListedStrings.{AreAscendingIds, AreLinesOfIds, ArePrefixIds, IsLineOfId, IsLineFault, IsListedLine}
+use Rattle.hdt_tool.specs.ListedStrings.{AreAscendingIds, AreLinesOfIds, ArePrefixIds, IsLineOfId, IsLineFault}
+use Rattle.hdt_tool.specs.ListedStrings.{IsListedLine}
 use Rattle.hdt_tool.specs.StringsText.{IsFirstWithoutLine}
 use Rattle.hdt_terms.specs.Strings.{IsTermOfString}
 use Rattle.hdt_tool.specs.declared.fault.ToolFault.{ToolFault}
 use Rattle.hdt_tool.specs.declared.fault.ToolFault.TheVariants.{NotATerm, OutOfMemory}
-use Rattle.hdt_tool.proofs.CountLines.{HasReturned, Steps, appended_is, around, lines_on, none_ahead, range_split, returned_on, string_is}
+use Rattle.hdt_tool.proofs.CountLines.{HasReturned, Steps, appended_is, around, lines_on, none_ahead, range_split}
+use Rattle.hdt_tool.proofs.CountLines.{returned_on, string_is}
 
 -- ---- ranges
 

@@ -1,5 +1,6 @@
 -- The output and the new file of a run, by kind of command.
-use Rattle.std.proofs.Common.{◌≡◌, ◌≢◌, ◌+◌, ◌++◌, ◌∙◌, ℕ, Bool, List, [], Option, Result, Ok, Err, length, take, refl, sym, ap, subst}
+use Rattle.std.proofs.Common.{◌≡◌, ◌≢◌, ◌+◌, ◌++◌, ◌∙◌, ℕ, Bool, List, [], Option, Result, Ok, Err, length, take, refl}
+use Rattle.std.proofs.Common.{sym, ap, subst}
 use Rattle.std.specs.Prelude.{IfErr, IsErrOf, OnErr, OnOk}
 use Rattle.std.specs.Io.KnownBytes.{Appends}
 use Rattle.std.proofs.lemmas.List.{append-nil, take_at}
@@ -12,7 +13,9 @@ use Rattle.hdt_tool.specs.declared.fault.ToolFault.{ToolFault}
 use Rattle.hdt_tool.specs.declared.fault.ToolFault.TheVariants.{BadOptions, Read, Write}
 use Rattle.hdt_tool.specs.declared.request.Action.{Action}
 use Rattle.hdt_tool.specs.declared.request.Action.TheVariants.{Build, Rewrite, SkipNonTerms, Strings, VerifyTerms}
-use Rattle.hdt_tool.specs.Outcomes.{Completes, FailsAfter, IfBuild, IsFaultOfInput, IsReadOnly, Prints, PrintsCountingNonTerms, PrintsText, PrintsWithCount, ReadsAll, ReadsWith, RewritesFile, WritesOutputPrefix, Yields, YieldsAppended}
+use Rattle.hdt_tool.specs.Outcomes.{Completes, FailsAfter, IfBuild, IsFaultOfInput, IsReadOnly, Prints}
+use Rattle.hdt_tool.specs.Outcomes.{PrintsCountingNonTerms, PrintsText, PrintsWithCount, ReadsAll, ReadsWith}
+use Rattle.hdt_tool.specs.Outcomes.{RewritesFile, WritesOutputPrefix, Yields, YieldsAppended}
 use Rattle.hdt_tool.specs.TriplesText.{GivenStrings}
 use Rattle.hdt_tool.specs.Faults.{build_fault_of, fault_of_reason}
 

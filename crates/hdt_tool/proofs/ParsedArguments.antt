@@ -1,5 +1,6 @@
 -- What valid arguments give, and which usage errors are possible if they are not valid.
-use Rattle.std.proofs.Common.{◌≡◌, ℕ, Bool, true, false, List, Option, Some, codes, refl, sym, ap, subst, inl, inr, ◌⊎◌, ⊎_elim, ◌∙◌}
+use Rattle.std.proofs.Common.{◌≡◌, ℕ, Bool, true, false, List, Option, Some, codes, refl, sym, ap, subst, inl, inr, ◌⊎◌}
+use Rattle.std.proofs.Common.{⊎_elim, ◌∙◌}
 use Rattle.std.specs.Prelude.{◌≢◌, IsSome, IsSomeAnd}
 use Rattle.std.specs.Str.{bytes_eq}
 use Rattle.std.proofs.lemmas.Slice.Eq.{bytes_eq-Decides}
@@ -15,7 +16,10 @@ use Rattle.hdt_tool.specs.declared.request.Action.{Action}
 use Rattle.hdt_tool.specs.declared.request.Request.{Request}
 use Rattle.hdt_tool.specs.declared.request.Action.TheVariants as action
 use Rattle.hdt_tool.specs.declared.request.SplitOptions.{SplitOptions}
-use Rattle.hdt_tool.specs.CommandLine.{IsQueryAction, ParsesAsSplitOptions, IsRequestOf, IsQueryRequest, IsOutputRequest, IsOutputAction, Refutes, RefutesOrInvalidTerm, IsFaultOfArgument, IsInvalidTerm, IsInvalidPatternTerm, IsUsed, HasInvalidTerm, ParsesAsBuildOptions, IsFaultOfTerm}
+use Rattle.hdt_tool.specs.CommandLine.{IsQueryAction, ParsesAsSplitOptions, IsRequestOf, IsQueryRequest}
+use Rattle.hdt_tool.specs.CommandLine.{IsOutputRequest, IsOutputAction, Refutes, RefutesOrInvalidTerm}
+use Rattle.hdt_tool.specs.CommandLine.{IsFaultOfArgument, IsInvalidTerm, IsInvalidPatternTerm, IsUsed, HasInvalidTerm}
+use Rattle.hdt_tool.specs.CommandLine.{ParsesAsBuildOptions, IsFaultOfTerm}
 use Rattle.hdt_tool.specs.ErrorLines.{argument_name}
 
 some_is : (a b : Text) → Some a ≡ Some b → a ≡ b

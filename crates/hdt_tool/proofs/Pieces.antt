@@ -1,5 +1,6 @@
 -- Writing a text in pieces: its first n bytes have been written, and the buffer holds the next ones.
-use Rattle.std.proofs.Common.{◌≡◌, ◌≤◌, ◌+◌, ◌++◌, ◌∙◌, ◌⊎◌, ◌≢◌, ℕ, List, [], Option, length, take, drop, refl, sym, ap, subst, arith, append_assoc, take-append-drop, inl, inr}
+use Rattle.std.proofs.Common.{◌≡◌, ◌≤◌, ◌+◌, ◌++◌, ◌∙◌, ◌⊎◌, ◌≢◌, ℕ, List, [], Option, length, take, drop, refl, sym}
+use Rattle.std.proofs.Common.{ap, subst, arith, append_assoc, take-append-drop, inl, inr}
 use Rattle.std.specs.Io.KnownBytes.{Appends}
 use Rattle.std.proofs.lemmas.List.{length-drop, length-append, take_at, drop_at, drop-drop, take-append-le}
 use Rattle.std.proofs.Math.Seq.{take-add}
@@ -10,7 +11,9 @@ use Rattle.hdt_tool.specs.declared.request.Action.TheVariants.{Strings}
 use Rattle.hdt_wire.specs.declared.role.Role.{Role}
 use Rattle.hdt_file.specs.File.{GraphParts, IsLayout}
 use Rattle.hdt_dict.specs.Dictionary.{role_strings}
-use Rattle.hdt_tool.specs.Outcomes.{AppendsPrefix, WritesOutputPrefix, HasRoleStringsWith, FailsAfter, InterruptsStrings, IsCutShort, IsFaultOfBytes, IsFaultOfInput, Prints, ReadsAll, ReadsWith}
+use Rattle.hdt_tool.specs.Outcomes.{AppendsPrefix, WritesOutputPrefix, HasRoleStringsWith, FailsAfter}
+use Rattle.hdt_tool.specs.Outcomes.{InterruptsStrings, IsCutShort, IsFaultOfBytes, IsFaultOfInput, Prints, ReadsAll}
+use Rattle.hdt_tool.specs.Outcomes.{ReadsWith}
 use Rattle.hdt_tool.specs.StringsText.{string_lines}
 use Rattle.hdt_tool.proofs.InputFaults.{fault_of_input, not_write}
 

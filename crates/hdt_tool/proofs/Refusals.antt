@@ -1,7 +1,10 @@
 -- Usage errors, derived from the contracts of `clap`.
-use Rattle.std.proofs.Common.{◌≡◌, List, [], ◌∷◌, true, Option, Some, Result, Ok, Err, codes, refl, sym, subst, string_bytes, inl, inr}
+use Rattle.std.proofs.Common.{◌≡◌, List, [], ◌∷◌, true, Option, Some, Result, Ok, Err, codes, refl, sym, subst}
+use Rattle.std.proofs.Common.{string_bytes, inl, inr}
 use Rattle.std.specs.Prelude.{◌≢◌, IfOk, IfErr, IsSomeAnd}
-use Rattle.clap.specs.Words.{App, Row, Text, HasKind, HasMatchesOf, IsAmong, fault_of, found_of, is_simple, is_simple_and_free, kind_of, matches_of, one_of, rows_of, subcommand_of, subcommand_rows_of}
+use Rattle.clap.specs.Words.{App, Row, Text, HasKind, HasMatchesOf, IsAmong, fault_of, found_of, is_simple}
+use Rattle.clap.specs.Words.{is_simple_and_free, kind_of, matches_of, one_of, rows_of, subcommand_of}
+use Rattle.clap.specs.Words.{subcommand_rows_of}
 use Rattle.clap.specs.declared.parser.matches.ArgMatches.{ArgMatches}
 use Rattle.clap.specs.declared.error.Error.{Error}
 use Rattle.clap.specs.declared.error.kind.ErrorKind.{ErrorKind}
@@ -13,7 +16,10 @@ use Rattle.hdt_tool.specs.declared.request.Action.TheVariants as action
 use Rattle.hdt_tool.specs.declared.request.Invocation.{Invocation}
 use Rattle.hdt_tool.specs.declared.request.Request.{Request}
 use Rattle.hdt_usage.specs.CommandTable.{Names, AreRoles, table}
-use Rattle.hdt_tool.specs.CommandLine.{IsRequestOfCommand, IsRequestOf, IsQueryAction, IsOutputAction, HasInvalidTerm, HasInvalidTermIn, ParsesAsFlag, ParsesAsProgress, ParsesToRequest, ParsesToInvocation, IsExplainCommand, IsExplanation, IsFaultOfCommand, IsRefused, IsRefusedWithRoles, IsFaultOfKind, RefutesOrInvalidTerm, clap_errors}
+use Rattle.hdt_tool.specs.CommandLine.{IsRequestOfCommand, IsRequestOf, IsQueryAction, IsOutputAction, HasInvalidTerm}
+use Rattle.hdt_tool.specs.CommandLine.{HasInvalidTermIn, ParsesAsFlag, ParsesAsProgress, ParsesToRequest}
+use Rattle.hdt_tool.specs.CommandLine.{ParsesToInvocation, IsExplainCommand, IsExplanation, IsFaultOfCommand, IsRefused}
+use Rattle.hdt_tool.specs.CommandLine.{IsRefusedWithRoles, IsFaultOfKind, RefutesOrInvalidTerm, clap_errors}
 use Rattle.hdt_tool.proofs.ParsedArguments.{differ}
 
 -- The errors of `clap` for the built commands are those for the table.

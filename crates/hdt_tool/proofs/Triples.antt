@@ -1,5 +1,6 @@
 -- The strings of a search, and the ID lines of triples.
-use Rattle.std.proofs.Common.{◌≡◌, ◌≢◌, ◌≤◌, ℕ, List, [], ◌∷◌, ◌++◌, Option, None, Some, length, map, refl, sym, ap, ◌∙◌, append_assoc, arith, get_or, take}
+use Rattle.std.proofs.Common.{◌≡◌, ◌≢◌, ◌≤◌, ℕ, List, [], ◌∷◌, ◌++◌, Option, None, Some, length, map, refl, sym, ap}
+use Rattle.std.proofs.Common.{◌∙◌, append_assoc, arith, get_or, take}
 use Rattle.std.specs.Prelude.{IsSomeAnd, MatchOption, option_map, vec_len}
 use Rattle.std.specs.declared.alloc.Global.{Global}
 use Rattle.std.specs.declared.vec.Vec.{Vec}

@@ -1,11 +1,14 @@
 //! The answer to one line of requests.
-ghost use Rattle.std.specs.Prelude.{◌≡◌, ◌++◌, ℕ, List, Option, None, Some, true, option_map, if◌then◌else◌, IfOk, IfSome, OnErr};
+ghost use Rattle.std.specs.Prelude.{◌≡◌, ◌++◌, ℕ, List, Option, None, Some, true, option_map, if◌then◌else◌, IfOk};
+ghost use Rattle.std.specs.Prelude.{IfSome, OnErr};
 ghost use Rattle.hdt_file.specs.CachedTerms.{CachesTerms};
 ghost use Rattle.hdt_file.specs.File.{GraphParts};
 ghost use Rattle.hdt_file.specs.Graph.{graph_view};
 ghost use Rattle.hdt_file.specs.TermFlags.{AreTermFlags};
 ghost use Rattle.hdt_file.specs.TextWriting.{matches_if_given, limited};
-ghost use Rattle.hdt_tool.specs.Dialogue.{AnswersFound, AnswersKept, AnswersLine, AnswersMatches, AreFlagsIfSkipping, ReadsRequest, bounded_request_in, ended, fault_comment, given_strings, is_count, joined_reports, non_term_comment, plain_report, skips_in};
+ghost use Rattle.hdt_tool.specs.Dialogue.{AnswersFound, AnswersKept, AnswersLine, AnswersMatches, AreFlagsIfSkipping};
+ghost use Rattle.hdt_tool.specs.Dialogue.{ReadsRequest, bounded_request_in, ended, fault_comment, given_strings};
+ghost use Rattle.hdt_tool.specs.Dialogue.{is_count, joined_reports, non_term_comment, plain_report, skips_in};
 ghost use Rattle.hdt_tool.specs.TriplesText.{FindsStrings};
 ghost use Rattle.hdt_tool.specs.declared.request.AnswerReport.{AnswerReport};
 

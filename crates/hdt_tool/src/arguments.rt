@@ -1,9 +1,14 @@
 //! Reading the arguments that `clap` has parsed.
-ghost use Rattle.std.specs.Prelude.{◌≡◌, ◌≢◌, ℕ, false, IfOk, IfErr, IsSome, MatchOption, None, Some, codes, option_map, string_bytes};
+ghost use Rattle.std.specs.Prelude.{◌≡◌, ◌≢◌, ℕ, false, IfOk, IfErr, IsSome, MatchOption, None, Some, codes};
+ghost use Rattle.std.specs.Prelude.{option_map, string_bytes};
 ghost use Rattle.clap.specs.Words.{first_of, one_of, found_of, rows_of};
 ghost use Rattle.hdt_build.specs.declared.options.Options.{Options};
 ghost use Rattle.hdt_wire.specs.declared.role.Role.{Role};
-ghost use Rattle.hdt_tool.specs.CommandLine.{IsQueryAction, Refutes, RefutesOrInvalidTerm, IsFaultOfArgument, IsInvalidTerm, IsInvalidPatternTerm, IsStringOfText, IsFindAction, HasInvalidTerm, ParsesAsFlag, ParsesAsFormat, ParsesAsProgress, ParsesAsNumber, ParsesAsNumberOrNone, ParsesAsBuildOptions, ParsesAsString, ParsesAsPatternTerm, IsFaultOfTerm, ParsesAsPrefix};
+ghost use Rattle.hdt_tool.specs.CommandLine.{IsQueryAction, Refutes, RefutesOrInvalidTerm, IsFaultOfArgument};
+ghost use Rattle.hdt_tool.specs.CommandLine.{IsInvalidTerm, IsInvalidPatternTerm, IsStringOfText, IsFindAction};
+ghost use Rattle.hdt_tool.specs.CommandLine.{HasInvalidTerm, ParsesAsFlag, ParsesAsFormat, ParsesAsProgress};
+ghost use Rattle.hdt_tool.specs.CommandLine.{ParsesAsNumber, ParsesAsNumberOrNone, ParsesAsBuildOptions};
+ghost use Rattle.hdt_tool.specs.CommandLine.{ParsesAsString, ParsesAsPatternTerm, IsFaultOfTerm, ParsesAsPrefix};
 ghost use Rattle.hdt_tool.specs.ErrorLines.{argument_name};
 ghost use Rattle.hdt_usage.specs.CommandTable.{role_name};
 

@@ -2,7 +2,10 @@
 ghost use Rattle.std.specs.Prelude.{IfOk, IfErr, codes, map};
 ghost use Rattle.clap.specs.Words.{found_of, one_of, rows_of, kind_of};
 ghost use Rattle.hdt_tool.specs.Outcomes.{HasOut};
-ghost use Rattle.hdt_tool.specs.CommandLine.{IsQueryAction, IsRequestOf, IsQueryRequest, IsOutputRequest, IsOutputAction, Refutes, RefutesOrInvalidTerm, IsRefused, HasInvalidTerm, IsExplanation, IsFaultOfCommand, ParsesAsFlag, ParsesAsProgress, IsFaultOfKind, ParsesToRequest, ParsesToInvocation};
+ghost use Rattle.hdt_tool.specs.CommandLine.{IsQueryAction, IsRequestOf, IsQueryRequest, IsOutputRequest};
+ghost use Rattle.hdt_tool.specs.CommandLine.{IsOutputAction, Refutes, RefutesOrInvalidTerm, IsRefused, HasInvalidTerm};
+ghost use Rattle.hdt_tool.specs.CommandLine.{IsExplanation, IsFaultOfCommand, ParsesAsFlag, ParsesAsProgress};
+ghost use Rattle.hdt_tool.specs.CommandLine.{IsFaultOfKind, ParsesToRequest, ParsesToInvocation};
 ghost use Rattle.hdt_usage.specs.CommandTable.{AreRoles};
 ghost use Rattle.hdt_tool.specs.declared.request.Action.{Action};
 ghost use Rattle.hdt_tool.specs.declared.request.Request.{Request};

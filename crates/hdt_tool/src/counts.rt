@@ -6,7 +6,8 @@ ghost use Rattle.hdt_file.specs.Graph.{graph_view};
 ghost use Rattle.hdt_terms.specs.Strings.{IsTermOfString};
 ghost use Rattle.hdt_tool.specs.Inside.FrequencyKeys.{AreFrequencyKeys};
 ghost use Rattle.hdt_tool.specs.StringsText.{IsIdOfNonTerm};
-ghost use Rattle.hdt_tool.specs.TermCounts.{IsCountFault, IsCountLine, IsStringOrTerm, PrintsCounts, role_pattern, use_count};
+ghost use Rattle.hdt_tool.specs.TermCounts.{IsCountFault, IsCountLine, IsStringOrTerm, PrintsCounts, role_pattern};
+ghost use Rattle.hdt_tool.specs.TermCounts.{use_count};
 
 use crate::fault::ToolFault;
 use crate::printed_reports::put_escaped;

@@ -1,5 +1,6 @@
 //! The requests of `answer`, served one by one over an open graph.
-ghost use Rattle.std.specs.Prelude.{◌≡◌, ◌≢◌, ◌+◌, ◌<◌, ◌∷◌, [], ◌++◌, ℕ, List, Option, None, Ok, true, false, IfOk, IfErr, OnOk, IsErrOf, take};
+ghost use Rattle.std.specs.Prelude.{◌≡◌, ◌≢◌, ◌+◌, ◌<◌, ◌∷◌, [], ◌++◌, ℕ, List, Option, None, Ok, true, false, IfOk};
+ghost use Rattle.std.specs.Prelude.{IfErr, OnOk, IsErrOf, take};
 ghost use Rattle.hdt_wire.specs.Counted.{inner, failures};
 ghost use Rattle.hdt_terms.specs.Documents.{AreLines, FaultAfterLines};
 ghost use Rattle.hdt_terms.specs.LinesReader.{HasBufferedLine, left, line_number};

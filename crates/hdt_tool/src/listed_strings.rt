@@ -4,7 +4,8 @@ ghost use Rattle.std.specs.List.{range_with_len};
 ghost use Rattle.hdt_terms.specs.Strings.{IsTermOfString};
 ghost use Rattle.hdt_dict.specs.Dictionary.{role_strings};
 ghost use Rattle.hdt_file.specs.Graph.{layout_view};
-ghost use Rattle.hdt_tool.specs.ListedStrings.{AreAscendingIds, AreLinesOfIds, ArePrefixIds, IsLineFault, IsListedLine, IsListFault, PrintsListed};
+ghost use Rattle.hdt_tool.specs.ListedStrings.{AreAscendingIds, AreLinesOfIds, ArePrefixIds, IsLineFault, IsListedLine};
+ghost use Rattle.hdt_tool.specs.ListedStrings.{IsListFault, PrintsListed};
 
 use crate::counts::put_string_or_term;
 use crate::fault::ToolFault;

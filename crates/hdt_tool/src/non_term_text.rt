@@ -6,7 +6,8 @@ ghost use Rattle.hdt_file.specs.File.{GraphParts};
 ghost use Rattle.hdt_file.specs.Graph.{layout_view};
 ghost use Rattle.hdt_file.specs.Tight.{IsTightLayout};
 ghost use Rattle.hdt_tool.specs.Outcomes.{CountsNonTerms, IsFaultOfBytes, PrintsCountingNonTerms};
-ghost use Rattle.hdt_tool.specs.NonTermText.{PrintsKept, PrintsTermVerdict, kept_format, non_term_line, term_verdict_lines};
+ghost use Rattle.hdt_tool.specs.NonTermText.{PrintsKept, PrintsTermVerdict, kept_format, non_term_line};
+ghost use Rattle.hdt_tool.specs.NonTermText.{term_verdict_lines};
 ghost use Rattle.hdt_tool.specs.declared.request.Action.TheVariants as Action;
 
 use crate::error_lines::role_name;

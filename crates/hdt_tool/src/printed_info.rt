@@ -1,6 +1,8 @@
 //! The output of `info`.
 ghost use Rattle.std.specs.Prelude.{◌≡◌, ◌++◌, ◌%◌, ◌/◌, ◌*◌, IfOk, OnOk};
-ghost use Rattle.hdt_tool.specs.InfoText.{name_text, value_end, number_text, mean, mean_text, flag_text, sizes_text, strings_text, section_text, sections_text, widths_text, flags_text, opening, closing, info_text};
+ghost use Rattle.hdt_tool.specs.InfoText.{name_text, value_end, number_text, mean, mean_text, flag_text, sizes_text};
+ghost use Rattle.hdt_tool.specs.InfoText.{strings_text, section_text, sections_text, widths_text, flags_text, opening};
+ghost use Rattle.hdt_tool.specs.InfoText.{closing, info_text};
 
 use hdt_file::{DictionaryInfo, EntryBits, FileInfo, SectionInfo};
 use hdt_wire::put_decimal;

@@ -2,7 +2,8 @@
 ghost use Rattle.std.specs.Prelude.{◌≡◌, ◌<◌, ◌≤◌, ◌++◌, ◌∷◌, ℕ, [], OnOk, IfOk, length, slice_index};
 ghost use Rattle.hdt_wire.specs.Control.{control_view};
 ghost use Rattle.hdt_file.specs.Head.{head_parts};
-ghost use Rattle.hdt_tool.specs.PrintedReports.{labelled_line, block_lines, head_text, escaped_byte, escaped, verdict, counts_line};
+ghost use Rattle.hdt_tool.specs.PrintedReports.{labelled_line, block_lines, head_text, escaped_byte, escaped, verdict};
+ghost use Rattle.hdt_tool.specs.PrintedReports.{counts_line};
 
 use hdt_build::Report;
 use hdt_file::Head;

@@ -7,7 +7,8 @@ ghost use Rattle.hdt_file.specs.Writable.{AreWritableTriples};
 ghost use Rattle.hdt_file.specs.Graph.{layout_view, graph_view};
 ghost use Rattle.hdt_triples.specs.Remaining.{remaining_matches};
 ghost use Rattle.hdt_tool.specs.NonTermText.{kept_format};
-ghost use Rattle.hdt_tool.specs.TriplesText.{AppendsTriples, Finds, HasMatch, LacksMatch, PrintsFound, IsFindFault, PrintsTriples, IsTextFault, numbers_line, numbers_lines};
+ghost use Rattle.hdt_tool.specs.TriplesText.{AppendsTriples, Finds, HasMatch, LacksMatch, PrintsFound, IsFindFault};
+ghost use Rattle.hdt_tool.specs.TriplesText.{PrintsTriples, IsTextFault, numbers_line, numbers_lines};
 
 use crate::fault::ToolFault;
 use crate::printed_strings::number_line;

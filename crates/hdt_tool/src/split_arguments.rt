@@ -1,7 +1,8 @@
 //! Reading the arguments of `split`.
 ghost use Rattle.std.specs.Prelude.{◌≡◌, ℕ, Option, None, Some, IfOk, IfErr, MatchOption, codes, map, string_bytes};
 ghost use Rattle.clap.specs.Words.{first_of, found_of, rows_of};
-ghost use Rattle.hdt_tool.specs.CommandLine.{IsDecimalOf, IsQueryAction, IsPartOfParts, ParsesAsSplitOptions, ParsesAsBlankNodes, ParsesAsPartCount, Refutes, further_paths};
+ghost use Rattle.hdt_tool.specs.CommandLine.{IsDecimalOf, IsQueryAction, IsPartOfParts, ParsesAsSplitOptions};
+ghost use Rattle.hdt_tool.specs.CommandLine.{ParsesAsBlankNodes, ParsesAsPartCount, Refutes, further_paths};
 ghost use Rattle.hdt_tool.specs.declared.request.Action.{Action};
 ghost use Rattle.hdt_tool.specs.declared.request.BlankNodes.{BlankNodes};
 ghost use Rattle.hdt_tool.specs.declared.request.SplitOptions.{SplitOptions};

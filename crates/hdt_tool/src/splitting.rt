@@ -2,7 +2,8 @@
 ghost use Rattle.std.specs.Prelude.{◌≡◌, ◌<◌, ◌^◌, None, IfOk, IfErr, OnOk, length, map, true};
 ghost use Rattle.hdt_wire.specs.Counted.{inner, failures};
 ghost use Rattle.hdt_terms.specs.Split.{SplitsInput};
-ghost use Rattle.hdt_tool.specs.SplitInputs.{IsBlankNodesFault, SplitsInTurn, IsFaultOfInputAt, StopsInTurn, MixesBlankNodes, first_with_blank_nodes, input_prefix};
+ghost use Rattle.hdt_tool.specs.SplitInputs.{IsBlankNodesFault, SplitsInTurn, IsFaultOfInputAt, StopsInTurn};
+ghost use Rattle.hdt_tool.specs.SplitInputs.{MixesBlankNodes, first_with_blank_nodes, input_prefix};
 ghost use Rattle.hdt_tool.specs.declared.splitting.SplitInputsFault.TheVariants as SplitInputsFault;
 
 use crate::request::BlankNodes;

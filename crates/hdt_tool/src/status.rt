@@ -9,11 +9,13 @@
 //! | 2 | `split`: two inputs have blank nodes, and --blank-nodes is missing |
 //! | 3 | reading or writing failed |
 //! | 4 | out of memory |
-ghost use Rattle.std.specs.Prelude.{◌≡◌, ◌≢◌, ◌⊎◌, ◌+◌, ℕ, true, false, Ok, Err, Some, IfOk, IfErr, MatchResult, map, string_bytes, ◌≤◌};
+ghost use Rattle.std.specs.Prelude.{◌≡◌, ◌≢◌, ◌⊎◌, ◌+◌, ℕ, true, false, Ok, Err, Some, IfOk, IfErr, MatchResult, map};
+ghost use Rattle.std.specs.Prelude.{string_bytes, ◌≤◌};
 ghost use Rattle.std.specs.IoError.{error_kind};
 ghost use Rattle.std.specs.Vec.Iter.{into_iter_items};
 ghost use Rattle.hdt_wire.specs.Counted.{inner, failures};
-ghost use Rattle.hdt_tool.specs.Outcomes.{HasInputFault, HasOut, InterruptsStrings, IsReadOnly, WritesAndCounts, WritesOutputPrefix, WritesWithCount};
+ghost use Rattle.hdt_tool.specs.Outcomes.{HasInputFault, HasOut, InterruptsStrings, IsReadOnly, WritesAndCounts};
+ghost use Rattle.hdt_tool.specs.Outcomes.{WritesOutputPrefix, WritesWithCount};
 ghost use Rattle.hdt_tool.specs.CommandLine.{IsRefused, IsUsageText, ParsesToInvocation};
 ghost use Rattle.hdt_tool.specs.Dialogue.{AnswersOverFile, AnswersOverFileUntilFault, plain_report};
 ghost use Rattle.hdt_tool.specs.declared.request.AnswerReport.{AnswerReport};

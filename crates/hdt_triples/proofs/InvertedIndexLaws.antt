@@ -1,5 +1,7 @@
 -- The list of one key in an inverted index.
-use Rattle.std.proofs.Common.{◌≡◌, ◌≢◌, ◌⊎◌, inl, inr, ℕ, ◌+◌, ◌-◌, ◌<◌, ◌≤◌, ◌==◌, zero, suc, List, [], ◌∷◌, length, drop, slice_index, filter, refl, ap, sym, ◌∙◌, arith, Bool, true, false, cond, subst, eq-or-lt_of_le}
+use Rattle.std.proofs.Common.{◌≡◌, ◌≢◌, ◌⊎◌, inl, inr, ℕ, ◌+◌, ◌-◌, ◌<◌, ◌≤◌, ◌==◌, zero, suc, List, [], ◌∷◌, length}
+use Rattle.std.proofs.Common.{drop, slice_index, filter, refl, ap, sym, ◌∙◌, arith, Bool, true, false, cond, subst}
+use Rattle.std.proofs.Common.{eq-or-lt_of_le}
 use Rattle.std.proofs.lemmas.Bool.{ne_eqb, cases_lt, eqb-true, eqb-false}
 use Rattle.std.proofs.lemmas.List.{drop_more}
 use Rattle.std.specs.List.{All, range_with_len, slice_range}

@@ -1,5 +1,6 @@
 -- Counting matches.
-use Rattle.std.proofs.Common.{◌≡◌, ℕ, ◌+◌, ◌-◌, ◌*◌, ◌<◌, ◌≤◌, ◌==◌, zero, suc, List, [], ◌∷◌, length, map, min, drop, slice_get, ap, sym, ◌∙◌, arith, Bool, true, false, Some, None, slice_index, eq-eqb, refl}
+use Rattle.std.proofs.Common.{◌≡◌, ℕ, ◌+◌, ◌-◌, ◌*◌, ◌<◌, ◌≤◌, ◌==◌, zero, suc, List, [], ◌∷◌, length, map, min, drop}
+use Rattle.std.proofs.Common.{slice_get, ap, sym, ◌∙◌, arith, Bool, true, false, Some, None, slice_index, eq-eqb, refl}
 use Rattle.std.proofs.Math.Nat.{mul-le-mul_left}
 use Rattle.std.specs.Int.{from_bool}
 use Rattle.std.proofs.lemmas.List.{length-map}
@@ -9,7 +10,8 @@ use Rattle.hdt_seq.specs.Directory.{groups}
 use Rattle.hdt_seq.specs.Width.{digits}
 use Rattle.hdt_seq.specs.Laws.RankSelect.{ones_before_after_1_bit, ones_before_mono}
 use Rattle.hdt_triples.specs.declared.pattern.Pattern.{Pattern}
-use Rattle.hdt_triples.specs.TripleSequences.{BitmapTriples, AreConsistentSequences, Triple, triple_at, triples_of, subject_at, pair_of}
+use Rattle.hdt_triples.specs.TripleSequences.{BitmapTriples, AreConsistentSequences, Triple, triple_at, triples_of}
+use Rattle.hdt_triples.specs.TripleSequences.{subject_at, pair_of}
 use Rattle.hdt_triples.specs.Patterns.{agrees, admits, matches}
 use Rattle.hdt_triples.specs.Scanning.{triples_from}
 use Rattle.hdt_triples.specs.Bounds.{of_subject, of_predicate, of_object}
@@ -19,7 +21,8 @@ use Rattle.hdt_triples.specs.Inside.PredicateCursors.{IsBeforePair}
 use Rattle.hdt_triples.specs.Laws.Order.{pair_within}
 use Rattle.hdt_triples.proofs.PositionListLaws.{held_at, matches_mapped, part_count}
 use Rattle.hdt_triples.proofs.ScanLaws.{matches_taken, matches_passed, none_left, not_less, skipped}
-use Rattle.hdt_triples.proofs.PatternLaws.{admitted, has_subject, other_subject, own_predicate, own_subject, agrees_by_parts}
+use Rattle.hdt_triples.proofs.PatternLaws.{admitted, has_subject, other_subject, own_predicate, own_subject}
+use Rattle.hdt_triples.proofs.PatternLaws.{agrees_by_parts}
 use Rattle.hdt_triples.proofs.PredicateLaws.{Begins, predicate_entered, next_of}
 use Rattle.hdt_triples.proofs.ObjectLaws.{among_first, object_law, object_step, object_triples}
 

@@ -1,5 +1,6 @@
 -- The triples of an object.
-use Rattle.std.proofs.Common.{◌≡◌, ℕ, ◌+◌, ◌-◌, ◌<◌, ◌≤◌, ◌==◌, List, [], ◌∷◌, length, map, min, filter, drop, refl, ap, sym, ◌∙◌, arith, Bool, true, false, cond, Some, slice_index, subst, eq-eqb}
+use Rattle.std.proofs.Common.{◌≡◌, ℕ, ◌+◌, ◌-◌, ◌<◌, ◌≤◌, ◌==◌, List, [], ◌∷◌, length, map, min, filter, drop, refl, ap}
+use Rattle.std.proofs.Common.{sym, ◌∙◌, arith, Bool, true, false, cond, Some, slice_index, subst, eq-eqb}
 use Rattle.std.proofs.lemmas.Bool.{eqb-true, eqb-false}
 use Rattle.std.proofs.lemmas.List.{nil_from_length, drop-map, drop_min, length-drop}
 use Rattle.std.proofs.lemmas.List.Elements.{filter_passes, All-drop, All-filter, All-from_get_or, All-rest}

@@ -1,5 +1,7 @@
 -- Counting in an ascending list of positions.
-use Rattle.std.proofs.Common.{◌≡◌, ◌⊎◌, inl, inr, ◌∙◌, ℕ, ◌+◌, ◌-◌, ◌<◌, ◌≤◌, ◌==◌, zero, suc, List, [], ◌∷◌, length, filter, map, slice_index, refl, ap, sym, subst, arith, Bool, true, false, cond, eq-eqb, eq-or-lt_of_le}
+use Rattle.std.proofs.Common.{◌≡◌, ◌⊎◌, inl, inr, ◌∙◌, ℕ, ◌+◌, ◌-◌, ◌<◌, ◌≤◌, ◌==◌, zero, suc, List, [], ◌∷◌, length}
+use Rattle.std.proofs.Common.{filter, map, slice_index, refl, ap, sym, subst, arith, Bool, true, false, cond, eq-eqb}
+use Rattle.std.proofs.Common.{eq-or-lt_of_le}
 use Rattle.std.proofs.lemmas.Bool.{cases_lt}
 use Rattle.std.specs.List.{range_with_len}
 use Rattle.std.specs.List.Sorted.{IsStrictlyIncreasing}

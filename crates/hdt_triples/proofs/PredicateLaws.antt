@@ -1,5 +1,6 @@
 -- The triples of a predicate, pair by pair.
-use Rattle.std.proofs.Common.{◌≡◌, ℕ, ◌+◌, ◌*◌, ◌<◌, ◌≤◌, suc, List, [], ◌∷◌, length, refl, ap, sym, ◌∙◌, arith, Bool, true, false, not, Some, slice_index, slice_get}
+use Rattle.std.proofs.Common.{◌≡◌, ℕ, ◌+◌, ◌*◌, ◌<◌, ◌≤◌, suc, List, [], ◌∷◌, length, refl, ap, sym, ◌∙◌, arith, Bool}
+use Rattle.std.proofs.Common.{true, false, not, Some, slice_index, slice_get}
 use Rattle.hdt_seq.specs.Width.{digits}
 use Rattle.hdt_seq.specs.Directory.{groups}
 use Rattle.hdt_seq.specs.RankSelect.{ones_before}
@@ -10,7 +11,8 @@ use Rattle.hdt_triples.specs.Bounds.{of_predicate, predicate_cost, IsWithinBudge
 use Rattle.hdt_triples.specs.InvertedIndex.{positions_of, positions_from}
 use Rattle.hdt_triples.specs.Inside.PredicateCursors.{IsBeforePair, IsWithinPair, IsPredicateCursor}
 use Rattle.hdt_triples.specs.declared.predicate_cursor.PredicateCursor.{PredicateCursor}
-use Rattle.hdt_seq.specs.Laws.RankSelect.{ones_before_mono, ones_before_after_1_bit, ones_before_after_0_bit, ones_before_at_0}
+use Rattle.hdt_seq.specs.Laws.RankSelect.{ones_before_mono, ones_before_after_1_bit, ones_before_after_0_bit}
+use Rattle.hdt_seq.specs.Laws.RankSelect.{ones_before_at_0}
 use Rattle.hdt_triples.specs.Laws.Order.{pair_within}
 use Rattle.hdt_triples.proofs.ScanLaws.{from_start, jumped, matches_taken, none_left, not_less, parts_are}
 use Rattle.hdt_triples.proofs.PatternLaws.{other_predicate, own_predicate}

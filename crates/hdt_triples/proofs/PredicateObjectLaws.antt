@@ -1,14 +1,17 @@
 -- The search for an object in each pair of a predicate.
-use Rattle.std.proofs.Common.{◌≡◌, ◌≢◌, ◌⊎◌, inl, inr, ℕ, ◌+◌, ◌*◌, ◌<◌, ◌≤◌, List, [], ◌∷◌, length, slice_index, ap, sym, ◌∙◌, arith, true, false, Some, None}
+use Rattle.std.proofs.Common.{◌≡◌, ◌≢◌, ◌⊎◌, inl, inr, ℕ, ◌+◌, ◌*◌, ◌<◌, ◌≤◌, List, [], ◌∷◌, length, slice_index, ap}
+use Rattle.std.proofs.Common.{sym, ◌∙◌, arith, true, false, Some, None}
 use Rattle.std.proofs.lemmas.Bool.{cases_lt}
 use Rattle.hdt_seq.specs.Directory.{groups}
 use Rattle.hdt_seq.specs.Width.{digits}
 use Rattle.hdt_seq.specs.Laws.RankSelect.{ones_before_mono}
 use Rattle.hdt_triples.specs.declared.matches.Matches.{Matches}
-use Rattle.hdt_triples.specs.declared.matches.Matches.TheVariants.{Empty, Scan, Subject, SubjectObject, Pair, Predicate, PredicateObject, Object}
+use Rattle.hdt_triples.specs.declared.matches.Matches.TheVariants.{Empty, Scan, Subject, SubjectObject, Pair, Predicate}
+use Rattle.hdt_triples.specs.declared.matches.Matches.TheVariants.{PredicateObject, Object}
 use Rattle.hdt_triples.specs.declared.pattern.Pattern.{Pattern}
 use Rattle.hdt_triples.specs.Bounds.{lookup_cost, pair_search_cost}
-use Rattle.hdt_triples.specs.TripleSequences.{BitmapTriples, AreConsistentSequences, Triple, pair_of, subject_at, triple_at}
+use Rattle.hdt_triples.specs.TripleSequences.{BitmapTriples, AreConsistentSequences, Triple, pair_of, subject_at}
+use Rattle.hdt_triples.specs.TripleSequences.{triple_at}
 use Rattle.hdt_triples.specs.Inside.Runs.{IsTripleRange, IsObjectSearch}
 use Rattle.hdt_triples.specs.Inside.PredicateCursors.{IsBeforePair}
 use Rattle.hdt_triples.specs.Remaining.{step_limit, shorter_list_step_limit, steps_taken}

@@ -1,5 +1,6 @@
 -- The previous number in the group of an entry.
-use Rattle.std.proofs.Common.{List, Bool, true, false, cond, add-one, slice_index, ◌≡◌, ℕ, ◌+◌, refl, ap, ◌∙◌, slice_get, Some}
+use Rattle.std.proofs.Common.{List, Bool, true, false, cond, add-one, slice_index, ◌≡◌, ℕ, ◌+◌, refl, ap, ◌∙◌}
+use Rattle.std.proofs.Common.{slice_get, Some}
 use Rattle.std.proofs.lemmas.Option.{get_or_from_slice_get}
 use Rattle.hdt_triples.specs.Triples.{previous_in_group}
 

@@ -1,11 +1,13 @@
 -- Consecutive matches.
-use Rattle.std.proofs.Common.{Option, ◌≡◌, ◌≢◌, ◌⊎◌, inl, inr, ℕ, ◌+◌, ◌*◌, ◌<◌, ◌≤◌, List, [], ◌∷◌, length, ap, sym, ◌∙◌, arith, Bool, true, false, Some, None, slice_index}
+use Rattle.std.proofs.Common.{Option, ◌≡◌, ◌≢◌, ◌⊎◌, inl, inr, ℕ, ◌+◌, ◌*◌, ◌<◌, ◌≤◌, List, [], ◌∷◌, length, ap, sym}
+use Rattle.std.proofs.Common.{◌∙◌, arith, Bool, true, false, Some, None, slice_index}
 use Rattle.std.proofs.lemmas.Bool.{cases_eq, cases_lt}
 use Rattle.hdt_seq.specs.Width.{digits}
 use Rattle.hdt_seq.specs.Directory.{groups}
 use Rattle.hdt_seq.specs.RankSelect.{ones_before}
 use Rattle.hdt_triples.specs.declared.pattern.Pattern.{Pattern}
-use Rattle.hdt_triples.specs.TripleSequences.{BitmapTriples, AreConsistentSequences, Triple, triple_at, triples_of, subject_at, pair_of}
+use Rattle.hdt_triples.specs.TripleSequences.{BitmapTriples, AreConsistentSequences, Triple, triple_at, triples_of}
+use Rattle.hdt_triples.specs.TripleSequences.{subject_at, pair_of}
 use Rattle.hdt_triples.specs.Scanning.{triples_from}
 use Rattle.hdt_triples.proofs.AscentLaws.{Ascend}
 use Rattle.hdt_triples.specs.Patterns.{agrees, admits, matches}

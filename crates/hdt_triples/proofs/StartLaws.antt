@@ -1,5 +1,6 @@
 -- Searches that begin at a triple.
-use Rattle.std.proofs.Common.{◌≡◌, ◌≢◌, inl, inr, ℕ, ◌+◌, ◌-◌, ◌*◌, ◌<◌, ◌≤◌, ◌==◌, zero, suc, List, [], ◌∷◌, ◌++◌, length, drop, filter, map, slice_index, refl, ap, sym, ◌∙◌, arith, Bool, false, Some}
+use Rattle.std.proofs.Common.{◌≡◌, ◌≢◌, inl, inr, ℕ, ◌+◌, ◌-◌, ◌*◌, ◌<◌, ◌≤◌, ◌==◌, zero, suc, List, [], ◌∷◌, ◌++◌}
+use Rattle.std.proofs.Common.{length, drop, filter, map, slice_index, refl, ap, sym, ◌∙◌, arith, Bool, false, Some}
 use Rattle.std.proofs.Math.Nat.{mul-le-mul_left}
 use Rattle.std.proofs.lemmas.Bool.{cases_lt}
 use Rattle.std.proofs.lemmas.List.{drop-map}
@@ -15,7 +16,8 @@ use Rattle.hdt_triples.specs.declared.triples.TriplePosition.{TriplePosition}
 use Rattle.hdt_triples.specs.TripleSequences.{BitmapTriples, triple_at, triples_of, subject_at, pair_of}
 use Rattle.hdt_triples.specs.Scanning.{IsTriplePosition, triples_from}
 use Rattle.hdt_triples.specs.Patterns.{agrees, matches}
-use Rattle.hdt_triples.specs.Bounds.{CostBound, IsWithinBudget, limit, list_search_cost, lookup_cost, object_cost, of_object, of_predicate, subject_cost}
+use Rattle.hdt_triples.specs.Bounds.{CostBound, IsWithinBudget, limit, list_search_cost, lookup_cost, object_cost}
+use Rattle.hdt_triples.specs.Bounds.{of_object, of_predicate, subject_cost}
 use Rattle.hdt_triples.specs.InvertedIndex.{positions_of, positions_from}
 use Rattle.hdt_triples.specs.Inside.Runs.{IsRunOfTriples, IsObjectSearch}
 use Rattle.hdt_triples.specs.Inside.PredicateCursors.{IsBeforePair, IsWithinPair}

@@ -4,7 +4,8 @@ use Rattle.hdt_seq.specs.Width.{digits}
 use Rattle.hdt_seq.specs.Directory.{groups}
 use Rattle.hdt_triples.specs.declared.pattern.Pattern.{Pattern}
 use Rattle.hdt_triples.specs.declared.triples.TriplePosition.{TriplePosition}
-use Rattle.hdt_triples.specs.TripleSequences.{BitmapTriples, AreConsistentSequences, triple_at, triples_of, subject_at, pair_of}
+use Rattle.hdt_triples.specs.TripleSequences.{BitmapTriples, AreConsistentSequences, triple_at, triples_of, subject_at}
+use Rattle.hdt_triples.specs.TripleSequences.{pair_of}
 use Rattle.hdt_triples.specs.Patterns.{matches}
 use Rattle.hdt_triples.specs.Scanning.{IsTriplePosition, triples_from}
 use Rattle.hdt_triples.specs.Bounds.{subject_cost, of_subject, IsWithinBudget, limit, lookup_cost}

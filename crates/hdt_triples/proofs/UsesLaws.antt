@@ -1,13 +1,16 @@
 -- Which IDs occur in triples, by the sequences that encode them.
-use Rattle.std.proofs.Common.{◌≡◌, ◌∙◌, ℕ, zero, suc, ◌+◌, ◌-◌, ◌<◌, ◌≤◌, Bool, true, false, not, eqb, leb, List, [], ◌∷◌, length, slice_index, slice_index_or, ap, sym, subst, arith}
+use Rattle.std.proofs.Common.{◌≡◌, ◌∙◌, ℕ, zero, suc, ◌+◌, ◌-◌, ◌<◌, ◌≤◌, Bool, true, false, not, eqb, leb, List, []}
+use Rattle.std.proofs.Common.{◌∷◌, length, slice_index, slice_index_or, ap, sym, subst, arith}
 use Rattle.std.proofs.lemmas.Bool.{leb-true, le-leb, ne_eqb}
 use Rattle.std.proofs.lemmas.Bool.Decides.{same_from_decides}
 use Rattle.std.proofs.lemmas.List.{get_or-map, length-map}
 use Rattle.hdt_wire.specs.declared.role.Role.{Role}
 use Rattle.hdt_wire.specs.declared.role.Role.TheVariants.{Subject, Predicate, Object}
 use Rattle.hdt_seq.specs.RankSelect.{ones_before}
-use Rattle.hdt_seq.specs.Laws.RankSelect.{ones_before_at_0, some_select, ones_through_select, less_by_ones, ones_before_le}
-use Rattle.hdt_triples.specs.TripleSequences.{Triple, BitmapTriples, AreConsistentSequences, pair_of, subject_at, triple_at, triples_of}
+use Rattle.hdt_seq.specs.Laws.RankSelect.{ones_before_at_0, some_select, ones_through_select, less_by_ones}
+use Rattle.hdt_seq.specs.Laws.RankSelect.{ones_before_le}
+use Rattle.hdt_triples.specs.TripleSequences.{Triple, BitmapTriples, AreConsistentSequences, pair_of, subject_at}
+use Rattle.hdt_triples.specs.TripleSequences.{triple_at, triples_of}
 use Rattle.hdt_triples.specs.Laws.TripleSequences.{length-triples, triple_is}
 use Rattle.hdt_triples.specs.Laws.Order.{pair_within}
 use Rattle.hdt_triples.specs.InvertedIndex.{positions_of}

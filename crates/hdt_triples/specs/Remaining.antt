@@ -1,14 +1,16 @@
 -- Views of an iterator over matches: the remaining matches, the bounds on its steps by either table, and the steps so
 -- far.
 use Rattle.std.specs.Prelude.{ℕ, ◌+◌, ◌*◌, List, [], length, map, min}
-use Rattle.hdt_triples.specs.Bounds.{lookup_cost, limit, object_cost, of_predicate, pair_search_cost, pair_cost, predicate_cost, list_search_cost, subject_cost, match_count}
+use Rattle.hdt_triples.specs.Bounds.{lookup_cost, limit, object_cost, of_predicate, pair_search_cost, pair_cost}
+use Rattle.hdt_triples.specs.Bounds.{predicate_cost, list_search_cost, subject_cost, match_count}
 use Rattle.hdt_triples.specs.TripleSequences.{Triple, triple_at}
 use Rattle.hdt_triples.specs.InvertedIndex.{positions_of}
 use Rattle.hdt_triples.specs.Patterns.{matches}
 use Rattle.hdt_triples.specs.Views.{triples_view}
 use Rattle.hdt_triples.specs.Scanning.{triples_from}
 use Rattle.hdt_triples.specs.declared.matches.Matches.{Matches}
-use Rattle.hdt_triples.specs.declared.matches.Matches.TheVariants.{Empty, Scan, Subject, SubjectObject, Pair, Predicate, PredicateObject, Object}
+use Rattle.hdt_triples.specs.declared.matches.Matches.TheVariants.{Empty, Scan, Subject, SubjectObject, Pair, Predicate}
+use Rattle.hdt_triples.specs.declared.matches.Matches.TheVariants.{PredicateObject, Object}
 
 -- The remaining matches: among the triples from the current one on, or among the remaining triples of an object.
 unfoldable pub remaining_matches : Matches → List Triple

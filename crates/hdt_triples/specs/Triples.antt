@@ -1,10 +1,13 @@
 -- The triples section (HDT submission, Triples; rdfhdt.org, "HDT binary format", Bitmap Triples): control information
 -- whose property `order` is 1, bitmap Y, bitmap Z, array Y, array Z.
-use Rattle.std.specs.Prelude.{◌≡◌, ℕ, ◌+◌, ◌-◌, ◌==◌, ◌&&◌, Bool, false, nat_le, nat_lt, List, codes, length, slice_index, slice_index_or, Option, Some, None, Result, Ok, zero, suc, if◌then◌else◌}
+use Rattle.std.specs.Prelude.{◌≡◌, ℕ, ◌+◌, ◌-◌, ◌==◌, ◌&&◌, Bool, false, nat_le, nat_lt, List, codes, length}
+use Rattle.std.specs.Prelude.{slice_index, slice_index_or, Option, Some, None, Result, Ok, zero, suc, if◌then◌else◌}
 use Rattle.std.specs.Str.{bytes_eq}
 use Rattle.hdt_wire.specs.declared.fault.Fault.{Fault}
 use Rattle.hdt_wire.specs.declared.fault.Reason.{Reason}
-use Rattle.hdt_wire.specs.declared.fault.Reason.TheVariants.{TripleOrder, LengthsDiffer, LastMark, MarkCount, SubjectRange, PredicateRange, ObjectRange, PredicatesNotAscending, ObjectsNotAscending}
+use Rattle.hdt_wire.specs.declared.fault.Reason.TheVariants.{TripleOrder, LengthsDiffer, LastMark, MarkCount}
+use Rattle.hdt_wire.specs.declared.fault.Reason.TheVariants.{SubjectRange, PredicateRange, ObjectRange}
+use Rattle.hdt_wire.specs.declared.fault.Reason.TheVariants.{PredicatesNotAscending, ObjectsNotAscending}
 use Rattle.hdt_wire.specs.declared.control.Kind.TheVariants as kinds
 use Rattle.hdt_wire.specs.Checks.{◌>>=◌, demand}
 use Rattle.hdt_wire.specs.Control.{ControlInfo, IsControlAt, control_at}

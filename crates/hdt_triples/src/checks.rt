@@ -5,7 +5,8 @@ ghost use Rattle.hdt_seq.specs.RankSelect.{ones_before};
 ghost use Rattle.hdt_seq.specs.Numbers.{numbers_of, numbers_offsets, numbers_view};
 ghost use Rattle.hdt_seq.specs.Bits.{bits_of, bits_offsets, bits_view};
 ghost use Rattle.hdt_triples.specs.TripleSequences.{AreValidSequences};
-ghost use Rattle.hdt_triples.specs.Triples.{previous_in_group, entry_checks, pair_checks, all_pair_checks, all_object_checks, last_bit_check, is_spo_order, sequence_checks};
+ghost use Rattle.hdt_triples.specs.Triples.{previous_in_group, entry_checks, pair_checks, all_pair_checks};
+ghost use Rattle.hdt_triples.specs.Triples.{all_object_checks, last_bit_check, is_spo_order, sequence_checks};
 
 use crate::pattern::Counts;
 use crate::triples::Triples;

@@ -1,5 +1,6 @@
 //! Triples with rank/select indexes over their bitmaps.
-ghost use Rattle.std.specs.Prelude.{◌≡◌, ◌≢◌, ◌≤◌, ◌<◌, ◌+◌, ◌*◌, ℕ, length, IfOk, IfErr, IfSome, Some, slice_index, ◌^◌, None, IsSome, false};
+ghost use Rattle.std.specs.Prelude.{◌≡◌, ◌≢◌, ◌≤◌, ◌<◌, ◌+◌, ◌*◌, ℕ, length, IfOk, IfErr, IfSome, Some, slice_index};
+ghost use Rattle.std.specs.Prelude.{◌^◌, None, IsSome, false};
 ghost use Rattle.hdt_seq.specs.Directory.{IsDirectoryOf, groups};
 ghost use Rattle.hdt_seq.specs.RankSelect.{ones_before};
 ghost use Rattle.hdt_seq.specs.Width.{digits};
@@ -115,7 +116,8 @@ impl<'a> IndexedTriples<'a> {
         ensures within { result < length (triples_view (triples_indexed self.now)).array_z }
         ensures is { pair_of (triples_view (triples_indexed self.now)) result ≡ pair }
         ensures earlier { (i : ℕ) → i < result → pair_of (triples_view (triples_indexed self.now)) i < pair }
-        ensures cost { steps.new ≤ steps.old + (digits (groups (triples_view (triples_indexed self.now)).bitmap_z) + 8) }
+        ensures cost { steps.new
+            ≤ steps.old + (digits (groups (triples_view (triples_indexed self.now)).bitmap_z) + 8) }
         ensures more { steps.old ≤ steps.new }
     {
         if pair == 0 {
@@ -132,7 +134,8 @@ impl<'a> IndexedTriples<'a> {
         ensures below { (i : ℕ) → i < result → pair_of (triples_view (triples_indexed self.now)) i ≤ pair }
         ensures above { (i : ℕ) → result ≤ i → pair < pair_of (triples_view (triples_indexed self.now)) i }
         ensures next { pair_of (triples_view (triples_indexed self.now)) result ≡ pair + 1 }
-        ensures cost { steps.new ≤ steps.old + (digits (groups (triples_view (triples_indexed self.now)).bitmap_z) + 8) }
+        ensures cost { steps.new
+            ≤ steps.old + (digits (groups (triples_view (triples_indexed self.now)).bitmap_z) + 8) }
         ensures more { steps.old ≤ steps.new }
     {
         self.z.select(&self.triples.bitmap_z, pair + 1, steps) + 1

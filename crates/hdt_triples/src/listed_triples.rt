@@ -72,7 +72,8 @@ fn list_of_key<'a>(starts: &[u64], flat: &'a [u64], key: u64, steps: &mut Steps)
 }
 
 impl<'a> ListedTriples<'a> {
-    ghost use Rattle.hdt_triples.specs.IndexViews.{directories_held, lists_held, string_counts, triples_indexed, triples_listed};
+    ghost use Rattle.hdt_triples.specs.IndexViews.{directories_held, lists_held, string_counts, triples_indexed};
+    ghost use Rattle.hdt_triples.specs.IndexViews.{triples_listed};
     ghost use Rattle.hdt_triples.specs.Remaining.{remaining_matches, step_limit, shorter_list_step_limit, steps_taken};
     ghost use Rattle.hdt_wire.specs.declared.role.Role.TheVariants as roles;
 

@@ -2,7 +2,8 @@
 ghost use Rattle.std.specs.Prelude.{◌≡◌, ◌≤◌, ◌+◌, ◌-◌, ◌*◌, ◌^◌, length, min, Some, None, IsSome};
 ghost use Rattle.hdt_seq.specs.Directory.{groups};
 ghost use Rattle.hdt_seq.specs.Width.{digits};
-ghost use Rattle.hdt_triples.specs.Bounds.{counting_steps, lookup_cost, of_object, of_predicate, of_subject, shorter_list_counting_steps, match_count, scan_steps};
+ghost use Rattle.hdt_triples.specs.Bounds.{counting_steps, lookup_cost, of_object, of_predicate, of_subject};
+ghost use Rattle.hdt_triples.specs.Bounds.{shorter_list_counting_steps, match_count, scan_steps};
 ghost use Rattle.hdt_triples.specs.TripleSequences.{triples_of};
 ghost use Rattle.hdt_triples.specs.InvertedIndex.{positions_of};
 ghost use Rattle.hdt_triples.specs.Patterns.{matches};
@@ -92,7 +93,8 @@ impl<'a> IndexedTriples<'a> {
     /// As [`matching`](IndexedTriples::matching), but at most `most`.
     #[tactic(auto, unfolding(crate::specs::Bounds::counting_steps))]
     pub(crate) fn matching_up_to(&self, pattern: Pattern, most: u64, steps: &mut Steps) -> u64
-        ensures is { result ≡ min most (length (matches pattern (triples_of (triples_view (triples_indexed self.now))))) }
+        ensures is { result
+            ≡ min most (length (matches pattern (triples_of (triples_view (triples_indexed self.now))))) }
         ensures cost { IsSome pattern.s
             → steps.new ≤ steps.old + counting_steps (triples_view (triples_indexed self.now)) pattern }
         ensures scanned { pattern.s ≡ None
@@ -164,7 +166,8 @@ impl<'a> ListedTriples<'a> {
     #[tactic(auto, unfolding(crate::specs::Bounds::lookup_cost))]
     fn count_predicate(&self, pattern: Pattern, predicate: u64, most: u64, steps: &mut Steps) -> u64
         requires { pattern ≡ of_predicate predicate }
-        ensures is { result ≡ min most (length (matches pattern (triples_of (triples_view (triples_listed self.now))))) }
+        ensures is { result
+            ≡ min most (length (matches pattern (triples_of (triples_view (triples_listed self.now))))) }
         ensures by_pairs { steps.new
             ≤ steps.old + 2 * lookup_cost
             (triples_view (triples_listed self.now)) * (1 + min most
@@ -218,7 +221,8 @@ impl<'a> ListedTriples<'a> {
     /// Returns the number of triples with this object.
     #[tactic(auto, using(crate::proofs::MatchCountLaws::object_count))]
     fn count_object(&self, object: u64, steps: &mut Steps) -> u64
-        ensures is { result ≡ length (matches (of_object object) (triples_of (triples_view (triples_listed self.now)))) }
+        ensures is { result
+            ≡ length (matches (of_object object) (triples_of (triples_view (triples_listed self.now)))) }
         ensures cost { steps.new ≤ steps.old + 2 }
         ensures more { steps.old ≤ steps.new }
     {
@@ -238,7 +242,8 @@ impl<'a> ListedTriples<'a> {
         requires subject_free { pattern.s ≡ None }
         requires predicate_given { pattern.p ≡ Some predicate }
         requires object_given { pattern.o ≡ Some object }
-        ensures is { result ≡ min most (length (matches pattern (triples_of (triples_view (triples_listed self.now))))) }
+        ensures is { result
+            ≡ min most (length (matches pattern (triples_of (triples_view (triples_listed self.now))))) }
         ensures cost { steps.new ≤ steps.old + (2 + 10 * match_count (of_object object)
             (triples_view (triples_listed self.now))) }
         ensures more { steps.old ≤ steps.new }
@@ -257,7 +262,8 @@ impl<'a> ListedTriples<'a> {
     /// [`matching`](ListedTriples::matching), but scans stop once `most` matches are counted. Allocates nothing.
     #[tactic(auto, unfolding(crate::specs::Bounds::counting_steps, crate::specs::Bounds::shorter_list_counting_steps, crate::specs::Bounds::scan_steps))]
     pub fn matching_up_to(&self, pattern: Pattern, most: u64, steps: &mut Steps) -> u64
-        ensures is { result ≡ min most (length (matches pattern (triples_of (triples_view (triples_listed self.now))))) }
+        ensures is { result
+            ≡ min most (length (matches pattern (triples_of (triples_view (triples_listed self.now))))) }
         // The steps are bounded by the table, and by that for the shorter of two lists.
         ensures cost { steps.new ≤ steps.old + counting_steps (triples_view (triples_listed self.now)) pattern }
         ensures short { steps.new

@@ -2,7 +2,8 @@
 ghost use Rattle.std.specs.Prelude.{◌≡◌, ◌≤◌, ◌+◌, ◌<◌, ◌^◌, map, Some, drop, length};
 ghost use Rattle.std.specs.List.{All};
 ghost use Rattle.hdt_seq.specs.Width.{digits};
-ghost use Rattle.hdt_triples.specs.Bounds.{object_cost, of_object, most_steps, shorter_list_steps, IsWithinBudget, limit};
+ghost use Rattle.hdt_triples.specs.Bounds.{object_cost, of_object, most_steps, shorter_list_steps, IsWithinBudget};
+ghost use Rattle.hdt_triples.specs.Bounds.{limit};
 ghost use Rattle.hdt_triples.specs.TripleSequences.{triple_at, triples_of};
 ghost use Rattle.hdt_triples.specs.InvertedIndex.{IsPositionOf};
 ghost use Rattle.hdt_triples.specs.Patterns.{matches};
@@ -75,7 +76,8 @@ impl<'a> ObjectMatches<'a> {
             ≡ matches pattern (triples_from (triples_view (triples_listed listed.now)) from) }
         ensures limit { step_limit result ≡ limit (object_cost object) (triples_view (triples_listed listed.now)) }
         ensures fresh { steps_taken result ≡ 0 }
-        ensures cost { steps.new ≤ steps.old + (digits (length (triples_view (triples_listed listed.now)).array_z) + 2) }
+        ensures cost { steps.new
+            ≤ steps.old + (digits (length (triples_view (triples_listed listed.now)).array_z) + 2) }
         ensures more { steps.old ≤ steps.new }
     {
         let places = listed.positions_of(object, steps);
@@ -161,7 +163,8 @@ impl<'a> Iterator for ObjectMatches<'a> {
     #[tactic(auto, unfolding(crate::specs::Remaining::remaining_matches, crate::specs::Remaining::step_limit, crate::specs::Remaining::steps_taken))]
     fn next(&mut self) -> Option<(u64, u64, u64)>
         ensures steps { YieldsFirst (λ m. remaining_matches (Object m)) self.old result self.new }
-        ensures goes { MakesProgress (λ _. ⊤) (item_count (λ m. remaining_matches (Object m))) self.old result self.new }
+        ensures goes { MakesProgress (λ _. ⊤)
+            (item_count (λ m. remaining_matches (Object m))) self.old result self.new }
         ensures same { step_limit (Object self.new) ≡ step_limit (Object self.old) }
         ensures more { steps_taken (Object self.old) ≤ steps_taken (Object self.new) }
     {

@@ -27,7 +27,8 @@ pub struct PairMatches<'a> {
     end: u64,
     steps: Steps,
     ghost run: { IsRunOfTriples (triples_view triples) pattern subject predicate at end },
-    pub ghost few: { IsWithinBudget (pair_cost (triples_view triples) pattern) (triples_view triples) steps (triples_from (triples_view triples) at) },
+    pub ghost few: { IsWithinBudget (pair_cost (triples_view triples) pattern) (triples_view triples) steps
+        (triples_from (triples_view triples) at) },
 }
 
 impl<'a> PairMatches<'a> {

@@ -25,7 +25,8 @@ pub struct SubjectMatches<'a> {
     ghost given: { pattern.s ≡ Some subject },
     ghost stands: { IsTriplePosition (triples_view triples) position },
     ghost reached: { position.at < length (triples_view triples).array_z → subject ≤ position.subject },
-    pub ghost few: { IsWithinBudget (subject_cost (triples_view triples) subject) (triples_view triples) steps (triples_from (triples_view triples) position.at) },
+    pub ghost few: { IsWithinBudget (subject_cost (triples_view triples) subject) (triples_view triples) steps
+        (triples_from (triples_view triples) position.at) },
 }
 
 impl<'a> SubjectMatches<'a> {
@@ -102,7 +103,8 @@ impl<'a> Iterator for SubjectMatches<'a> {
     #[tactic(auto, using(crate::proofs::ScanLaws::matches_taken, crate::proofs::ScanLaws::matches_passed, crate::proofs::ScanLaws::matches_none, crate::proofs::SubjectLaws::matches_over, crate::proofs::SubjectLaws::budget_step), unfolding(crate::specs::Remaining::remaining_matches, crate::specs::Remaining::step_limit, crate::specs::Remaining::steps_taken))]
     fn next(&mut self) -> Option<(u64, u64, u64)>
         ensures steps { YieldsFirst (λ m. remaining_matches (Subject m)) self.old result self.new }
-        ensures goes { MakesProgress (λ _. ⊤) (item_count (λ m. remaining_matches (Subject m))) self.old result self.new }
+        ensures goes { MakesProgress (λ _. ⊤)
+            (item_count (λ m. remaining_matches (Subject m))) self.old result self.new }
         ensures same { step_limit (Subject self.new) ≡ step_limit (Subject self.old) }
         ensures more { steps_taken (Subject self.old) ≤ steps_taken (Subject self.new) }
     {

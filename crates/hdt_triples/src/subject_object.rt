@@ -2,7 +2,8 @@
 ghost use Rattle.std.specs.Prelude.{◌≡◌, ◌≢◌, ◌≤◌, ◌<◌, ◌+◌, ◌*◌, ◌^◌, ℕ, length, slice_index, IfSome, Some, None};
 ghost use Rattle.hdt_seq.specs.Directory.{groups};
 ghost use Rattle.hdt_seq.specs.Width.{digits};
-ghost use Rattle.hdt_triples.specs.Bounds.{lookup_cost, limit, IsWithinBudget, list_search_cost, subject_cost, match_count};
+ghost use Rattle.hdt_triples.specs.Bounds.{lookup_cost, limit, IsWithinBudget, list_search_cost, subject_cost};
+ghost use Rattle.hdt_triples.specs.Bounds.{match_count};
 ghost use Rattle.hdt_triples.specs.TripleSequences.{pair_of, subject_at, triples_of};
 ghost use Rattle.hdt_triples.specs.Inside.Runs.{IsNextWithObject};
 ghost use Rattle.hdt_triples.specs.InvertedIndex.{positions_of};

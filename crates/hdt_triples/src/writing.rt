@@ -3,10 +3,12 @@ ghost use Rattle.std.specs.Prelude.{◌≡◌, ◌++◌, ◌<◌, ◌^◌, lengt
 ghost use Rattle.hdt_wire.specs.Control.{IsPrefixOf};
 ghost use Rattle.hdt_triples.specs.TripleSequences.{AreValidSequences, BitmapTriples, Triple, triples_of};
 ghost use Rattle.hdt_triples.specs.declared.pattern.Counts.{Counts};
-ghost use Rattle.hdt_triples.specs.Order.{CountsFit64, AreAtMostCounts, AreWritable, TripleLess, AreAscending, AreInRange};
+ghost use Rattle.hdt_triples.specs.Order.{CountsFit64, AreAtMostCounts, AreWritable, TripleLess, AreAscending};
+ghost use Rattle.hdt_triples.specs.Order.{AreInRange};
 ghost use Rattle.hdt_triples.specs.Inside.SequencesView.{sequences_view};
 ghost use Rattle.hdt_triples.specs.Triples.{IsTriplesAt, decode_triple_parts};
-ghost use Rattle.hdt_triples.specs.Writing.{canonical_sequences, canonical_triples, canonical_triples_parts, sequences_of};
+ghost use Rattle.hdt_triples.specs.Writing.{canonical_sequences, canonical_triples, canonical_triples_parts};
+ghost use Rattle.hdt_triples.specs.Writing.{sequences_of};
 ghost use Rattle.hdt_triples.specs.Inside.Writable.{IsWritableAt};
 ghost use Rattle.hdt_wire.specs.Checks.{IsBytes, HasSlice};
 ghost use Rattle.hdt_wire.specs.Exact.{Exactly};

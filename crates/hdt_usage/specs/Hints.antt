@@ -1,5 +1,6 @@
 -- Hints for an input that is not what the command reads.
-use Rattle.std.specs.Prelude.{ℕ, Bool, ◌&&◌, ◌||◌, ◌==◌, slice_index, List, [], ◌∷◌, codes, nat_le, nat_eq, if◌then◌else◌}
+use Rattle.std.specs.Prelude.{ℕ, Bool, ◌&&◌, ◌||◌, ◌==◌, slice_index, List, [], ◌∷◌, codes, nat_le, nat_eq}
+use Rattle.std.specs.Prelude.{if◌then◌else◌}
 use Rattle.std.specs.List.{starts_with, list_any}
 use Rattle.hdt_usage.specs.declared.hints.Hint.{Hint}
 

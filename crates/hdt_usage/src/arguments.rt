@@ -2,7 +2,10 @@
 ghost use Rattle.std.specs.Prelude.{◌≡◌, IfOk, false};
 ghost use Rattle.clap.specs.Words.{app_of, rule_of, with_rule};
 ghost use Rattle.clap.specs.declared.builder.command.Command.TheViews.{out-Command as fields_of};
-ghost use Rattle.hdt_usage.specs.CommandTable.{base_option, block_size_option, first_input_arg, flag_arg, limit_option, longest_request_option, most_option, no_progress_flag, number_arg, option_arg, paths_arg, progress_flag, required_arg, role_arg, text_option, verbose_flag};
+ghost use Rattle.hdt_usage.specs.CommandTable.{base_option, block_size_option, first_input_arg, flag_arg, limit_option};
+ghost use Rattle.hdt_usage.specs.CommandTable.{longest_request_option, most_option, no_progress_flag, number_arg};
+ghost use Rattle.hdt_usage.specs.CommandTable.{option_arg, paths_arg, progress_flag, required_arg, role_arg};
+ghost use Rattle.hdt_usage.specs.CommandTable.{text_option, verbose_flag};
 
 use crate::help::{
     BASE, BASE_HELP, BLOCK_SIZE_HELP, LONGEST_REQUEST_HELP, MOST_HELP, NO_PROGRESS_HELP,

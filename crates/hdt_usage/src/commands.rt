@@ -2,7 +2,13 @@
 ghost use Rattle.std.specs.Prelude.{◌≡◌, IfOk, false};
 ghost use Rattle.clap.specs.Words.{app_of, with_subcommand};
 ghost use Rattle.clap.specs.declared.builder.command.Command.TheViews.{out-Command as fields_of};
-ghost use Rattle.hdt_usage.specs.CommandTable.{build_command, rewrite_command, in_out_command, file_command, head_command, verify_command, strings_command, string_command, number_command, count_command, answer_command, find_command, find_pattern_command, dump_command, explain_command, lint_command, empty_program, file_commands, lookup_commands, triple_commands, writing_commands, table, info_command, split_command, split_paths_command};
+ghost use Rattle.hdt_usage.specs.CommandTable.{build_command, rewrite_command, in_out_command, file_command};
+ghost use Rattle.hdt_usage.specs.CommandTable.{head_command, verify_command, strings_command, string_command};
+ghost use Rattle.hdt_usage.specs.CommandTable.{number_command, count_command, answer_command, find_command};
+ghost use Rattle.hdt_usage.specs.CommandTable.{find_pattern_command, dump_command, explain_command, lint_command};
+ghost use Rattle.hdt_usage.specs.CommandTable.{empty_program, file_commands, lookup_commands, triple_commands};
+ghost use Rattle.hdt_usage.specs.CommandTable.{writing_commands, table, info_command, split_command};
+ghost use Rattle.hdt_usage.specs.CommandTable.{split_paths_command};
 
 use crate::arguments::{
     with_base, with_block_size, with_first_input, with_flag, with_limit, with_longest_request,

@@ -1,6 +1,7 @@
 //! `hdt explain`: what an error means, what usually causes it, and what to do.
 ghost use Rattle.std.specs.Prelude.{◌≡◌, IfOk, option_map, map, string_bytes};
-ghost use Rattle.hdt_usage.specs.Explanations.{explained_error, is_named, first_named, explanation_text, two_errors, both_texts, file_explanations, text_explanations, explanation_of};
+ghost use Rattle.hdt_usage.specs.Explanations.{explained_error, is_named, first_named, explanation_text, two_errors};
+ghost use Rattle.hdt_usage.specs.Explanations.{both_texts, file_explanations, text_explanations, explanation_of};
 
 use crate::file_errors::FILE_ERRORS;
 use crate::text_errors::TEXT_ERRORS;

@@ -1,5 +1,6 @@
 -- Several writes to one writer, or to one list of bytes.
-use Rattle.std.proofs.Common.{◌≡◌, List, ℕ, ◌++◌, ◌∙◌, length, take, Option, Some, None, Result, Ok, Err, OnErr, refl, ap, append_assoc}
+use Rattle.std.proofs.Common.{◌≡◌, List, ℕ, ◌++◌, ◌∙◌, length, take, Option, Some, None, Result, Ok, Err, OnErr, refl}
+use Rattle.std.proofs.Common.{ap, append_assoc}
 use Rattle.std.proofs.lemmas.List.{take_at}
 use Rattle.std.specs.Io.KnownBytes.{Appends}
 use Rattle.hdt_wire.specs.Control.{IsPrefixOf}

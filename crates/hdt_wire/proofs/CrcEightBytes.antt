@@ -1,12 +1,14 @@
 -- The CRC-32C, eight bytes a step. Shifting is linear over xor, so the register after eight bytes is the xor of the
 -- single bytes, each shifted once for each bit from it on.
-use Rattle.std.proofs.Common.{◌≡◌, ℕ, zero, suc, ◌+◌, ◌*◌, ◌/◌, ◌%◌, ◌^◌, ◌<◌, true, false, List, [], ◌∷◌, length, get_or, eqb, bit_xor, refl, sym, ap, ◌∙◌, arith, inl, inr}
+use Rattle.std.proofs.Common.{◌≡◌, ℕ, zero, suc, ◌+◌, ◌*◌, ◌/◌, ◌%◌, ◌^◌, ◌<◌, true, false, List, [], ◌∷◌, length}
+use Rattle.std.proofs.Common.{get_or, eqb, bit_xor, refl, sym, ap, ◌∙◌, arith, inl, inr}
 use Rattle.std.specs.Prelude.{fold}
 use Rattle.std.specs.Fn.{iterate}
 use Rattle.std.specs.Int.Bits.{xor_assoc, xor_self, xor_zero_l, xor_zero_r}
 use Rattle.std.proofs.lemmas.Bool.{eqb-true, eqb-false, cases_Bool}
 use Rattle.std.proofs.lemmas.Nat.{xor_comm, xor_shr, xor_mod, xor_lt, xor_block}
-use Rattle.hdt_wire.specs.declared.crc32c.TheConstants.{AFTER_8, AFTER_16, AFTER_24, AFTER_32, AFTER_40, AFTER_48, AFTER_56, AFTER_64}
+use Rattle.hdt_wire.specs.declared.crc32c.TheConstants.{AFTER_8, AFTER_16, AFTER_24, AFTER_32, AFTER_40, AFTER_48}
+use Rattle.hdt_wire.specs.declared.crc32c.TheConstants.{AFTER_56, AFTER_64}
 use Rattle.hdt_wire.specs.Crc.{shift_right, crc32_step}
 use Rattle.hdt_wire.specs.Checks.{IsBytes}
 use Rattle.hdt_wire.proofs.CrcTables.{is_table_of, table_entry, shifts_above, after_8_holds}

@@ -1,6 +1,7 @@
 -- Checks. The format is a list of checks: conditions, each with the reason and the byte offset of the error that is
 -- reported if it is the first to fail. Each part of a file is read by such checks in turn.
-use Rattle.std.specs.Prelude.{◌≡◌, ℕ, ◌+◌, ◌==◌, ◌≤◌, ◌<◌, Bool, nat_lt, nat_le, List, length, take, drop, slice_index, slice_range, Option, IfSome, Result, Ok, Err, if◌then◌else◌}
+use Rattle.std.specs.Prelude.{◌≡◌, ℕ, ◌+◌, ◌==◌, ◌≤◌, ◌<◌, Bool, nat_lt, nat_le, List, length, take, drop, slice_index}
+use Rattle.std.specs.Prelude.{slice_range, Option, IfSome, Result, Ok, Err, if◌then◌else◌}
 use Rattle.std.specs.List.{position_or_len}
 use Rattle.hdt_wire.specs.declared.fault.Fault.{Fault}
 use Rattle.hdt_wire.specs.declared.fault.Reason.{Reason}

@@ -1,6 +1,7 @@
 -- Control information (rdfhdt.org, "HDT binary format", Control Information): the cookie, the type, the format, the
 -- properties, and a CRC-16 over all of these.
-use Rattle.std.specs.Prelude.{◌≡◌, ◌≢◌, ℕ, ◌+◌, ◌==◌, List, [], ◌∷◌, ◌++◌, All, codes, length, take, slice_range, Result, Ok}
+use Rattle.std.specs.Prelude.{◌≡◌, ◌≢◌, ℕ, ◌+◌, ◌==◌, List, [], ◌∷◌, ◌++◌, All, codes, length, take, slice_range}
+use Rattle.std.specs.Prelude.{Result, Ok}
 use Rattle.std.specs.Str.{bytes_eq}
 use Rattle.byteorder.specs.Endian.{little_number, little_bytes}
 use Rattle.hdt_wire.specs.declared.fault.Fault.{Fault}

@@ -3,7 +3,15 @@ use Rattle.std.specs.Prelude.{ℕ, List, ◌++◌, codes}
 use Rattle.std.specs.Fmt.{decimal}
 use Rattle.hdt_wire.specs.declared.fault.Fault.{Fault}
 use Rattle.hdt_wire.specs.declared.fault.Reason.{Reason}
-use Rattle.hdt_wire.specs.declared.fault.Reason.TheVariants.{Truncated, OverlongNumber, NumberTooLarge, NotHdt, WrongKind, Check16, WrongFormat, HeaderLength, TripleOrder, Check8, Check32, SequenceKind, Width, BitsKind, SectionKind, BlockSize, BlockCount, BlockPlace, PrefixTooLong, PackedLength, NotUtf8, StringsNotAscending, SectionsOverlap, NoTriples, LengthsDiffer, LastMark, MarkCount, SubjectRange, PredicateRange, ObjectRange, PredicatesNotAscending, ObjectsNotAscending, TrailingBytes, Unused}
+use Rattle.hdt_wire.specs.declared.fault.Reason.TheVariants.{Truncated, OverlongNumber, NumberTooLarge, NotHdt}
+use Rattle.hdt_wire.specs.declared.fault.Reason.TheVariants.{WrongKind, Check16, WrongFormat, HeaderLength, TripleOrder}
+use Rattle.hdt_wire.specs.declared.fault.Reason.TheVariants.{Check8, Check32, SequenceKind, Width, BitsKind}
+use Rattle.hdt_wire.specs.declared.fault.Reason.TheVariants.{SectionKind, BlockSize, BlockCount, BlockPlace}
+use Rattle.hdt_wire.specs.declared.fault.Reason.TheVariants.{PrefixTooLong, PackedLength, NotUtf8, StringsNotAscending}
+use Rattle.hdt_wire.specs.declared.fault.Reason.TheVariants.{SectionsOverlap, NoTriples, LengthsDiffer, LastMark}
+use Rattle.hdt_wire.specs.declared.fault.Reason.TheVariants.{MarkCount, SubjectRange, PredicateRange, ObjectRange}
+use Rattle.hdt_wire.specs.declared.fault.Reason.TheVariants.{PredicatesNotAscending, ObjectsNotAscending, TrailingBytes}
+use Rattle.hdt_wire.specs.declared.fault.Reason.TheVariants.{Unused}
 
 -- the number, from 1
 abbrev pub reason_number : Reason → ℕ

@@ -1,6 +1,7 @@
 -- Properties (rdfhdt.org, "HDT binary format", Control Information): items separated by ';'. An item with '=' has the
 -- key before its first '=' and the value after it. The last item with a key counts.
-use Rattle.std.specs.Prelude.{ℕ, ◌==◌, ◌&&◌, ◌-◌, Bool, nat_lt, List, length, slice_get, Option, Some, None, if◌then◌else◌}
+use Rattle.std.specs.Prelude.{ℕ, ◌==◌, ◌&&◌, ◌-◌, Bool, nat_lt, List, length, slice_get, Option, Some, None}
+use Rattle.std.specs.Prelude.{if◌then◌else◌}
 use Rattle.std.specs.Str.{bytes_eq}
 use Rattle.std.specs.List.{position_or_len, before_first, after_first, slice_split, filter_map}
 

@@ -1,7 +1,8 @@
 //! Control information: the cookie `$HDT`, a type, the format, the properties, and a CRC-16.
 ghost use Rattle.std.specs.Prelude.{◌≡◌, ℕ, List, ◌+◌, ◌++◌, length, Ok, IfOk, OnOk, OnErr};
 ghost use Rattle.hdt_wire.specs.Checks.{Reads, IsBytes, HasSlice};
-ghost use Rattle.hdt_wire.specs.Control.{control_view, expected_control_info, control, control_at, kind_code, format_text, IsControlAt, HasNoZero, IsPrefixOf};
+ghost use Rattle.hdt_wire.specs.Control.{control_view, expected_control_info, control, control_at, kind_code};
+ghost use Rattle.hdt_wire.specs.Control.{format_text, IsControlAt, HasNoZero, IsPrefixOf};
 
 use crate::checks::{bytes_at, demand, text_at, truncate_on_error};
 use crate::crc::check16;
@@ -169,5 +170,6 @@ pub fn put_control(kind: Kind, properties: &[u8], out: &mut Vec<u8>) -> Result<(
 pub fn control_round_trip()
     ensures { (kind : Kind) (before after properties : List ℕ) → IsBytes properties → HasNoZero properties
         → control_at kind (before ++ control kind properties ++ after) (length before)
-        ≡ Ok (expected_control_info kind properties (length before) (length before + length (control kind properties))) }
+        ≡ Ok (expected_control_info kind properties (length before)
+        (length before + length (control kind properties))) }
 {}

@@ -1,5 +1,6 @@
 //! VByte: numbers in base 128, least significant digit first, one digit a byte. The last byte has its top bit set.
-ghost use Rattle.std.specs.Prelude.{◌≡◌, ℕ, List, ◌+◌, ◌≤◌, ◌<◌, ◌^◌, ◌++◌, length, take, drop, Ok, OnOk, OnErr, IfOk, IfSome, IfNone};
+ghost use Rattle.std.specs.Prelude.{◌≡◌, ℕ, List, ◌+◌, ◌≤◌, ◌<◌, ◌^◌, ◌++◌, length, take, drop, Ok, OnOk, OnErr, IfOk};
+ghost use Rattle.std.specs.Prelude.{IfSome, IfNone};
 ghost use Rattle.hdt_wire.specs.Checks.{EncodedAt};
 ghost use Rattle.hdt_wire.specs.VByte.{VByte, vbyte, vbyte_at, last_digit_index, base128_value};
 

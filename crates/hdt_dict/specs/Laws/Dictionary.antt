@@ -1,5 +1,6 @@
 -- The checks of a dictionary are exact: they return a dictionary exactly if it is encoded at the offset.
-use Rattle.std.proofs.Common.{◌≡◌, ℕ, Bool, true, false, not, List, [], ◌++◌, length, get_or, inl, inr, refl, sym, subst, ◌∙◌}
+use Rattle.std.proofs.Common.{◌≡◌, ℕ, Bool, true, false, not, List, [], ◌++◌, length, get_or, inl, inr, refl, sym}
+use Rattle.std.proofs.Common.{subst, ◌∙◌}
 use Rattle.std.specs.List.{Contains}
 use Rattle.std.proofs.lemmas.List.{get_or_default}
 use Rattle.std.proofs.lemmas.List.Elements.{Contains-append_left, Contains-append_right, Contains-append_cases}
@@ -15,7 +16,8 @@ use Rattle.hdt_front.specs.Section.{SectionParts, string_offset, section_at}
 use Rattle.hdt_front.specs.Laws.Section.{section_exact}
 use Rattle.hdt_dict.specs.Strings.{has}
 use Rattle.hdt_dict.specs.Laws.Strings.{has-Contains, Contains-has}
-use Rattle.hdt_dict.specs.Dictionary.{DictionaryParts, AreDisjoint, IsDictionaryAt, disjoint_check, disjoint_at, dictionary_at}
+use Rattle.hdt_dict.specs.Dictionary.{DictionaryParts, AreDisjoint, IsDictionaryAt, disjoint_check, disjoint_at}
+use Rattle.hdt_dict.specs.Dictionary.{dictionary_at}
 
 -- ---- strings in two sections
 

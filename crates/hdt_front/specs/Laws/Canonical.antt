@@ -1,5 +1,7 @@
 -- The canonical bytes of strings encode their section.
-use Rattle.std.proofs.Common.{◌≡◌, ◌≢◌, ℕ, zero, suc, ◌+◌, ◌-◌, ◌*◌, ◌/◌, ◌%◌, ◌<◌, ◌≤◌, ◌^◌, Bool, true, false, cond, List, [], ◌∷◌, ◌++◌, length, take, drop, get_or, nat_eq, min, inr, refl, sym, ap, subst, ◌∙◌, arith, Ok, length-append, length-drop, eqb-true, append_assoc}
+use Rattle.std.proofs.Common.{◌≡◌, ◌≢◌, ℕ, zero, suc, ◌+◌, ◌-◌, ◌*◌, ◌/◌, ◌%◌, ◌<◌, ◌≤◌, ◌^◌, Bool, true, false, cond}
+use Rattle.std.proofs.Common.{List, [], ◌∷◌, ◌++◌, length, take, drop, get_or, nat_eq, min, inr, refl, sym, ap, subst}
+use Rattle.std.proofs.Common.{◌∙◌, arith, Ok, length-append, length-drop, eqb-true, append_assoc}
 use Rattle.std.specs.List.{concat, common_prefix_len}
 use Rattle.std.proofs.Math.Nat.{mod-lt, div-eq_of_lt, mul-le-mul_left}
 use Rattle.std.proofs.Math.Seq.{get_or-append_seam}
@@ -22,7 +24,8 @@ use Rattle.hdt_front.specs.Section.{HasBlockOffsets, AreSectionStrings, IsSectio
 use Rattle.hdt_front.specs.Laws.Section.{section_exact}
 use Rattle.hdt_front.specs.SectionWriting.{CanBeWritten, section_preamble}
 use Rattle.hdt_front.specs.Laws.SectionWriting.{section_encoded}
-use Rattle.hdt_front.specs.Canonical.{encode_entry, encode_entries, block_offsets_from, packed_of, block_offsets, canonical, canonical_parts}
+use Rattle.hdt_front.specs.Canonical.{encode_entry, encode_entries, block_offsets_from, packed_of, block_offsets}
+use Rattle.hdt_front.specs.Canonical.{canonical, canonical_parts}
 
 -- ---- entries
 

@@ -1,9 +1,12 @@
 -- What the checks of one string establish.
-use Rattle.std.proofs.Common.{◌≡◌, ℕ, ◌+◌, ◌-◌, ◌/◌, ◌||◌, ◌++◌, Bool, true, false, cond, List, length, take, drop, get_or, Result, Ok, Err, refl, sym, ap, ◌∙◌, nat_le, nat_lt, leb-true, ltb-true, eqb-true, eqb}
+use Rattle.std.proofs.Common.{◌≡◌, ℕ, ◌+◌, ◌-◌, ◌/◌, ◌||◌, ◌++◌, Bool, true, false, cond, List, length, take, drop}
+use Rattle.std.proofs.Common.{get_or, Result, Ok, Err, refl, sym, ap, ◌∙◌, nat_le, nat_lt, leb-true, ltb-true, eqb-true}
+use Rattle.std.proofs.Common.{eqb}
 use Rattle.std.specs.Prelude.{if◌then◌else◌}
 use Rattle.std.specs.Str.{is_utf8}
 use Rattle.hdt_wire.specs.declared.fault.Fault.{Fault}
-use Rattle.hdt_wire.specs.declared.fault.Reason.TheVariants.{BlockPlace, PrefixTooLong, PackedLength, NotUtf8, StringsNotAscending}
+use Rattle.hdt_wire.specs.declared.fault.Reason.TheVariants.{BlockPlace, PrefixTooLong, PackedLength, NotUtf8}
+use Rattle.hdt_wire.specs.declared.fault.Reason.TheVariants.{StringsNotAscending}
 use Rattle.hdt_wire.specs.Checks.{◌>>=◌, demand, len_before_zero}
 use Rattle.hdt_wire.specs.VByte.{vbyte_at}
 use Rattle.hdt_wire.specs.Laws.Checks.{demand_ok, bind_ok}

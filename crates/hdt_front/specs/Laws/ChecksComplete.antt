@@ -1,5 +1,7 @@
 -- Completeness: on a front coding of strings the checks hold, and the bytes decode to these strings.
-use Rattle.std.proofs.Common.{◌≡◌, ℕ, zero, suc, ◌+◌, ◌-◌, ◌/◌, ◌<◌, ◌≤◌, ◌++◌, ◌||◌, Bool, true, false, not, cond, List, [], ◌∷◌, length, take, drop, get_or, Result, Ok, refl, sym, ap, ◌∙◌, arith, subst, eqb, nat_le, nat_lt, eq-eqb, le-leb, lt-ltb, length-append, append_assoc}
+use Rattle.std.proofs.Common.{◌≡◌, ℕ, zero, suc, ◌+◌, ◌-◌, ◌/◌, ◌<◌, ◌≤◌, ◌++◌, ◌||◌, Bool, true, false, not, cond}
+use Rattle.std.proofs.Common.{List, [], ◌∷◌, length, take, drop, get_or, Result, Ok, refl, sym, ap, ◌∙◌, arith, subst}
+use Rattle.std.proofs.Common.{eqb, nat_le, nat_lt, eq-eqb, le-leb, lt-ltb, length-append, append_assoc}
 use Rattle.std.specs.Prelude.{if◌then◌else◌}
 use Rattle.std.specs.List.{concat}
 use Rattle.std.specs.Str.{is_utf8}
@@ -10,8 +12,10 @@ use Rattle.hdt_wire.specs.Checks.{◌>>=◌, demand, len_before_zero}
 use Rattle.hdt_wire.specs.VByte.{VByte, vbyte_at}
 use Rattle.hdt_wire.specs.Laws.VByte.{vbyte_only}
 use Rattle.hdt_seq.specs.Sequence.{entry_offset}
-use Rattle.hdt_front.specs.Decoding.{is_head, kept, bytes_from_suffix, suffix_of, decoded_string, after_entry, value_or, decoded_strings}
-use Rattle.hdt_front.specs.StringChecks.{BlockLayout, rest_offset, prefix_result, precedes, prefix_check, string_check, strings_check}
+use Rattle.hdt_front.specs.Decoding.{is_head, kept, bytes_from_suffix, suffix_of, decoded_string, after_entry, value_or}
+use Rattle.hdt_front.specs.Decoding.{decoded_strings}
+use Rattle.hdt_front.specs.StringChecks.{BlockLayout, rest_offset, prefix_result, precedes, prefix_check, string_check}
+use Rattle.hdt_front.specs.StringChecks.{strings_check}
 use Rattle.hdt_front.specs.EntryFacts.{IsCheckedEntry}
 use Rattle.hdt_front.specs.FrontCoding.{IsEntry}
 use Rattle.hdt_front.specs.Laws.FrontCodingSteps.{AreEntries, AreBlockStarts, IsFrontCodedFrom, NoZero, Ascending}

@@ -1,10 +1,12 @@
 -- One step of an iteration.
-use Rattle.std.proofs.Common.{◌≡◌, ◌≢◌, Bool, true, false, ◌||◌, eqb, ℕ, zero, suc, ◌+◌, ◌-◌, ◌≤◌, ◌++◌, List, [], ◌∷◌, length, take, Option, Some, Ok, sym, ap, ◌∙◌, arith, subst}
+use Rattle.std.proofs.Common.{◌≡◌, ◌≢◌, Bool, true, false, ◌||◌, eqb, ℕ, zero, suc, ◌+◌, ◌-◌, ◌≤◌, ◌++◌, List, [], ◌∷◌}
+use Rattle.std.proofs.Common.{length, take, Option, Some, Ok, sym, ap, ◌∙◌, arith, subst}
 use Rattle.std.proofs.lemmas.Bool.Decides.{nat_tests}
 use Rattle.hdt_front.specs.Decoding.{is_head, kept, suffix_of, decoded_string, after_entry}
 use Rattle.hdt_front.specs.StringChecks.{BlockLayout, rest_offset, precedes, strings_check}
 use Rattle.hdt_front.specs.EntryFacts.{IsCheckedEntry}
-use Rattle.hdt_front.specs.Iteration.{LocatedString, IterState, After, LocatedAscend, located_from, step_iter, step_iter_by, next_offset, here}
+use Rattle.hdt_front.specs.Iteration.{LocatedString, IterState, After, LocatedAscend, located_from, step_iter}
+use Rattle.hdt_front.specs.Iteration.{step_iter_by, next_offset, here}
 use Rattle.hdt_front.specs.Laws.StringSteps.{step, shorter}
 
 pub ended : (p : BlockLayout) (count i : ℕ) (last rest : List ℕ) → i ≡ count

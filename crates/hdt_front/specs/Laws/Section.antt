@@ -1,12 +1,14 @@
 -- The checks of a section are sound and complete: they accept exactly the sections that are encoded at the offset.
-use Rattle.std.proofs.Common.{◌≡◌, ◌⊎◌, ℕ, zero, suc, ◌+◌, ◌*◌, ◌<◌, ◌||◌, true, false, not, List, [], ◌∷◌, ◌++◌, length, slice_index, eqb, ltb, leb, Ok, inl, inr, refl, ap, subst, ◌∙◌, arith}
+use Rattle.std.proofs.Common.{◌≡◌, ◌⊎◌, ℕ, zero, suc, ◌+◌, ◌*◌, ◌<◌, ◌||◌, true, false, not, List, [], ◌∷◌, ◌++◌}
+use Rattle.std.proofs.Common.{length, slice_index, eqb, ltb, leb, Ok, inl, inr, refl, ap, subst, ◌∙◌, arith}
 use Rattle.std.specs.Prelude.{slice_range}
 use Rattle.std.specs.List.{concat}
 use Rattle.byteorder.specs.Endian.{little_bytes}
 use Rattle.hdt_wire.specs.Crc.{crc8, crc32}
 use Rattle.std.proofs.lemmas.Bool.{eqb-true, ltb-true, lt-ltb, leb-true}
 use Rattle.std.proofs.lemmas.Bool.Decides.{Decides-eqb, nat_tests}
-use Rattle.hdt_wire.specs.declared.fault.Reason.TheVariants.{SectionKind, BlockSize, PackedLength, BlockCount, BlockPlace}
+use Rattle.hdt_wire.specs.declared.fault.Reason.TheVariants.{SectionKind, BlockSize, PackedLength, BlockCount}
+use Rattle.hdt_wire.specs.declared.fault.Reason.TheVariants.{BlockPlace}
 use Rattle.hdt_wire.specs.Checks.{IsBytes, HasSlice}
 use Rattle.hdt_wire.specs.Laws.Checks.{demand_ok, bind_ok, HasSlice-front}
 use Rattle.hdt_wire.specs.VByte.{vbyte_at}
@@ -26,7 +28,9 @@ use Rattle.hdt_front.specs.Laws.StringSteps.{length-decoded_strings}
 use Rattle.hdt_front.specs.Laws.ChecksSound.{found_from}
 use Rattle.hdt_front.specs.Laws.ChecksComplete.{strings_only}
 use Rattle.hdt_front.specs.Laws.FrontCoding.{front_coded_found, front_coded_only, strings_are, strings_ascend}
-use Rattle.hdt_front.specs.Section.{AreSectionStrings, SectionParts, SectionPreamble, PackedParts, HasBlockOffsets, IsSectionAt, is_start_count, block_layout_with, preamble_at, packed_parts_at, section_at}
+use Rattle.hdt_front.specs.Section.{AreSectionStrings, SectionParts, SectionPreamble, PackedParts, HasBlockOffsets}
+use Rattle.hdt_front.specs.Section.{IsSectionAt, is_start_count, block_layout_with, preamble_at, packed_parts_at}
+use Rattle.hdt_front.specs.Section.{section_at}
 
 -- ---- the checks of the numbers
 

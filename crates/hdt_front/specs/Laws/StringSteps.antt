@@ -1,5 +1,6 @@
 -- What the checks of all strings establish about the string of each index.
-use Rattle.std.proofs.Common.{◌≡◌, ℕ, zero, suc, ◌+◌, ◌-◌, ◌<◌, ◌≤◌, Bool, true, false, cond, List, [], ◌∷◌, length, drop, get_or, Ok, refl, sym, ap, ◌∙◌, arith, length-drop, add-one, add-zero, zero-add}
+use Rattle.std.proofs.Common.{◌≡◌, ℕ, zero, suc, ◌+◌, ◌-◌, ◌<◌, ◌≤◌, Bool, true, false, cond, List, [], ◌∷◌, length}
+use Rattle.std.proofs.Common.{drop, get_or, Ok, refl, sym, ap, ◌∙◌, arith, length-drop, add-one, add-zero, zero-add}
 use Rattle.std.proofs.lemmas.List.{drop-drop}
 use Rattle.hdt_wire.specs.Checks.{len_before_zero}
 use Rattle.hdt_wire.specs.VByte.{vbyte_at}

@@ -1,5 +1,6 @@
 -- Laws of reading bitmaps: the reader returns exactly what is encoded.
-use Rattle.std.proofs.Common.{◌≡◌, ℕ, ◌+◌, ◌<◌, ◌^◌, Bool, true, List, [], ◌∷◌, ◌++◌, length, eqb, ltb, Result, Ok, refl, sym, ap, subst, ◌∙◌, arith}
+use Rattle.std.proofs.Common.{◌≡◌, ℕ, ◌+◌, ◌<◌, ◌^◌, Bool, true, List, [], ◌∷◌, ◌++◌, length, eqb, ltb, Result, Ok}
+use Rattle.std.proofs.Common.{refl, sym, ap, subst, ◌∙◌, arith}
 use Rattle.std.specs.Prelude.{slice_range}
 use Rattle.std.proofs.lemmas.Bool.{eqb-true, ltb-true, lt-ltb}
 use Rattle.hdt_wire.specs.declared.fault.Fault.{Fault}
@@ -12,7 +13,8 @@ use Rattle.hdt_seq.specs.PackedBits.{bits, packed_bits}
 use Rattle.hdt_seq.specs.Laws.LittleEndian.{length-bits}
 use Rattle.hdt_seq.specs.Laws.Packing.{length-packed_bits, IsBytes-packed_bits, bits_packed}
 use Rattle.hdt_seq.specs.Sequence.{Sequence, with_crcs, byte_at, crc8_at, packed_at}
-use Rattle.hdt_seq.specs.Laws.Sequence.{byte_found, byte_only, crc8_found, with_crcs_found, with_crcs_only, packed_bytes, has_slice_if_encoded, encoded_if_has_slice, begins}
+use Rattle.hdt_seq.specs.Laws.Sequence.{byte_found, byte_only, crc8_found, with_crcs_found, with_crcs_only}
+use Rattle.hdt_seq.specs.Laws.Sequence.{packed_bytes, has_slice_if_encoded, encoded_if_has_slice, begins}
 use Rattle.hdt_seq.specs.Bits.{EncodesBits, bits_at, expected_bits_offsets, bits_encoding}
 
 -- the bits are encoded from the offset up to the end, with the offsets of the format

@@ -1,5 +1,6 @@
 -- Laws of reading log sequences: the reader returns exactly what is encoded.
-use Rattle.std.proofs.Common.{◌≡◌, ℕ, ◌+◌, ◌*◌, ◌<◌, ◌≤◌, ◌^◌, true, List, [], ◌∷◌, ◌++◌, length, get_or, eqb, leb, Result, Ok, refl, sym, ap, subst, ◌∙◌, arith}
+use Rattle.std.proofs.Common.{◌≡◌, ℕ, ◌+◌, ◌*◌, ◌<◌, ◌≤◌, ◌^◌, true, List, [], ◌∷◌, ◌++◌, length, get_or, eqb, leb}
+use Rattle.std.proofs.Common.{Result, Ok, refl, sym, ap, subst, ◌∙◌, arith}
 use Rattle.std.specs.Prelude.{slice_range}
 use Rattle.std.proofs.lemmas.Bool.{eqb-true, leb-true, le-leb}
 use Rattle.hdt_wire.specs.declared.fault.Fault.{Fault}
@@ -15,7 +16,8 @@ use Rattle.hdt_seq.specs.Laws.Width.{width_fits, width_narrow}
 use Rattle.hdt_seq.specs.PackedBits.{EachFits}
 use Rattle.hdt_seq.specs.Laws.Packing.{length-packed, IsBytes-packed, entries_packed}
 use Rattle.hdt_seq.specs.Sequence.{Sequence, with_crcs, byte_at, crc8_at, packed_at}
-use Rattle.hdt_seq.specs.Laws.Sequence.{byte_found, byte_only, byte_is, crc8_found, with_crcs_found, with_crcs_only, packed_bytes, has_slice_if_encoded, encoded_if_has_slice, begins}
+use Rattle.hdt_seq.specs.Laws.Sequence.{byte_found, byte_only, byte_is, crc8_found, with_crcs_found, with_crcs_only}
+use Rattle.hdt_seq.specs.Laws.Sequence.{packed_bytes, has_slice_if_encoded, encoded_if_has_slice, begins}
 use Rattle.hdt_seq.specs.Numbers.{EncodesNumbers, numbers_at, expected_numbers_offsets, numbers_encoding}
 
 -- the entries are encoded from the offset up to the end, with the offsets of the format

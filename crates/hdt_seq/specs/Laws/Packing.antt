@@ -1,7 +1,10 @@
 -- Laws of packing: adding one entry, and reading back what was packed.
-use Rattle.std.proofs.Common.{◌≡◌, ℕ, zero, suc, ◌+◌, ◌-◌, ◌*◌, ◌/◌, ◌%◌, ◌^◌, ◌<◌, ◌≤◌, Bool, true, false, eqb, List, [], ◌∷◌, ◌++◌, length, get_or, take, map, refl, ap, sym, subst, ◌∙◌, arith, inl, inr, append_assoc, length-append}
+use Rattle.std.proofs.Common.{◌≡◌, ℕ, zero, suc, ◌+◌, ◌-◌, ◌*◌, ◌/◌, ◌%◌, ◌^◌, ◌<◌, ◌≤◌, Bool, true, false, eqb, List}
+use Rattle.std.proofs.Common.{[], ◌∷◌, ◌++◌, length, get_or, take, map, refl, ap, sym, subst, ◌∙◌, arith, inl, inr}
+use Rattle.std.proofs.Common.{append_assoc, length-append}
 use Rattle.std.specs.Int.{byte_at, bytes_low_first}
-use Rattle.std.proofs.Math.Nat.{pow-suc, pow-le-pow_right, div-one, mod-one, mod-eq_of_lt, add-mul-mod_self_left, mul-le-mul_left, add-mul-div_right, mul-add, mul_assoc, mul_comm}
+use Rattle.std.proofs.Math.Nat.{pow-suc, pow-le-pow_right, div-one, mod-one, mod-eq_of_lt, add-mul-mod_self_left}
+use Rattle.std.proofs.Math.Nat.{mul-le-mul_left, add-mul-div_right, mul-add, mul_assoc, mul_comm}
 use Rattle.std.proofs.Math.Seq.{take-append_seam}
 use Rattle.std.proofs.lemmas.Bool.{cases_lt}
 use Rattle.std.proofs.lemmas.Nat.{pow_pos, pow-add, shr-shr, mod-pow-add, shr_high, shr_below}
@@ -11,7 +14,8 @@ use Rattle.byteorder.specs.Endian.{little_bytes}
 use Rattle.byteorder.specs.Numbers.{length-bytes_low_first}
 use Rattle.hdt_wire.specs.Checks.{IsBytes}
 use Rattle.hdt_wire.specs.Control.{IsPrefixOf}
-use Rattle.hdt_seq.specs.PackedBits.{EachFits, little, bytes_for, entry, entries, bit, bits, packed_number, packed, bit_number, packed_bits}
+use Rattle.hdt_seq.specs.PackedBits.{EachFits, little, bytes_for, entry, entries, bit, bits, packed_number, packed}
+use Rattle.hdt_seq.specs.PackedBits.{bit_number, packed_bits}
 
 -- ---- the bytes of a number
 

@@ -1,5 +1,6 @@
 -- Laws of rank and select.
-use Rattle.std.proofs.Common.{◌≡◌, ℕ, zero, suc, ◌+◌, ◌-◌, ◌<◌, ◌≤◌, Bool, true, false, cond, List, [], ◌∷◌, length, get_or, take, slice_get, Some, refl, ap, sym, ◌∙◌, arith, le_of_suc-le-suc, inl, inr}
+use Rattle.std.proofs.Common.{◌≡◌, ℕ, zero, suc, ◌+◌, ◌-◌, ◌<◌, ◌≤◌, Bool, true, false, cond, List, [], ◌∷◌, length}
+use Rattle.std.proofs.Common.{get_or, take, slice_get, Some, refl, ap, sym, ◌∙◌, arith, le_of_suc-le-suc, inl, inr}
 use Rattle.std.specs.List.{count_by, SomeIndex}
 use Rattle.std.proofs.Math.Nat.{lt_of_not-le}
 use Rattle.std.proofs.lemmas.Bool.{cases_lt}

@@ -1,5 +1,7 @@
 -- Laws of the checks that log sequences and bitmaps share: they return exactly what is in the input.
-use Rattle.std.proofs.Common.{◌≡◌, ℕ, zero, suc, ◌+◌, ◌*◌, ◌/◌, ◌%◌, ◌-◌, ◌<◌, ◌≤◌, ◌^◌, true, bit_xor, lit<, inl, inr, List, [], ◌∷◌, ◌++◌, length, get_or, drop, eqb, Result, Ok, refl, sym, ap, subst, ◌∙◌, arith}
+use Rattle.std.proofs.Common.{◌≡◌, ℕ, zero, suc, ◌+◌, ◌*◌, ◌/◌, ◌%◌, ◌-◌, ◌<◌, ◌≤◌, ◌^◌, true, bit_xor, lit<, inl, inr}
+use Rattle.std.proofs.Common.{List, [], ◌∷◌, ◌++◌, length, get_or, drop, eqb, Result, Ok, refl, sym, ap, subst, ◌∙◌}
+use Rattle.std.proofs.Common.{arith}
 use Rattle.std.specs.Prelude.{fold, slice_range}
 use Rattle.std.specs.Fn.{iterate}
 use Rattle.std.proofs.lemmas.Bool.{cases_Bool, eqb-true}
@@ -11,7 +13,8 @@ use Rattle.hdt_wire.specs.declared.fault.Fault.{Fault}
 use Rattle.hdt_wire.specs.declared.fault.Reason.TheVariants.{Check8, Check32}
 use Rattle.hdt_wire.specs.Crc.{shift_right, crc32_step, crc8, crc32}
 use Rattle.hdt_wire.specs.Checks.{bytes_at, IsBytes, HasSlice, EncodedAt}
-use Rattle.hdt_wire.specs.Laws.Checks.{demand_ok, bind_ok, IsBytes-take, IsBytes-drop, HasSlice-then, HasSlice-front, HasSlice-back, HasSlice-after, bytes_found, bytes_only}
+use Rattle.hdt_wire.specs.Laws.Checks.{demand_ok, bind_ok, IsBytes-take, IsBytes-drop, HasSlice-then, HasSlice-front}
+use Rattle.hdt_wire.specs.Laws.Checks.{HasSlice-back, HasSlice-after, bytes_found, bytes_only}
 use Rattle.hdt_seq.specs.PackedBits.{bytes_for}
 use Rattle.hdt_seq.specs.Sequence.{with_crcs, byte_at, crc8_at, packed_at}
 

@@ -1,5 +1,6 @@
 -- Laws of the number of binary digits, and of the greatest entry.
-use Rattle.std.proofs.Common.{◌≡◌, ℕ, zero, suc, ◌+◌, ◌-◌, ◌*◌, ◌/◌, ◌^◌, ◌<◌, ◌≤◌, max, List, [], ◌∷◌, get_or, refl, ap, sym, ◌∙◌, arith, add-one, suc-le-suc, inl, inr}
+use Rattle.std.proofs.Common.{◌≡◌, ℕ, zero, suc, ◌+◌, ◌-◌, ◌*◌, ◌/◌, ◌^◌, ◌<◌, ◌≤◌, max, List, [], ◌∷◌, get_or, refl}
+use Rattle.std.proofs.Common.{ap, sym, ◌∙◌, arith, add-one, suc-le-suc, inl, inr}
 use Rattle.std.specs.Prelude.{fold}
 use Rattle.std.proofs.Math.Nat.{pow-suc, pow-le-pow_right}
 use Rattle.std.proofs.lemmas.Bool.{cases_lt}

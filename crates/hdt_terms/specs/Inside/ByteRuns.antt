@@ -1,8 +1,10 @@
 -- Runs of bytes that pass a test, by index.
-use Rattle.std.specs.Prelude.{◌≡◌, ℕ, ◌+◌, ◌/◌, ◌<◌, ◌≤◌, Bool, true, false, not, ◌&&◌, ◌==◌, List, [], ◌∷◌, slice_index, bit_and}
+use Rattle.std.specs.Prelude.{◌≡◌, ℕ, ◌+◌, ◌/◌, ◌<◌, ◌≤◌, Bool, true, false, not, ◌&&◌, ◌==◌, List, [], ◌∷◌}
+use Rattle.std.specs.Prelude.{slice_index, bit_and}
 use Rattle.std.specs.Char.{is_ascii}
 use Rattle.hdt_terms.specs.declared.byte_runs.ByteClass.{ByteClass}
-use Rattle.hdt_terms.specs.declared.byte_runs.ByteClass.TheVariants.{Unescaped, NonzeroAscii, NotLineEnd, AsciiNotLineEnd}
+use Rattle.hdt_terms.specs.declared.byte_runs.ByteClass.TheVariants.{Unescaped, NonzeroAscii, NotLineEnd}
+use Rattle.hdt_terms.specs.declared.byte_runs.ByteClass.TheVariants.{AsciiNotLineEnd}
 use Rattle.hdt_terms.specs.Chars.{is_line_end}
 use Rattle.hdt_terms.specs.Grammar.{is_unescaped}
 

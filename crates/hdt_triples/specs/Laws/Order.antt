@@ -1,9 +1,11 @@
 -- The triples of four valid sequences ascend and are in range.
-use Rattle.std.proofs.Common.{◌≡◌, ◌⊎◌, ℕ, ◌+◌, ◌<◌, Bool, true, false, List, length, get_or, slice_get, slice_index, Some, inl, inr, sym, ap, subst, arith}
+use Rattle.std.proofs.Common.{◌≡◌, ◌⊎◌, ℕ, ◌+◌, ◌<◌, Bool, true, false, List, length, get_or, slice_get, slice_index}
+use Rattle.std.proofs.Common.{Some, inl, inr, sym, ap, subst, arith}
 use Rattle.std.proofs.lemmas.Option.{slice_get-get_or}
 use Rattle.hdt_seq.specs.RankSelect.{ones_before}
 use Rattle.hdt_seq.specs.Laws.RankSelect.{ones_before_after_1_bit, ones_before_after_0_bit, ones_before_last}
-use Rattle.hdt_triples.specs.TripleSequences.{BitmapTriples, subject_at, pair_of, triple_at, triples_of, AreConsistentSequences, AreAscendingGroups, AreValidSequences}
+use Rattle.hdt_triples.specs.TripleSequences.{BitmapTriples, subject_at, pair_of, triple_at, triples_of}
+use Rattle.hdt_triples.specs.TripleSequences.{AreConsistentSequences, AreAscendingGroups, AreValidSequences}
 use Rattle.hdt_triples.specs.declared.pattern.Counts.{Counts}
 use Rattle.hdt_triples.specs.Laws.TripleSequences.{length-triples, triple_is}
 use Rattle.hdt_triples.specs.Order.{TripleLess, AreAscending, IsInRange, AreInRange}

@@ -1,5 +1,7 @@
 -- The checks of the triples section are exact: they pass exactly for a valid encoding.
-use Rattle.std.proofs.Common.{◌≡◌, ℕ, zero, suc, ◌+◌, ◌-◌, ◌<◌, ◌≤◌, ◌&&◌, Bool, true, false, List, length, get_or, slice_get, slice_index, eqb, ltb, leb, Option, Some, None, inl, inr, refl, sym, ap, subst, ◌∙◌, arith, add-one, cond}
+use Rattle.std.proofs.Common.{◌≡◌, ℕ, zero, suc, ◌+◌, ◌-◌, ◌<◌, ◌≤◌, ◌&&◌, Bool, true, false, List, length, get_or}
+use Rattle.std.proofs.Common.{slice_get, slice_index, eqb, ltb, leb, Option, Some, None, inl, inr, refl, sym, ap, subst}
+use Rattle.std.proofs.Common.{◌∙◌, arith, add-one, cond}
 use Rattle.std.specs.Prelude.{codes, OnOk, Result, Ok, Err}
 use Rattle.hdt_wire.specs.declared.fault.Fault.{Fault}
 use Rattle.std.proofs.lemmas.Bool.{cases_lt, and_parts, eqb-true, ltb-true, lt-ltb, leb-true, le-leb}
@@ -8,7 +10,9 @@ use Rattle.std.proofs.lemmas.List.{get_or_past}
 use Rattle.std.proofs.lemmas.Option.{slice_get-get_or, get_or_from_slice_get}
 use Rattle.std.proofs.lemmas.Slice.Eq.{bytes_eq-Decides}
 use Rattle.hdt_wire.specs.declared.fault.Reason.{Reason}
-use Rattle.hdt_wire.specs.declared.fault.Reason.TheVariants.{TripleOrder, LengthsDiffer, LastMark, MarkCount, SubjectRange, PredicateRange, ObjectRange, PredicatesNotAscending, ObjectsNotAscending}
+use Rattle.hdt_wire.specs.declared.fault.Reason.TheVariants.{TripleOrder, LengthsDiffer, LastMark, MarkCount}
+use Rattle.hdt_wire.specs.declared.fault.Reason.TheVariants.{SubjectRange, PredicateRange, ObjectRange}
+use Rattle.hdt_wire.specs.declared.fault.Reason.TheVariants.{PredicatesNotAscending, ObjectsNotAscending}
 use Rattle.hdt_wire.specs.declared.control.Kind.TheVariants as kinds
 use Rattle.hdt_wire.specs.Checks.{IsBytes}
 use Rattle.hdt_wire.specs.Laws.Checks.{bind_ok, demand_ok}
@@ -25,7 +29,9 @@ use Rattle.hdt_seq.specs.Laws.ExactSequences.{numbers_exact, bits_exact}
 use Rattle.hdt_wire.specs.Laws.ExactPrimitives.{control_exact}
 use Rattle.hdt_triples.specs.TripleSequences.{AreAscendingGroups, AreValidSequences}
 use Rattle.hdt_triples.specs.declared.pattern.Counts.{Counts}
-use Rattle.hdt_triples.specs.Triples.{TripleParts, IsTriplesAt, bitmap_triples_of_sequences, sequence_checks, is_spo_order, previous_in_group, entry_checks, pair_checks, last_bit, all_pair_checks, all_object_checks, decode_triple_parts}
+use Rattle.hdt_triples.specs.Triples.{TripleParts, IsTriplesAt, bitmap_triples_of_sequences, sequence_checks}
+use Rattle.hdt_triples.specs.Triples.{is_spo_order, previous_in_group, entry_checks, pair_checks, last_bit}
+use Rattle.hdt_triples.specs.Triples.{all_pair_checks, all_object_checks, decode_triple_parts}
 
 -- ---- the property `order`, and the last bits
 

@@ -1,6 +1,7 @@
 -- The four sequences of writable triples are valid and encode these triples. Their bytes are read back, whatever
 -- precedes and follows them.
-use Rattle.std.proofs.Common.{◌≡◌, ℕ, ◌+◌, ◌<◌, ◌≤◌, ◌^◌, ◌&&◌, Bool, true, false, nat_eq, List, [], ◌∷◌, ◌++◌, length, get_or, map, codes, Some, inl, inr, refl, ap, sym, ◌∙◌, subst, arith, eqb, not}
+use Rattle.std.proofs.Common.{◌≡◌, ℕ, ◌+◌, ◌<◌, ◌≤◌, ◌^◌, ◌&&◌, Bool, true, false, nat_eq, List, [], ◌∷◌, ◌++◌, length}
+use Rattle.std.proofs.Common.{get_or, map, codes, Some, inl, inr, refl, ap, sym, ◌∙◌, subst, arith, eqb, not}
 use Rattle.std.proofs.lemmas.Bool.{cases_lt, and_parts, eqb-true, eq-eqb, eqb-false}
 use Rattle.std.proofs.lemmas.List.{get_or-map, get_or_past, length-map, get_or_default, same_lists}
 use Rattle.std.proofs.lemmas.List.FromFn.{length-map-range_with_len, get_or-map-range_with_len}
@@ -20,13 +21,16 @@ use Rattle.hdt_seq.specs.Laws.NumbersReading.{numbers_encodes}
 use Rattle.hdt_seq.specs.Bits.{EncodesBits, bits_encoding, expected_bits_offsets}
 use Rattle.hdt_seq.specs.Laws.BitsReading.{bits_encodes}
 use Rattle.hdt_seq.specs.ExactSequences.{IsLogSequenceAt, IsBitmapAt}
-use Rattle.hdt_triples.specs.TripleSequences.{Triple, BitmapTriples, triple_at, triples_of, AreConsistentSequences, AreAscendingGroups, AreValidSequences}
+use Rattle.hdt_triples.specs.TripleSequences.{Triple, BitmapTriples, triple_at, triples_of, AreConsistentSequences}
+use Rattle.hdt_triples.specs.TripleSequences.{AreAscendingGroups, AreValidSequences}
 use Rattle.hdt_triples.specs.declared.pattern.Counts.{Counts}
 use Rattle.hdt_triples.specs.Order.{nth_triple, TripleLess, CountsFit64, AreAtMostCounts, AreWritable}
 use Rattle.hdt_triples.specs.Groups.{group_end_bits}
-use Rattle.hdt_triples.specs.Laws.Group.{length-group_end_bits, last_end_bit_is_set, group_at, group_within, groups, linked_groups, first_group, counted, all_groups, get_or-map_any}
+use Rattle.hdt_triples.specs.Laws.Group.{length-group_end_bits, last_end_bit_is_set, group_at, group_within, groups}
+use Rattle.hdt_triples.specs.Laws.Group.{linked_groups, first_group, counted, all_groups, get_or-map_any}
 use Rattle.hdt_triples.specs.Triples.{IsTriplesAt}
-use Rattle.hdt_triples.specs.Writing.{pair_eq, all_pairs, distinct_pairs, sequences_of, order_property, canonical_sequences, sequences_parts, canonical_triples, canonical_triples_parts}
+use Rattle.hdt_triples.specs.Writing.{pair_eq, all_pairs, distinct_pairs, sequences_of, order_property}
+use Rattle.hdt_triples.specs.Writing.{canonical_sequences, sequences_parts, canonical_triples, canonical_triples_parts}
 
 pub pair_exact : (x y : ℕ × ℕ) → pair_eq x y ≡ true → x ≡ y
 pair_exact x y h =

@@ -1,10 +1,13 @@
 -- Laws of checks: what they return is in the input, and what is in the input passes them.
-use Rattle.std.proofs.Common.{◌≡◌, ◌≢◌, ℕ, ◌+◌, ◌-◌, ◌<◌, ◌≤◌, Bool, true, false, List, [], ◌∷◌, ◌++◌, length, get_or, take, drop, leb, ltb, eqb, Result, Ok, Err, refl, sym, ap, subst, ◌∙◌, arith, inl, inr, append_assoc, length-append, take-add}
+use Rattle.std.proofs.Common.{◌≡◌, ◌≢◌, ℕ, ◌+◌, ◌-◌, ◌<◌, ◌≤◌, Bool, true, false, List, [], ◌∷◌, ◌++◌, length, get_or}
+use Rattle.std.proofs.Common.{take, drop, leb, ltb, eqb, Result, Ok, Err, refl, sym, ap, subst, ◌∙◌, arith, inl, inr}
+use Rattle.std.proofs.Common.{append_assoc, length-append, take-add}
 use Rattle.std.specs.Prelude.{slice_range, not, All}
 use Rattle.std.proofs.Math.Seq.{take-append_seam, drop-append_seam, get_or-append_seam, get_or-append_right}
 use Rattle.std.proofs.lemmas.Bool.{cases_lt, leb-true, le-leb, ltb-true, lt-ltb, eqb-true, eqb-false}
 use Rattle.std.proofs.lemmas.List.Sums.{prefix_len_passes, prefix_len_stops, position_or_len_is}
-use Rattle.std.proofs.lemmas.List.{take_more, take-take, drop-take, get_or-take, get_or-drop, get_or_past, get_or_default, get_or_append_left, length-take, length-drop, drop-drop}
+use Rattle.std.proofs.lemmas.List.{take_more, take-take, drop-take, get_or-take, get_or-drop, get_or_past}
+use Rattle.std.proofs.lemmas.List.{get_or_default, get_or_append_left, length-take, length-drop, drop-drop}
 use Rattle.hdt_wire.specs.declared.fault.Fault.{Fault}
 use Rattle.hdt_wire.specs.declared.fault.Reason.{Reason}
 use Rattle.hdt_wire.specs.declared.fault.Reason.TheVariants.{Truncated}

@@ -1,5 +1,7 @@
 -- Laws of control information: the reader returns exactly what is encoded, and so what was written.
-use Rattle.std.proofs.Common.{◌≡◌, ℕ, ◌+◌, ◌*◌, ◌/◌, ◌%◌, ◌-◌, ◌<◌, ◌^◌, Bool, true, zero, suc, bit_xor, ltb, lit<, inl, inr, List, [], ◌∷◌, ◌++◌, length, get_or, drop, eqb, Result, Ok, refl, sym, ap, subst, ◌∙◌, arith, append_assoc, length-append}
+use Rattle.std.proofs.Common.{◌≡◌, ℕ, ◌+◌, ◌*◌, ◌/◌, ◌%◌, ◌-◌, ◌<◌, ◌^◌, Bool, true, zero, suc, bit_xor, ltb, lit<, inl}
+use Rattle.std.proofs.Common.{inr, List, [], ◌∷◌, ◌++◌, length, get_or, drop, eqb, Result, Ok, refl, sym, ap, subst}
+use Rattle.std.proofs.Common.{◌∙◌, arith, append_assoc, length-append}
 use Rattle.std.specs.Prelude.{◌≢◌, not, fold, slice_range}
 use Rattle.std.specs.Str.{bytes_eq}
 use Rattle.std.specs.Fn.{iterate}
@@ -17,8 +19,11 @@ use Rattle.hdt_wire.specs.declared.control.Kind.{Kind}
 use Rattle.hdt_wire.specs.declared.control.Kind.TheVariants.{Global, Header, Dictionary, Triples}
 use Rattle.hdt_wire.specs.Crc.{shift_right, crc16_step, crc16}
 use Rattle.hdt_wire.specs.Checks.{bytes_at, text_at, IsBytes, HasSlice}
-use Rattle.hdt_wire.specs.Laws.Checks.{demand_ok, bind_ok, not-true, IsBytes-take, IsBytes-drop, IsBytes-front, IsBytes-append, HasSlice-after, HasSlice-then, HasSlice-front, HasSlice-back, bytes_found, bytes_only, text_found, text_only}
-use Rattle.hdt_wire.specs.Control.{ControlInfo, IsControlAt, control_at, control, control_without_crc, expected_control_info, cookie, kind_code, format_text, HasNoZero}
+use Rattle.hdt_wire.specs.Laws.Checks.{demand_ok, bind_ok, not-true, IsBytes-take, IsBytes-drop, IsBytes-front}
+use Rattle.hdt_wire.specs.Laws.Checks.{IsBytes-append, HasSlice-after, HasSlice-then, HasSlice-front, HasSlice-back}
+use Rattle.hdt_wire.specs.Laws.Checks.{bytes_found, bytes_only, text_found, text_only}
+use Rattle.hdt_wire.specs.Control.{ControlInfo, IsControlAt, control_at, control, control_without_crc}
+use Rattle.hdt_wire.specs.Control.{expected_control_info, cookie, kind_code, format_text, HasNoZero}
 
 equal : (xs ys : List ℕ) → bytes_eq xs ys ≡ true → xs ≡ ys
 equal xs ys e = (bytes_eq-Decides xs ys).0 e

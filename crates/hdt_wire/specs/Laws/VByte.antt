@@ -1,10 +1,13 @@
 -- Laws of VByte numbers: each has one encoding, which is no prefix of another, and the reader returns exactly what is
 -- encoded.
-use Rattle.std.proofs.Common.{◌≡◌, ℕ, zero, suc, ◌+◌, ◌*◌, ◌-◌, ◌/◌, ◌%◌, ◌^◌, ◌<◌, ◌≤◌, Bool, true, ◌||◌, List, [], ◌∷◌, ◌++◌, length, get_or, take, drop, leb, ltb, eqb, Result, Ok, refl, lit<, sym, ap, subst, ◌∙◌, arith, inl, inr}
+use Rattle.std.proofs.Common.{◌≡◌, ℕ, zero, suc, ◌+◌, ◌*◌, ◌-◌, ◌/◌, ◌%◌, ◌^◌, ◌<◌, ◌≤◌, Bool, true, ◌||◌, List, []}
+use Rattle.std.proofs.Common.{◌∷◌, ◌++◌, length, get_or, take, drop, leb, ltb, eqb, Result, Ok, refl, lit<, sym, ap}
+use Rattle.std.proofs.Common.{subst, ◌∙◌, arith, inl, inr}
 use Rattle.std.specs.Prelude.{not, ◌⊎◌, slice_range}
 use Rattle.std.specs.List.{prefix_len, position_or_len}
 use Rattle.std.proofs.Math.Nat.{pow-suc, pow-le-pow_right}
-use Rattle.std.proofs.lemmas.Bool.{cases_lt, cases_order, leb-true, leb-false, ltb-true, lt-ltb, le-ltb, eqb-true, eqb-false, or_cases}
+use Rattle.std.proofs.lemmas.Bool.{cases_lt, cases_order, leb-true, leb-false, ltb-true, lt-ltb, le-ltb, eqb-true}
+use Rattle.std.proofs.lemmas.Bool.{eqb-false, or_cases}
 use Rattle.std.proofs.lemmas.List.Sums.{prefix_len_passes, prefix_len_stops}
 use Rattle.std.proofs.lemmas.List.{length-take, length-drop, get_or-take, take-take}
 use Rattle.std.proofs.lemmas.Grind.{common_steps}

@@ -3,7 +3,8 @@ use Rattle.hdt_terms.specs.declared.triple.Term.{Term}
 use Rattle.hdt_terms.specs.Grammar.{Encodes}
 use Rattle.hdt_build.specs.Inside.Collecting.{collected_triples}
 use Rattle.hdt_build.specs.Reading.{most, HasDictionaryStrings}
-use Rattle.hdt_build.proofs.DocumentReading.{IsReadSoFar, at_end, either, run_begins, run_on, texts_more, no_texts, line_of, triple_size, converted_fault, not_read}
+use Rattle.hdt_build.proofs.DocumentReading.{IsReadSoFar, at_end, either, run_begins, run_on, texts_more, no_texts}
+use Rattle.hdt_build.proofs.DocumentReading.{line_of, triple_size, converted_fault, not_read}
 use Rattle.hdt_build.proofs.reading.read_triples.Goals as goal
 
 pub triples-init : goal.triples-init

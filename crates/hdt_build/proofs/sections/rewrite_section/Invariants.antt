@@ -2,7 +2,8 @@ use Rattle.std.proofs.Common.{◌≡◌, ◌+◌, ◌-◌, ◌≤◌, length}
 use Rattle.hdt_front.specs.WriterState.{last_string}
 use Rattle.hdt_file.specs.Denoted.{string_of}
 use Rattle.hdt_file.specs.Graph.{graph_view}
-use Rattle.hdt_build.specs.Inside.Rewriting.{section_role, RetainsId, first_run_end, second_run_end, IsValidRun, HasPrefixLength}
+use Rattle.hdt_build.specs.Inside.Rewriting.{section_role, RetainsId, first_run_end, second_run_end, IsValidRun}
+use Rattle.hdt_build.specs.Inside.Rewriting.{HasPrefixLength}
 use Rattle.hdt_build.proofs.RunMerging.{InWork, Ahead}
 use Rattle.hdt_build.proofs.sections.rewrite_section.Given as goal
 

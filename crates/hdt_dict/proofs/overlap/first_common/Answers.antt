@@ -1,6 +1,7 @@
 use Rattle.std.proofs.Common.{true, false, [], unwrap_or, ◌||◌, sym, ◌∙◌}
 use Rattle.hdt_dict.specs.Inside.Overlap.{contains_string}
-use Rattle.hdt_dict.proofs.Overlaps.{meets, turned, among_after, ascends_after, ascends_passed, or_left, or_right, or_none, or_both}
+use Rattle.hdt_dict.proofs.Overlaps.{meets, turned, among_after, ascends_after, ascends_passed, or_left, or_right}
+use Rattle.hdt_dict.proofs.Overlaps.{or_none, or_both}
 use Rattle.hdt_dict.proofs.ComparisonUpdates.{list_turned, is_met}
 use Rattle.hdt_dict.proofs.overlap.first_common.Goals as goal
 use Rattle.hdt_dict.proofs.overlap.first_common.Goals.{then-eq-via-then-eq, then-eq-via-else-eq+then-eq-2}

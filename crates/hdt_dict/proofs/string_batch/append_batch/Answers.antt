@@ -1,4 +1,5 @@
-use Rattle.std.proofs.Common.{◌≡◌, ◌-◌, ◌++◌, [], ℕ, List, length, max, slice_index, slice_index_or, Bor, option_copied, append_assoc, ap, sym, ◌∙◌, arith, subst}
+use Rattle.std.proofs.Common.{◌≡◌, ◌-◌, ◌++◌, [], ℕ, List, length, max, slice_index, slice_index_or, Bor, option_copied}
+use Rattle.std.proofs.Common.{append_assoc, ap, sym, ◌∙◌, arith, subst}
 use Rattle.std.proofs.lemmas.List.{append-nil}
 use Rattle.hdt_front.specs.Strings.{strings_of, block_size}
 use Rattle.hdt_front.specs.SeekerState.{SeekerState}

@@ -1,5 +1,6 @@
 use Rattle.std.proofs.lemmas.Result.{err_from_is_err_and}
-use Rattle.hdt_file.proofs.RenderedTermLaws.{same_rendered, line_made, subject_reported, predicate_reported, object_reported}
+use Rattle.hdt_file.proofs.RenderedTermLaws.{same_rendered, line_made, subject_reported, predicate_reported}
+use Rattle.hdt_file.proofs.RenderedTermLaws.{object_reported}
 use Rattle.hdt_file.proofs.term_tables.append_line_from_tables.Goals as goal
 
 pub returns-in_err-append_rendered-clause-err : goal.returns-in_err-append_rendered-clause-err

@@ -3,7 +3,8 @@ use Rattle.hdt_dict.specs.Arena.{arena_strings}
 use Rattle.hdt_file.specs.Graph.{layout_view}
 use Rattle.hdt_file.specs.Inside.RenderedTerms.{AreRendered, AppendsRenderedIfMarked, is_marked}
 use Rattle.hdt_dict.specs.Dictionary.{role_strings}
-use Rattle.hdt_file.proofs.RenderedTermLaws.{RenderedUpTo, ExtendsToAll, begins, one_more, all_made, given, numbered_next, ended}
+use Rattle.hdt_file.proofs.RenderedTermLaws.{RenderedUpTo, ExtendsToAll, begins, one_more, all_made, given}
+use Rattle.hdt_file.proofs.RenderedTermLaws.{numbered_next, ended}
 use Rattle.hdt_file.proofs.term_tables.render_marked.Goals as goal
 
 pub strings-init : goal.strings-init

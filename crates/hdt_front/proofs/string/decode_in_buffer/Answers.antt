@@ -7,7 +7,10 @@ use Rattle.hdt_front.specs.Strings.{blocks_of}
 use Rattle.hdt_front.proofs.CheckedBlocks.{block_head}
 use Rattle.hdt_front.proofs.SimdLoads.{zero_behind}
 use Rattle.hdt_front.proofs.DecodingLemmas.{block_within, head_partly_decoded, next_partly_decoded, more_partly_decoded}
-use Rattle.hdt_front.proofs.string.decode_in_buffer.Goals.{then-loop-rest-test+else-buffer-at-ge-LANES, else-loop-rest-test, then-loop-rest-test+then-buffer-at-ge-LANES+then-run-lt-LANES+then-done-many, then-loop-rest-test+then-buffer-at-ge-LANES+then-run-lt-LANES+else-done-many+in_default}
+use Rattle.hdt_front.proofs.string.decode_in_buffer.Goals.{then-loop-rest-test+else-buffer-at-ge-LANES}
+use Rattle.hdt_front.proofs.string.decode_in_buffer.Goals.{else-loop-rest-test}
+use Rattle.hdt_front.proofs.string.decode_in_buffer.Goals.{then-loop-rest-test+then-buffer-at-ge-LANES+then-run-lt-LANES+then-done-many}
+use Rattle.hdt_front.proofs.string.decode_in_buffer.Goals.{then-loop-rest-test+then-buffer-at-ge-LANES+then-run-lt-LANES+else-done-many+in_default}
 use Rattle.hdt_front.proofs.string.decode_in_buffer.Goals as goal
 
 pub bytes_from_block-rest-requires : goal.bytes_from_block-rest-requires

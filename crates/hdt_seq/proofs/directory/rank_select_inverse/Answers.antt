@@ -1,5 +1,6 @@
 use Rattle.std.proofs.Common.{refl}
-use Rattle.hdt_seq.specs.Laws.RankSelect.{some_select, select_unique, select_ascends, ones_through_select, ones_before_mono}
+use Rattle.hdt_seq.specs.Laws.RankSelect.{some_select, select_unique, select_ascends, ones_through_select}
+use Rattle.hdt_seq.specs.Laws.RankSelect.{ones_before_mono}
 use Rattle.hdt_seq.proofs.directory.rank_select_inverse.Goals as goal
 
 pub returns-clause-number : goal.returns-clause-number

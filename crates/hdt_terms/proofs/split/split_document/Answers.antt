@@ -1,4 +1,5 @@
-use Rattle.std.proofs.Common.{◌≡◌, ◌∷◌, ◌++◌, ◌∙◌, [], ap, arith, drop, inl, inr, length, map, refl, sym, take, take-append-drop}
+use Rattle.std.proofs.Common.{◌≡◌, ◌∷◌, ◌++◌, ◌∙◌, [], ap, arith, drop, inl, inr, length, map, refl, sym, take}
+use Rattle.std.proofs.Common.{take-append-drop}
 use Rattle.std.proofs.lemmas.List.{length-map}
 use Rattle.std.proofs.lemmas.Result.{err_from_is_err_and}
 use Rattle.hdt_wire.specs.Counted.{inner}
@@ -6,7 +7,9 @@ use Rattle.hdt_terms.specs.LinesReader.{line_number}
 use Rattle.hdt_terms.specs.Documents.{DocumentLine}
 use Rattle.hdt_terms.specs.Lint.{numbered}
 use Rattle.hdt_terms.proofs.DocumentLines.{all_read, begins_with, fault_behind, none_read, read_on}
-use Rattle.hdt_terms.proofs.SplitLines.{at_most_one, collected_on, count_on, each_pending, each_wrote, each_wrote_all, empty_texts, none_collected, not_read, nothing_split, stopped_at_line, stopped_at_write, taken_within, written_back}
+use Rattle.hdt_terms.proofs.SplitLines.{at_most_one, collected_on, count_on, each_pending, each_wrote, each_wrote_all}
+use Rattle.hdt_terms.proofs.SplitLines.{empty_texts, none_collected, not_read, nothing_split, stopped_at_line}
+use Rattle.hdt_terms.proofs.SplitLines.{stopped_at_write, taken_within, written_back}
 use Rattle.hdt_terms.proofs.split.split_document.Goals as goal
 
 pub returns-in_err-lines-clause-stopped : goal.returns-in_err-lines-clause-stopped

@@ -4,7 +4,8 @@ use Rattle.hdt_wire.specs.Counted.{inner, failures}
 use Rattle.hdt_dict.specs.Dictionary.{role_strings}
 use Rattle.hdt_tool.specs.Outcomes.{Prints, PrintsCountingNonTerms, PrintsWithCount, ReadsWith}
 use Rattle.hdt_tool.specs.StringsText.{string_lines}
-use Rattle.hdt_tool.proofs.Outputs.{IsWriteFault, counts_non_terms, counts_nothing, nothing_built, prints_text, reads_printed, writes_prefix}
+use Rattle.hdt_tool.proofs.Outputs.{IsWriteFault, counts_non_terms, counts_nothing, nothing_built, prints_text}
+use Rattle.hdt_tool.proofs.Outputs.{reads_printed, writes_prefix}
 use Rattle.hdt_tool.proofs.Pieces.{all_lines, role_halts, role_reported, role_writes}
 use Rattle.hdt_tool.proofs.commands.print_and_count.Goals as goal
 

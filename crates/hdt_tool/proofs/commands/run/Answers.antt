@@ -1,11 +1,13 @@
-use Rattle.std.proofs.Common.{◌≡◌, ◌↔◌, ◌∙◌, ℕ, List, Ok, Err, IfErr, IsErrOf, OnErr, OnOk, ap, length, rules, subst, sym}
+use Rattle.std.proofs.Common.{◌≡◌, ◌↔◌, ◌∙◌, ℕ, List, Ok, Err, IfErr, IsErrOf, OnErr, OnOk, ap, length, rules, subst}
+use Rattle.std.proofs.Common.{sym}
 use Rattle.std.specs.Io.KnownBytes.{Appends}
 use Rattle.std.proofs.lemmas.Result.{err_from_is_err_and, on_ok_weaker}
 use Rattle.std.specs.declared.alloc.Global.{Global}
 use Rattle.std.specs.declared.vec.Vec.{Vec}
 use Rattle.hdt_wire.specs.Counted.{inner, failures}
 use Rattle.hdt_tool.specs.declared.fault.ToolFault.TheVariants.{BadOptions}
-use Rattle.hdt_tool.proofs.Outputs.{IsWriteFault, completes, if_build, no_options, not_bad_writing, nothing_built, only_writing, read_only, restored, writes_prefix}
+use Rattle.hdt_tool.proofs.Outputs.{IsWriteFault, completes, if_build, no_options, not_bad_writing, nothing_built}
+use Rattle.hdt_tool.proofs.Outputs.{only_writing, read_only, restored, writes_prefix}
 use Rattle.hdt_tool.proofs.Rewriting.{not_error, same_error, still_bad}
 use Rattle.hdt_tool.proofs.commands.run.Goals as goal
 

@@ -3,7 +3,9 @@ use Rattle.std.proofs.KnownBytes.{Appends-nil}
 use Rattle.std.proofs.lemmas.Result.{err_from_is_err_and}
 use Rattle.hdt_wire.specs.Counted.{inner}
 use Rattle.hdt_terms.specs.LinesReader.{line_number}
-use Rattle.hdt_tool.proofs.Dialogues.{begun, cut_answer, cut_pending, front_answered, gained_all, gained_answer, gained_on, gone_some, pending_or_held, lines_on, nothing_answered, reader_failed, refused_behind, unread_line}
+use Rattle.hdt_tool.proofs.Dialogues.{begun, cut_answer, cut_pending, front_answered, gained_all, gained_answer}
+use Rattle.hdt_tool.proofs.Dialogues.{gained_on, gone_some, pending_or_held, lines_on, nothing_answered, reader_failed}
+use Rattle.hdt_tool.proofs.Dialogues.{refused_behind, unread_line}
 use Rattle.hdt_tool.specs.Faults.{fault_of_reason}
 use Rattle.hdt_tool.proofs.dialogue.answer_requests.Goals as goal
 

@@ -1,6 +1,7 @@
 use Rattle.std.proofs.Common.{◌∙◌, ap, sym, arith, Some}
 use Rattle.hdt_seq.specs.Bits.{bits_of}
-use Rattle.hdt_seq.specs.Laws.RankSelect.{ones_before_at_0, ones_before_after_1_bit, ones_before_after_0_bit, ones_before_le}
+use Rattle.hdt_seq.specs.Laws.RankSelect.{ones_before_at_0, ones_before_after_1_bit, ones_before_after_0_bit}
+use Rattle.hdt_seq.specs.Laws.RankSelect.{ones_before_le}
 use Rattle.hdt_triples.proofs.checks.ones_before.Goals as goal
 use Rattle.hdt_triples.proofs.checks.ones_before.Goals.{then-get, else-get}
 

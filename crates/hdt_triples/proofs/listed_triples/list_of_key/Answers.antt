@@ -1,7 +1,8 @@
 use Rattle.std.proofs.Common.{sym, arith, inl, inr}
 use Rattle.hdt_triples.proofs.InvertedIndexLaws.{no_key, key_part}
 use Rattle.hdt_triples.proofs.listed_triples.list_of_key.Goals as goal
-use Rattle.hdt_triples.proofs.listed_triples.list_of_key.Goals.{then-key-eq0-via-then-key-eq0, then-key-eq0-via-else-key-eq0+then-key-starts}
+use Rattle.hdt_triples.proofs.listed_triples.list_of_key.Goals.{then-key-eq0-via-then-key-eq0}
+use Rattle.hdt_triples.proofs.listed_triples.list_of_key.Goals.{then-key-eq0-via-else-key-eq0+then-key-starts}
 
 pub returns-then-key-eq0-clause-is : goal.returns-then-key-eq0-clause-is
 returns-then-key-eq0-clause-is c = λ xs greatest lists keys.

@@ -3,7 +3,8 @@ use Rattle.hdt_front.specs.Order.{lcp_len}
 use Rattle.hdt_front.specs.Iteration.{strings}
 use Rattle.hdt_dict.specs.RoleSections.{second_strings}
 use Rattle.hdt_dict.specs.Iteration.{RoleIterState, step_role_iter, next_id}
-use Rattle.hdt_dict.proofs.IterationSteps.{front_kept, ended, empty, no_strings, stays, behind, no_next, unmoved, took, Took}
+use Rattle.hdt_dict.proofs.IterationSteps.{front_kept, ended, empty, no_strings, stays, behind, no_next, unmoved, took}
+use Rattle.hdt_dict.proofs.IterationSteps.{Took}
 use Rattle.hdt_dict.proofs.role_iter.RoleIter.next_with_prefix_len.Goals as goal
 use Rattle.hdt_dict.proofs.role_iter.RoleIter.next_with_prefix_len.Goals.{After-new-iter, Else-is_none}
 

@@ -1,4 +1,5 @@
-use Rattle.std.proofs.Common.{◌≡◌, ◌<◌, ◌≤◌, ◌+◌, ◌*◌, ℕ, refl, ap, sym, ◌∙◌, List, [], take, drop, length, subst, get_or}
+use Rattle.std.proofs.Common.{◌≡◌, ◌<◌, ◌≤◌, ◌+◌, ◌*◌, ℕ, refl, ap, sym, ◌∙◌, List, [], take, drop, length, subst}
+use Rattle.std.proofs.Common.{get_or}
 use Rattle.hdt_wire.specs.Checks.{len_before_zero}
 use Rattle.hdt_front.specs.Order.{string_cmp, lcp_len}
 use Rattle.hdt_front.specs.Strings.{strings_of, blocks_of}

@@ -1,4 +1,5 @@
-use Rattle.std.proofs.Common.{◌≡◌, ◌≤◌, ◌<◌, ◌+◌, ◌-◌, ◌*◌, List, [], ℕ, arith, ap, ◌∙◌, length, nat_eq, subst, get_or, true}
+use Rattle.std.proofs.Common.{◌≡◌, ◌≤◌, ◌<◌, ◌+◌, ◌-◌, ◌*◌, List, [], ℕ, arith, ap, ◌∙◌, length, nat_eq, subst, get_or}
+use Rattle.std.proofs.Common.{true}
 use Rattle.std.proofs.lemmas.List.Sums.{common_prefix_len-le}
 use Rattle.std.specs.declared.cmp.Ordering.TheVariants.{Equal, Greater}
 use Rattle.hdt_front.specs.Strings.{strings_of, blocks_of}

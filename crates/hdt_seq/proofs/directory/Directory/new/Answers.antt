@@ -1,4 +1,5 @@
-use Rattle.std.proofs.Common.{ℕ, arith, ap, sym, ◌∙◌, ◌≡◌, ◌<◌, ◌+◌, ◌*◌, ◌++◌, ◌∷◌, [], List, min, length, slice_index, get_or, ◌⊎◌, inl, inr, eq-or-lt_of_le, length-append}
+use Rattle.std.proofs.Common.{ℕ, arith, ap, sym, ◌∙◌, ◌≡◌, ◌<◌, ◌+◌, ◌*◌, ◌++◌, ◌∷◌, [], List, min, length, slice_index}
+use Rattle.std.proofs.Common.{get_or, ◌⊎◌, inl, inr, eq-or-lt_of_le, length-append}
 use Rattle.std.proofs.Math.Seq.{get_or-append_seam}
 use Rattle.std.proofs.lemmas.List.{get_or_append_left}
 use Rattle.hdt_seq.specs.RankSelect.{ones_before}

@@ -2,7 +2,8 @@ use Rattle.std.proofs.Common.{◌+◌, ◌≤◌, ap, length, refl, rules, ◌�
 use Rattle.std.proofs.lemmas.Result.{err_from_is_err_and}
 use Rattle.hdt_terms.specs.Lines.{HasNoLineEnd}
 use Rattle.hdt_terms.specs.LinesReader.{LinesState}
-use Rattle.hdt_terms.proofs.LinePrefixes.{front_ended, front_last, holds_none, no_memory, none_held, passing_all, passing_none, passing_on, unread_on}
+use Rattle.hdt_terms.proofs.LinePrefixes.{front_ended, front_last, holds_none, no_memory, none_held, passing_all}
+use Rattle.hdt_terms.proofs.LinePrefixes.{passing_none, passing_on, unread_on}
 use Rattle.hdt_terms.proofs.lines.Lines.take_prefix.Goals as goal
 
 pub pieces-init : goal.pieces-init

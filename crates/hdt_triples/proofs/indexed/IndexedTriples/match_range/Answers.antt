@@ -2,10 +2,12 @@ use Rattle.std.proofs.Common.{arith, ◌-◌, sym, ◌∙◌, length}
 use Rattle.std.proofs.lemmas.Option.{none-some}
 use Rattle.hdt_seq.specs.Laws.Width.{digits_mono}
 use Rattle.hdt_triples.specs.Views.{triples_view}
-use Rattle.hdt_triples.proofs.RunLaws.{no_run, pair_run, whole_run, before_run, objects_ascend, one_run, one_before, none_run, not_there}
+use Rattle.hdt_triples.proofs.RunLaws.{no_run, pair_run, whole_run, before_run, objects_ascend, one_run, one_before}
+use Rattle.hdt_triples.proofs.RunLaws.{none_run, not_there}
 use Rattle.hdt_triples.proofs.AscentLaws.{ascend_all}
 use Rattle.hdt_triples.proofs.indexed.IndexedTriples.match_range.Goals as goal
-use Rattle.hdt_triples.proofs.indexed.IndexedTriples.match_range.Goals.{else-position-end-via-then-position-end+else-read_entry-object, else-position-end-via-else-position-end}
+use Rattle.hdt_triples.proofs.indexed.IndexedTriples.match_range.Goals.{else-position-end-via-then-position-end+else-read_entry-object}
+use Rattle.hdt_triples.proofs.indexed.IndexedTriples.match_range.Goals.{else-position-end-via-else-position-end}
 
 pub returns-in_default-clause-run : goal.returns-in_default-clause-run
 unfolding triples_view

@@ -5,7 +5,8 @@ use Rattle.hdt_triples.proofs.AscentLaws.{ascend_all}
 use Rattle.hdt_triples.proofs.PredicateObjectLaws.{edges_ascend, object_found, object_missed}
 use Rattle.hdt_triples.proofs.RunLaws.{not_there}
 use Rattle.hdt_triples.proofs.indexed.IndexedTriples.object_in_pair.Goals as goal
-use Rattle.hdt_triples.proofs.indexed.IndexedTriples.object_in_pair.Goals.{else-here-end-via-then-here-end+else-read_entry-object, else-here-end-via-else-here-end}
+use Rattle.hdt_triples.proofs.indexed.IndexedTriples.object_in_pair.Goals.{else-here-end-via-then-here-end+else-read_entry-object}
+use Rattle.hdt_triples.proofs.indexed.IndexedTriples.object_in_pair.Goals.{else-here-end-via-else-here-end}
 
 pub lower_bound_in-here-requires-clause-ascend : goal.lower_bound_in-here-requires-clause-ascend
 unfolding triples_view

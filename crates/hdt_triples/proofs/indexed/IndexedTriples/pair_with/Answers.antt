@@ -4,7 +4,8 @@ use Rattle.hdt_triples.specs.Views.{triples_view}
 use Rattle.hdt_triples.proofs.RunLaws.{only_found, pairs_ascend}
 use Rattle.hdt_triples.proofs.AscentLaws.{ascend_all}
 use Rattle.hdt_triples.proofs.indexed.IndexedTriples.pair_with.Goals as goal
-use Rattle.hdt_triples.proofs.indexed.IndexedTriples.pair_with.Goals.{else-pair-high-via-then-pair-high+else-read_entry-predicate, else-pair-high-via-else-pair-high}
+use Rattle.hdt_triples.proofs.indexed.IndexedTriples.pair_with.Goals.{else-pair-high-via-then-pair-high+else-read_entry-predicate}
+use Rattle.hdt_triples.proofs.indexed.IndexedTriples.pair_with.Goals.{else-pair-high-via-else-pair-high}
 
 pub returns-then-read_entry-predicate-clause-cost : goal.returns-then-read_entry-predicate-clause-cost
 unfolding triples_view

@@ -5,7 +5,8 @@ use Rattle.hdt_seq.specs.Laws.RankSelect.{ones_before_at_0}
 use Rattle.hdt_triples.proofs.RunLaws.{no_pairs, pairs_between, ordered}
 use Rattle.hdt_seq.specs.Laws.Bits.{bits_below}
 use Rattle.hdt_triples.proofs.indexed.IndexedTriples.pairs_of_subject.Goals as goal
-use Rattle.hdt_triples.proofs.indexed.IndexedTriples.pairs_of_subject.Goals.{then-subject-eq0-via-then-subject-eq0, then-subject-eq0-via-else-subject-eq0+then-subject-subjects}
+use Rattle.hdt_triples.proofs.indexed.IndexedTriples.pairs_of_subject.Goals.{then-subject-eq0-via-then-subject-eq0}
+use Rattle.hdt_triples.proofs.indexed.IndexedTriples.pairs_of_subject.Goals.{then-subject-eq0-via-else-subject-eq0+then-subject-subjects}
 
 pub returns-then-subject-eq0-clause-are : goal.returns-then-subject-eq0-clause-are
 unfolding triples_view

@@ -3,7 +3,8 @@ use Rattle.hdt_triples.specs.Views.{triples_view}
 use Rattle.hdt_triples.proofs.SubjectLaws.{before_start, subject_above}
 use Rattle.hdt_seq.specs.Laws.Bits.{bits_below}
 use Rattle.hdt_triples.proofs.indexed.IndexedTriples.start_of_subject.Goals as goal
-use Rattle.hdt_triples.proofs.indexed.IndexedTriples.start_of_subject.Goals.{then-subject-eq0-via-then-subject-eq0, then-subject-eq0-via-else-subject-eq0+then-subject-subjects}
+use Rattle.hdt_triples.proofs.indexed.IndexedTriples.start_of_subject.Goals.{then-subject-eq0-via-then-subject-eq0}
+use Rattle.hdt_triples.proofs.indexed.IndexedTriples.start_of_subject.Goals.{then-subject-eq0-via-else-subject-eq0+then-subject-subjects}
 
 pub returns-then-subject-eq0-clause-before : goal.returns-then-subject-eq0-clause-before
 unfolding triples_view

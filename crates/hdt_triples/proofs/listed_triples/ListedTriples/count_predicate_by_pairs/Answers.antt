@@ -9,7 +9,8 @@ use Rattle.hdt_triples.proofs.MatchCountLaws.{between_on, pairs_paid, pairs_pay_
 use Rattle.hdt_triples.proofs.PredicateLaws.{between_first, next_of, predicate_over}
 use Rattle.hdt_triples.proofs.ScanLaws.{from_start, matches_fit}
 use Rattle.hdt_triples.proofs.listed_triples.ListedTriples.count_predicate_by_pairs.Goals as goal
-use Rattle.hdt_triples.proofs.listed_triples.ListedTriples.count_predicate_by_pairs.Goals.{then-pairs-test+else-not-is_empty, else-pairs-test}
+use Rattle.hdt_triples.proofs.listed_triples.ListedTriples.count_predicate_by_pairs.Goals.{then-pairs-test+else-not-is_empty}
+use Rattle.hdt_triples.proofs.listed_triples.ListedTriples.count_predicate_by_pairs.Goals.{else-pairs-test}
 
 pub pairs-init : goal.pairs-init
 pairs-init c =

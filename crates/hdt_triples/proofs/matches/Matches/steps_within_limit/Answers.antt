@@ -1,7 +1,8 @@
 use Rattle.std.proofs.Common.{◌≤◌, arith}
 use Rattle.hdt_triples.specs.Remaining.{step_limit, steps_taken}
 use Rattle.hdt_triples.specs.declared.matches.Matches.{Matches}
-use Rattle.hdt_triples.specs.declared.matches.Matches.TheVariants.{Empty, Scan, Subject, SubjectObject, Pair, Predicate, PredicateObject, Object}
+use Rattle.hdt_triples.specs.declared.matches.Matches.TheVariants.{Empty, Scan, Subject, SubjectObject, Pair, Predicate}
+use Rattle.hdt_triples.specs.declared.matches.Matches.TheVariants.{PredicateObject, Object}
 use Rattle.hdt_triples.proofs.matches.Matches.steps_within_limit.Goals as goal
 
 few : (m : Matches) → steps_taken m ≤ step_limit m

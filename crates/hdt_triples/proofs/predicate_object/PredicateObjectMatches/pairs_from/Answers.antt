@@ -6,7 +6,8 @@ use Rattle.hdt_triples.specs.Laws.Order.{pair_within}
 use Rattle.hdt_triples.proofs.PositionListLaws.{list_ascends}
 use Rattle.hdt_triples.proofs.StartLaws.{before_next_pair, before_pair, pair_left, pair_passed, positions_left}
 use Rattle.hdt_triples.proofs.predicate_object.PredicateObjectMatches.pairs_from.Goals as goal
-use Rattle.hdt_triples.proofs.predicate_object.PredicateObjectMatches.pairs_from.Goals.{else-from-here-via-then-from-here+else-here-end, else-from-here-via-else-from-here}
+use Rattle.hdt_triples.proofs.predicate_object.PredicateObjectMatches.pairs_from.Goals.{else-from-here-via-then-from-here+else-here-end}
+use Rattle.hdt_triples.proofs.predicate_object.PredicateObjectMatches.pairs_from.Goals.{else-from-here-via-else-from-here}
 
 pub object_in_pair-here-requires : goal.object_in_pair-here-requires
 unfolding triples_view

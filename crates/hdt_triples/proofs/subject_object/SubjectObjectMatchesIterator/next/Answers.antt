@@ -9,7 +9,8 @@ use Rattle.hdt_triples.specs.declared.matches.Matches.TheVariants.{SubjectObject
 use Rattle.hdt_triples.proofs.ProgressLaws.{progress_some}
 use Rattle.hdt_triples.proofs.TriplePositionLaws.{within_pairs}
 use Rattle.hdt_triples.proofs.SubjectLaws.{matches_over}
-use Rattle.hdt_triples.proofs.SubjectObjectLaws.{IsWithinListBudget, goes_hit, goes_miss, goes_short, budget_after, some_price, scan_missed, scan_taken}
+use Rattle.hdt_triples.proofs.SubjectObjectLaws.{IsWithinListBudget, goes_hit, goes_miss, goes_short, budget_after}
+use Rattle.hdt_triples.proofs.SubjectObjectLaws.{some_price, scan_missed, scan_taken}
 use Rattle.hdt_triples.proofs.ScanLaws.{matches_none}
 use Rattle.hdt_triples.proofs.subject_object.SubjectObjectMatchesIterator.next.Goals as goal
 
