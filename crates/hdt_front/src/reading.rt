@@ -1,20 +1,15 @@
-//! Reading a section.
-ghost use Rattle.std.specs.Prelude.{◌≡◌, ◌≤◌, ◌<◌, ◌+◌, ◌||◌, ◌==◌, not, ℕ, [], length, slice_index, IfOk, Ok, Err};
+//! Reading the parts of a section, and all checks but those of its strings.
+ghost use Rattle.std.specs.Prelude.{◌≡◌, ◌≤◌, ◌<◌, ◌+◌, ◌||◌, ◌==◌, not, ℕ, [], length, slice_index, IfOk};
 ghost use Rattle.hdt_wire.specs.declared.fault.Reason.TheVariants.{BlockPlace as BlockPlaceOf};
-ghost use Rattle.hdt_wire.specs.declared.fault.Fault.{Fault as FaultIs};
-ghost use Rattle.hdt_wire.specs.Checks.{demand as demand_is, ReadsUnlessOom, Reads};
-ghost use Rattle.hdt_front.specs.declared.section.ReadFault.TheVariants.{Fault as FaultOf};
+ghost use Rattle.hdt_wire.specs.Checks.{demand as demand_is, Reads};
 ghost use Rattle.hdt_front.specs.Inside.ReadViews.{preamble_view, packed_parts_view};
 ghost use Rattle.hdt_seq.specs.Numbers.{numbers_of, numbers_offsets};
 ghost use Rattle.hdt_seq.specs.Sequence.{entry_offset};
-ghost use Rattle.hdt_front.specs.Section.{SectionParts, IsSectionAt, preamble_at, packed_parts_at, section_at};
-ghost use Rattle.hdt_front.specs.Section.{is_start_count};
+ghost use Rattle.hdt_front.specs.Section.{is_start_count, preamble_at, packed_parts_at};
 
 use crate::packed::PackedStrings;
-use crate::section::{ReadFault, Section};
 use hdt_seq::{Numbers, byte_at, crc8_at, packed_at};
 use hdt_wire::{Fault, Reason, demand, read_vbyte};
-use std::alloc::Global;
 
 /// Whether the number of block offsets is valid: one more than blocks, or at most one if there are no strings.
 fn is_start_count(count: u64, block_size: u64, offsets: u64) -> bool
@@ -82,7 +77,10 @@ fn read_preamble(bytes: &[u8], at: usize) -> Result<Preamble, Fault>
 
 /// Reads all parts of a section and checks all but the strings. Allocates nothing.
 #[tactic(auto, unfolding(crate::specs::Section::packed_parts_at, crate::specs::Inside::ReadViews::preamble_view, crate::specs::Inside::ReadViews::packed_parts_view))]
-fn read_packed<'a>(bytes: &'a [u8], at: usize) -> Result<(PackedStrings<'a>, usize), Fault>
+pub(crate) fn read_packed<'a>(
+    bytes: &'a [u8],
+    at: usize,
+) -> Result<(PackedStrings<'a>, usize), Fault>
     ensures exact { Reads packed_parts_view result (packed_parts_at bytes.now at) }
     ensures end { IfOk result (λ r. (at + length r.0.bytes.now < r.1) × (r.1 ≤ length bytes.now)) }
 {
@@ -103,59 +101,4 @@ fn read_packed<'a>(bytes: &'a [u8], at: usize) -> Result<(PackedStrings<'a>, usi
         packed_at: packed_offset,
     };
     Ok((packed, end))
-}
-
-impl<'a> Section<'a> {
-    ghost use Rattle.hdt_front.specs.Strings.{strings_of, section_of};
-    ghost use Rattle.hdt_front.specs.Faults.{read_fault_of};
-
-    /// Reads a section: all checks in order.
-    #[tactic(auto, unfolding(crate::specs::Section::section_at, crate::specs::Inside::ReadViews::packed_parts_view, crate::specs::Strings::section_of, crate::specs::Strings::strings_of))]
-    fn read_by_checks(
-        alloc: Global,
-        bytes: &'a [u8],
-        at: usize,
-    ) -> Result<(Section<'a>, usize), ReadFault>
-        ensures exact { ReadsUnlessOom read_fault_of (λ r. section_of r.0) result (section_at bytes.now at) }
-        ensures without_memory { (f : FaultIs) → packed_parts_at bytes.now at ≡ Err f → result ≡ Err (FaultOf f) }
-        ensures next { IfOk result (λ r. r.1 ≡ (section_of r.0).end) }
-        ensures end { IfOk result (λ r. (at + length r.0.packed.bytes.now < r.1) × (r.1 ≤ length bytes.now)) }
-    {
-        let (packed, end) = read_packed(bytes, at)?;
-        packed.check(alloc)?;
-        Ok((Section { packed, end }, end))
-    }
-
-    /// Reads the section at a byte offset, from 0. Returns it with the offset after it; more bytes may follow.
-    ///
-    /// Takes linear time: it decodes each string once, over the previous one. It holds one decoded string at a time and
-    /// none when it returns, and allocates nothing before the CRC of the strings has been checked.
-    ///
-    /// # Errors
-    ///
-    /// The first of these, in this order: `SectionKind`, errors of the three numbers, `Check8`, `BlockSize`,
-    /// `PackedLength`, errors of the block offsets, `BlockCount`, `BlockPlace`, `Truncated`, `Check32`; then for each
-    /// string `BlockPlace`, errors of its prefix length, `PrefixTooLong`, `PackedLength`, `NotUtf8`,
-    /// `StringsNotAscending`; at the end `PackedLength`, `BlockPlace`. `Truncated` can occur at each read. Or
-    /// [`ReadFault::OutOfMemory`].
-    pub fn read(
-        alloc: Global,
-        bytes: &'a [u8],
-        at: usize,
-    ) -> Result<(Section<'a>, usize), ReadFault>
-        // A returned section is encoded at the offset.
-        ensures found { IfOk result (λ r. IsSectionAt (section_of r.0) bytes.now at) }
-        // A section encoded at the offset is returned, unless memory runs out.
-        ensures only { (s : SectionParts) → IsSectionAt s bytes.now at
-            → ReadsUnlessOom read_fault_of (λ r. section_of r.0) result (Ok s) }
-        // The result is that of the checks in order: the section, or the first error.
-        ensures exact { ReadsUnlessOom read_fault_of (λ r. section_of r.0) result (section_at bytes.now at) }
-        // Errors up to the CRC of the strings are found without allocating.
-        ensures without_memory { (f : FaultIs) → packed_parts_at bytes.now at ≡ Err f → result ≡ Err (FaultOf f) }
-        ensures next { IfOk result (λ r. r.1 ≡ (section_of r.0).end) }
-        // Each string takes at least one byte.
-        ensures end { IfOk result (λ r. (at + length (strings_of r.0) < r.1) × (r.1 ≤ length bytes.now)) }
-    {
-        Section::read_by_checks(alloc, bytes, at)
-    }
 }

@@ -1,6 +1,6 @@
-//! A section that was read: its strings and its blocks.
-ghost use Rattle.std.specs.Prelude.{◌≡◌, ◌≤◌, ◌<◌, ◌+◌, ◌-◌, ◌*◌, length, drop, get_or, [], Ok, ◌&&◌, ◌||◌, true};
-ghost use Rattle.std.specs.Prelude.{nat_eq};
+//! A section: reading it, its strings and its blocks.
+ghost use Rattle.std.specs.Prelude.{◌≡◌, ◌≤◌, ◌<◌, ◌+◌, ◌-◌, ◌*◌, ◌++◌, ◌&&◌, ◌||◌, nat_eq, true, [], length, drop};
+ghost use Rattle.std.specs.Prelude.{get_or, Ok, Err, IfOk, OnOk, OnErr};
 ghost use Rattle.hdt_front.specs.StringChecks.{strings_check, precedes};
 ghost use Rattle.hdt_front.specs.PackedView.{block_layout};
 ghost use Rattle.hdt_wire.specs.Checks.{IsBytes, len_before_zero};
@@ -11,10 +11,14 @@ ghost use Rattle.hdt_front.specs.Section.{AreSectionStrings};
 ghost use Rattle.hdt_front.specs.Canonical.{borrowed_texts};
 
 use crate::decode::is_utf8;
+use crate::entry::split_entry;
 use crate::packed::PackedStrings;
+use crate::reading::read_packed;
 use crate::scan::text_len;
-use hdt_wire::len_before_zero;
-use std::alloc::{AllocError, AllocFailed};
+use crate::string::append_string;
+use hdt_seq::Steps;
+use hdt_wire::{len_before_zero, truncate_on_error};
+use std::alloc::{AllocError, AllocFailed, Global};
 
 /// A section that was read. The strings stay front-coded in the input and are searched there. The value consists of
 /// slices of the input and a few numbers, so copying is cheap.
@@ -41,15 +45,70 @@ fn are_bytes(bytes: &[u8])
 {}
 
 impl<'a> Section<'a> {
-    ghost use Rattle.hdt_front.specs.Strings.{strings_of, section_of, blocks_of, block_size, block_start};
+    ghost use Rattle.hdt_wire.specs.declared.fault.Fault.{Fault as FaultIs};
+    ghost use Rattle.hdt_wire.specs.Checks.{ReadsUnlessOom};
     ghost use Rattle.hdt_front.specs.EntryFacts.{bytes_from_entry};
-    ghost use Rattle.hdt_front.specs.Section.{AreSectionStrings};
+    ghost use Rattle.hdt_front.specs.Faults.{read_fault_of};
+    ghost use Rattle.hdt_front.specs.Section.{AreSectionStrings, IsSectionAt, SectionParts, packed_parts_at, section_at};
+    ghost use Rattle.hdt_front.specs.Section.{string_offset};
+    ghost use Rattle.hdt_front.specs.Strings.{strings_of, section_of, blocks_of, block_size, block_start};
+    ghost use Rattle.hdt_front.specs.Strings.{packed_block};
 
     /// Law: the strings are UTF-8 without zero bytes, and ascend.
     pub fn strings_are_valid(&self)
         ensures { AreSectionStrings (strings_of self.now) }
     {
         are_bytes(self.packed.bytes);
+    }
+
+    /// Reads a section: all checks in order.
+    #[tactic(auto, unfolding(crate::specs::Section::section_at, crate::specs::Inside::ReadViews::packed_parts_view, crate::specs::Strings::section_of, crate::specs::Strings::strings_of))]
+    fn read_by_checks(
+        alloc: Global,
+        bytes: &'a [u8],
+        at: usize,
+    ) -> Result<(Section<'a>, usize), ReadFault>
+        ensures exact { ReadsUnlessOom read_fault_of (λ r. section_of r.0) result (section_at bytes.now at) }
+        ensures without_memory { (f : FaultIs) → packed_parts_at bytes.now at ≡ Err f → result ≡ Err (FaultOf f) }
+        ensures next { IfOk result (λ r. r.1 ≡ (section_of r.0).end) }
+        ensures end { IfOk result (λ r. (at + length r.0.packed.bytes.now < r.1) × (r.1 ≤ length bytes.now)) }
+    {
+        let (packed, end) = read_packed(bytes, at)?;
+        packed.check(alloc)?;
+        Ok((Section { packed, end }, end))
+    }
+
+    /// Reads the section at a byte offset, from 0. Returns it with the offset after it; more bytes may follow.
+    ///
+    /// Takes linear time: it decodes each string once, over the previous one. It holds one decoded string at a time and
+    /// none when it returns, and allocates nothing before the CRC of the strings has been checked.
+    ///
+    /// # Errors
+    ///
+    /// The first of these, in this order: `SectionKind`, errors of the three numbers, `Check8`, `BlockSize`,
+    /// `PackedLength`, errors of the block offsets, `BlockCount`, `BlockPlace`, `Truncated`, `Check32`; then for each
+    /// string `BlockPlace`, errors of its prefix length, `PrefixTooLong`, `PackedLength`, `NotUtf8`,
+    /// `StringsNotAscending`; at the end `PackedLength`, `BlockPlace`. `Truncated` can occur at each read. Or
+    /// [`ReadFault::OutOfMemory`].
+    pub fn read(
+        alloc: Global,
+        bytes: &'a [u8],
+        at: usize,
+    ) -> Result<(Section<'a>, usize), ReadFault>
+        // A returned section is encoded at the offset.
+        ensures found { IfOk result (λ r. IsSectionAt (section_of r.0) bytes.now at) }
+        // A section encoded at the offset is returned, unless memory runs out.
+        ensures only { (s : SectionParts) → IsSectionAt s bytes.now at
+            → ReadsUnlessOom read_fault_of (λ r. section_of r.0) result (Ok s) }
+        // The result is that of the checks in order: the section, or the first error.
+        ensures exact { ReadsUnlessOom read_fault_of (λ r. section_of r.0) result (section_at bytes.now at) }
+        // Errors up to the CRC of the strings are found without allocating.
+        ensures without_memory { (f : FaultIs) → packed_parts_at bytes.now at ≡ Err f → result ≡ Err (FaultOf f) }
+        ensures next { IfOk result (λ r. r.1 ≡ (section_of r.0).end) }
+        // Each string takes at least one byte.
+        ensures end { IfOk result (λ r. (at + length (strings_of r.0) < r.1) × (r.1 ≤ length bytes.now)) }
+    {
+        Section::read_by_checks(alloc, bytes, at)
     }
 
     /// Returns the number of strings, which is at most the number of their front-coded bytes.
@@ -137,6 +196,53 @@ impl<'a> Section<'a> {
         ensures { result.now ≡ get_or (strings_of self.now) (block * block_size self.now) [] }
     {
         self.split_first_entry(block).0
+    }
+
+    /// Appends the string with ID n, from 1. `n` must be at most [`len`](Section::len). Decodes at most one block: at
+    /// most as many steps as the block size. If memory runs out, `out` is unchanged.
+    pub fn string(&self, n: u64, out: &mut Vec<u8>, steps: &mut Steps) -> Result<(), AllocError>
+        requires from_one { 1 ≤ n }
+        requires within { n ≤ length (strings_of self.now) }
+        ensures ok { OnOk result (out.new.items ≡ out.old.items ++ get_or (strings_of self.now) (n - 1) []) }
+        ensures err { OnErr result (out.new.items ≡ out.old.items) }
+        ensures cost { steps.new ≤ steps.old + block_size self.now }
+        ensures more { steps.old ≤ steps.new }
+    {
+        let start = out.len();
+        let appended = append_string(self, n - 1, out, steps);
+        truncate_on_error(appended, start, out)
+    }
+
+    /// Returns the front-coded bytes of the block that contains string n, from 1. `n` must be at most
+    /// [`len`](Section::len). Decoding the string reads no other strings, so a caller can prefetch them. Reads two
+    /// block offsets and none of the returned bytes.
+    #[inline(always)]
+    #[tactic(auto, using(std::proofs::lemmas::List::take_min), unfolding(crate::specs::Strings::packed_block))]
+    pub fn block_bytes(&self, n: u64) -> &'a [u8]
+        requires from_one { 1 ≤ n }
+        requires within { n ≤ length (strings_of self.now) }
+        ensures { result.now ≡ packed_block self.now (n - 1) }
+    {
+        let block = (n - 1) / self.packed.block_size;
+        let start = self.start_of(block);
+        let len = (self.packed.block_offsets.get(block + 1) as usize).saturating_sub(start);
+        let bytes = self.packed.bytes.split_at(start).1;
+        bytes.split_at(len.min(bytes.len())).0
+    }
+
+    /// Returns the byte offset in the input of the entry of string n, from 1, as errors report it. `n` must be at most
+    /// [`len`](Section::len). Scans at most one block.
+    pub fn string_start(&self, n: u64) -> u64
+        requires from_one { 1 ≤ n }
+        requires within { n ≤ length (strings_of self.now) }
+        ensures { result ≡ string_offset (section_of self.now) (n - 1) }
+    {
+        let i = n - 1;
+        let mut rest = self.bytes_from_block(i / self.packed.block_size);
+        for k in 0..i % self.packed.block_size {
+            rest = split_entry(k == 0, rest).2;
+        }
+        self.packed.place(rest) as u64
     }
 }
 

@@ -12,7 +12,6 @@ use crate::entry::{one_byte_vbyte, split_entry};
 use crate::scan::{LANES, first_set};
 use crate::section::Section;
 use hdt_seq::Steps;
-use hdt_wire::truncate_on_error;
 use std::alloc::AllocError;
 use std::simd::prelude::*;
 
@@ -113,7 +112,7 @@ fn decode_next<'a>(
 /// Appends string i, counted from 0. Decodes in the stack buffer, and in `out` from the first string that does not fit.
 /// An error may leave appended bytes.
 #[tactic(auto, unfolding(crate::specs::Strings::strings_of))]
-fn append_string(
+pub(crate) fn append_string(
     section: &Section<'_>,
     i: u64,
     out: &mut Vec<u8>,
@@ -143,56 +142,4 @@ fn append_string(
         rest = decode_next(k == 0, rest, start, out)?;
     }
     Ok(())
-}
-
-impl<'a> Section<'a> {
-    ghost use Rattle.hdt_front.specs.Strings.{packed_block, section_of};
-    ghost use Rattle.hdt_front.specs.Section.{string_offset};
-
-    /// Appends the string with ID n, from 1. `n` must be at most [`len`](Section::len). Decodes at most one block: at
-    /// most as many steps as the block size. If memory runs out, `out` is unchanged.
-    pub fn string(&self, n: u64, out: &mut Vec<u8>, steps: &mut Steps) -> Result<(), AllocError>
-        requires from_one { 1 ≤ n }
-        requires within { n ≤ length (strings_of self.now) }
-        ensures ok { OnOk result (out.new.items ≡ out.old.items ++ get_or (strings_of self.now) (n - 1) []) }
-        ensures err { OnErr result (out.new.items ≡ out.old.items) }
-        ensures cost { steps.new ≤ steps.old + block_size self.now }
-        ensures more { steps.old ≤ steps.new }
-    {
-        let start = out.len();
-        let appended = append_string(self, n - 1, out, steps);
-        truncate_on_error(appended, start, out)
-    }
-
-    /// Returns the front-coded bytes of the block that contains string n, from 1. `n` must be at most
-    /// [`len`](Section::len). Decoding the string reads no other strings, so a caller can prefetch them. Reads two
-    /// block offsets and none of the returned bytes.
-    #[inline(always)]
-    #[tactic(auto, using(std::proofs::lemmas::List::take_min), unfolding(crate::specs::Strings::packed_block))]
-    pub fn block_bytes(&self, n: u64) -> &'a [u8]
-        requires from_one { 1 ≤ n }
-        requires within { n ≤ length (strings_of self.now) }
-        ensures { result.now ≡ packed_block self.now (n - 1) }
-    {
-        let block = (n - 1) / self.packed.block_size;
-        let start = self.start_of(block);
-        let len = (self.packed.block_offsets.get(block + 1) as usize).saturating_sub(start);
-        let bytes = self.packed.bytes.split_at(start).1;
-        bytes.split_at(len.min(bytes.len())).0
-    }
-
-    /// Returns the byte offset in the input of the entry of string n, from 1, as errors report it. `n` must be at most
-    /// [`len`](Section::len). Scans at most one block.
-    pub fn string_start(&self, n: u64) -> u64
-        requires from_one { 1 ≤ n }
-        requires within { n ≤ length (strings_of self.now) }
-        ensures { result ≡ string_offset (section_of self.now) (n - 1) }
-    {
-        let i = n - 1;
-        let mut rest = self.bytes_from_block(i / self.packed.block_size);
-        for k in 0..i % self.packed.block_size {
-            rest = split_entry(k == 0, rest).2;
-        }
-        self.packed.place(rest) as u64
-    }
 }
