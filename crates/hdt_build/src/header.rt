@@ -1,6 +1,5 @@
 //! The header of a file that is built.
-ghost use Rattle.std.specs.Prelude.{◌≡◌, ◌++◌, ◌<◌, ◌^◌, IfOk, OnOk};
-ghost use Rattle.std.specs.Fmt.{decimal};
+ghost use Rattle.std.specs.Prelude.{◌≡◌, ◌++◌, ◌<◌, IfOk, OnOk};
 ghost use Rattle.hdt_build.specs.Header.{header_body, length_property, type_line, count_line};
 
 use hdt_wire::put_decimal;

@@ -3,7 +3,7 @@ ghost use Rattle.std.specs.Prelude.{◌≡◌, ◌≢◌, OnErr, OnOk};
 ghost use Rattle.hdt_wire.specs.Exact.{viewed};
 ghost use Rattle.hdt_wire.specs.Checks.{ReadsUnlessOom};
 ghost use Rattle.hdt_file.specs.Faults.{open_fault_of};
-ghost use Rattle.hdt_file.specs.File.{IsLayout, decode_graph};
+ghost use Rattle.hdt_file.specs.File.{decode_graph};
 ghost use Rattle.hdt_file.specs.Graph.{graph_view, graph_counts};
 ghost use Rattle.hdt_c.specs.Handle.{IsClosed, IsOpen, IsOpened};
 ghost use Rattle.hdt_c.specs.Verdicts.{IsVerdictOn, verdict_for};

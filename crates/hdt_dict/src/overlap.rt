@@ -1,5 +1,5 @@
 //! Finding strings that are in two sections, by merging them.
-ghost use Rattle.std.specs.Prelude.{◌≡◌, ◌||◌, [], List, Bool, ℕ, OnOk, IfOk, unwrap_or};
+ghost use Rattle.std.specs.Prelude.{◌≡◌, ◌||◌, [], OnOk, IfOk, unwrap_or};
 ghost use Rattle.hdt_dict.specs.Inside.Overlap.{contains_string, first_offset, drop_less, IsComparison};
 ghost use Rattle.hdt_dict.specs.Inside.Overlap.{IsStaleComparison};
 ghost use Rattle.hdt_front.specs.Iteration.{LocatedAscend};

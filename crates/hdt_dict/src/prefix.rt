@@ -1,5 +1,5 @@
 //! The IDs of the strings of a role that begin with a prefix.
-ghost use Rattle.std.specs.Prelude.{◌≡◌, ◌≤◌, ◌+◌, ◌*◌, ◌++◌, ◌↔◌, ℕ, length};
+ghost use Rattle.std.specs.Prelude.{◌≤◌, ◌+◌, ◌*◌, ◌↔◌, ℕ, length};
 ghost use Rattle.hdt_dict.specs.Dictionary.{role_strings, lists_of_dictionary};
 ghost use Rattle.hdt_dict.specs.Ids.{string_at_id};
 ghost use Rattle.hdt_dict.specs.Prefixes.{IsInRanges, RangesAscend, SomeBeginsWith};

@@ -1,5 +1,5 @@
 //! The sections of a role, and look-ups in them.
-ghost use Rattle.std.specs.Prelude.{◌≡◌, ◌<◌, ◌≤◌, ◌+◌, ◌-◌, ◌^◌, ◌++◌, ℕ, [], length, max, slice_index_or, Some, None};
+ghost use Rattle.std.specs.Prelude.{◌≡◌, ◌<◌, ◌≤◌, ◌+◌, ◌-◌, ◌^◌, ◌++◌, [], length, max, slice_index_or, Some, None};
 ghost use Rattle.std.specs.Prelude.{IfSome, MatchOption, option_map, option_copied};
 ghost use Rattle.hdt_front.specs.Cost.{section_search_cost};
 ghost use Rattle.hdt_front.specs.Strings.{strings_of, section_of, block_size, packed_block};

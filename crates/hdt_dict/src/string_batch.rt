@@ -1,5 +1,5 @@
 //! Looking up the strings of many IDs at once.
-ghost use Rattle.std.specs.Prelude.{◌≡◌, ◌<◌, ◌≤◌, ◌+◌, ◌-◌, ◌*◌, ◌++◌, ◌^◌, [], ℕ, true, false, length, max};
+ghost use Rattle.std.specs.Prelude.{◌≡◌, ◌<◌, ◌≤◌, ◌+◌, ◌-◌, ◌*◌, ◌++◌, [], ℕ, true, false, length, max};
 ghost use Rattle.std.specs.Prelude.{slice_index_or, slice_index, OnOk, OnErr, option_copied};
 ghost use Rattle.hdt_wire.specs.Control.{IsPrefixOf};
 ghost use Rattle.hdt_front.specs.Strings.{strings_of, block_size};

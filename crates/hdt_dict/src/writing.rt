@@ -1,7 +1,7 @@
 //! Writing a dictionary in canonical form.
 ghost use Rattle.std.specs.Prelude.{◌≡◌, ◌≤◌, ◌++◌, length, OnOk, OnErr};
 ghost use Rattle.hdt_wire.specs.Control.{IsPrefixOf};
-ghost use Rattle.hdt_dict.specs.Dictionary.{IsDictionaryAt, SectionLists};
+ghost use Rattle.hdt_dict.specs.Dictionary.{IsDictionaryAt};
 ghost use Rattle.hdt_dict.specs.Split.{lists_of_parts, lists_of_writers};
 ghost use Rattle.hdt_dict.specs.Writing.{AreSections, canonical_dictionary, canonical_dictionary_parts};
 

@@ -44,7 +44,7 @@ fn dictionary_counts(dictionary: &Dictionary<'_>) -> Counts
 
 #[tactic(auto, unfolding(crate::specs::Graph::layout_view, crate::specs::Graph::parts_of_layout))]
 impl<'a> Layout<'a> {
-    ghost use Rattle.std.specs.Prelude.{◌↔◌, ◌≤◌, ◌<◌, ◌+◌, ◌*◌, ◌^◌, ◌∷◌, [], Option, Some, None, IsOk, OnErr, min};
+    ghost use Rattle.std.specs.Prelude.{◌↔◌, ◌≤◌, ◌<◌, ◌+◌, ◌*◌, ◌^◌, [], Option, Some, None, IsOk, OnErr, min};
     ghost use Rattle.hdt_wire.specs.Checks.{ReadsUnlessOom};
     ghost use Rattle.hdt_dict.specs.Ids.{string_at_id, AppendsString};
     ghost use Rattle.hdt_dict.specs.Prefixes.{IsInRanges, RangesAscend, SomeBeginsWith};

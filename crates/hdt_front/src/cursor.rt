@@ -1,5 +1,5 @@
 //! A cursor over the strings of a section, in order.
-ghost use Rattle.std.specs.Prelude.{◌≡◌, ◌≤◌, ◌<◌, [], length, Ok, IsOk, OnOk, OnErr, IfOk, drop, option_copied};
+ghost use Rattle.std.specs.Prelude.{◌≡◌, ◌≤◌, ◌<◌, [], Ok, IsOk, OnOk, OnErr, IfOk, drop, option_copied};
 ghost use Rattle.hdt_front.specs.SectionIteration.{located_strings};
 ghost use Rattle.hdt_front.specs.Iteration.{first_string, first_order, first_lcp, next_lcp, next_offset, LocatedAscend};
 

@@ -1,5 +1,5 @@
 //! Checking the strings of a section one by one.
-ghost use Rattle.std.specs.Prelude.{◌≡◌, ◌≤◌, ◌<◌, ◌+◌, ◌-◌, ◌/◌, ◌%◌, ◌^◌, true, length, [], IfOk, ℕ, List, Ok};
+ghost use Rattle.std.specs.Prelude.{◌≡◌, ◌≤◌, ◌<◌, ◌+◌, ◌-◌, ◌/◌, ◌%◌, ◌^◌, true, length, [], IfOk, ℕ, Ok};
 ghost use Rattle.std.specs.Prelude.{get_or, ◌==◌};
 ghost use Rattle.std.specs.Str.{is_utf8};
 ghost use Rattle.hdt_wire.specs.declared.fault.Reason.TheVariants.{BlockPlace as BlockPlaceOf};

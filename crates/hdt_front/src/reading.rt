@@ -1,5 +1,5 @@
 //! Reading the parts of a section, and all checks but those of its strings.
-ghost use Rattle.std.specs.Prelude.{◌≡◌, ◌≤◌, ◌<◌, ◌+◌, ◌||◌, ◌==◌, not, ℕ, [], length, slice_index, IfOk};
+ghost use Rattle.std.specs.Prelude.{◌≡◌, ◌≤◌, ◌<◌, ◌+◌, ◌||◌, ◌==◌, not, length, slice_index, IfOk};
 ghost use Rattle.hdt_wire.specs.declared.fault.Reason.TheVariants.{BlockPlace as BlockPlaceOf};
 ghost use Rattle.hdt_wire.specs.Checks.{demand as demand_is, Reads};
 ghost use Rattle.hdt_front.specs.Inside.ReadViews.{preamble_view, packed_parts_view};

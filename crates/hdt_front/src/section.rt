@@ -4,7 +4,6 @@ ghost use Rattle.std.specs.Prelude.{get_or, Ok, Err, IfOk, OnOk, OnErr};
 ghost use Rattle.hdt_front.specs.StringChecks.{strings_check, precedes};
 ghost use Rattle.hdt_front.specs.PackedView.{block_layout};
 ghost use Rattle.hdt_wire.specs.Checks.{IsBytes, len_before_zero};
-ghost use Rattle.hdt_seq.specs.Numbers.{numbers_of};
 ghost use Rattle.hdt_front.specs.declared.section.ReadFault.TheVariants.{OutOfMemory, Fault as FaultOf};
 ghost use Rattle.std.specs.Str.{is_utf8};
 ghost use Rattle.hdt_front.specs.Section.{AreSectionStrings};

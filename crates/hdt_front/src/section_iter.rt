@@ -1,8 +1,7 @@
 //! Iteration over the strings of a section, in order.
-ghost use Rattle.std.specs.Prelude.{◌≡◌, ◌≤◌, ◌<◌, ◌+◌, ◌-◌, ◌++◌, ◌==◌, Bool, length, take, [], Ok, IsOk, OnOk, OnErr};
+ghost use Rattle.std.specs.Prelude.{◌≡◌, ◌≤◌, ◌<◌, ◌+◌, ◌-◌, ◌==◌, length, [], Ok, IsOk, OnOk, OnErr};
 ghost use Rattle.std.specs.Prelude.{IfOk};
-ghost use Rattle.hdt_wire.specs.Checks.{len_before_zero};
-ghost use Rattle.hdt_front.specs.Decoding.{kept, bytes_from_suffix, suffix_of, after_entry};
+ghost use Rattle.hdt_front.specs.Decoding.{kept};
 ghost use Rattle.hdt_front.specs.SectionIteration.{located_strings};
 ghost use Rattle.hdt_front.specs.Iteration.{step_iter, next_offset, first_lcp};
 

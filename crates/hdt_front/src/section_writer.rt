@@ -1,5 +1,5 @@
 //! Writing a section one string at a time.
-ghost use Rattle.std.specs.Prelude.{◌≡◌, ◌≤◌, ◌<◌, ◌^◌, ◌++◌, ◌∷◌, [], ℕ, List, length, cond, drop, OnOk, OnErr};
+ghost use Rattle.std.specs.Prelude.{◌≡◌, ◌≤◌, ◌<◌, ◌^◌, ◌++◌, ◌∷◌, [], length, cond, OnOk, OnErr};
 ghost use Rattle.byteorder.specs.Endian.{little_bytes};
 ghost use Rattle.hdt_wire.specs.Crc.{crc8, crc32};
 ghost use Rattle.hdt_wire.specs.Control.{HasNoZero, IsPrefixOf};

@@ -1,5 +1,5 @@
 //! Decoding one string of a section, from the first string of its block on.
-ghost use Rattle.std.specs.Prelude.{◌≡◌, ◌≤◌, ◌<◌, ◌+◌, ◌-◌, ◌++◌, ◌*◌, List, [], length, take, get_or, IfOk, OnOk};
+ghost use Rattle.std.specs.Prelude.{◌≡◌, ◌≤◌, ◌<◌, ◌+◌, ◌-◌, ◌++◌, ◌*◌, [], length, take, get_or, IfOk, OnOk};
 ghost use Rattle.std.specs.Prelude.{OnErr, true};
 ghost use Rattle.hdt_wire.specs.Control.{IsPrefixOf};
 ghost use Rattle.hdt_wire.specs.Checks.{len_before_zero};

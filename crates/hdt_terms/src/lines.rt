@@ -1,5 +1,5 @@
 //! The lines of a document, from any reader.
-ghost use Rattle.std.specs.Prelude.{◌≡◌, ◌≢◌, ◌+◌, ◌-◌, ◌==◌, take, slice_index, ◌^◌, ◌<◌, ◌≤◌, true, false, []};
+ghost use Rattle.std.specs.Prelude.{◌≡◌, ◌≢◌, ◌+◌, ◌-◌, ◌==◌, take, slice_index, ◌^◌, ◌<◌, ◌≤◌, true, false};
 ghost use Rattle.std.specs.Prelude.{length, IfOk, OnOk, IfErr, IsErrOf, IsUtf8, None, Some, Ok, Err, IfSome};
 ghost use Rattle.hdt_wire.specs.Counted.{inner, failures};
 ghost use Rattle.hdt_terms.specs.Chars.{is_line_end};

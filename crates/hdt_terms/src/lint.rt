@@ -1,5 +1,5 @@
 //! Every faulty line of a document.
-ghost use Rattle.std.specs.Prelude.{◌≡◌, ◌≢◌, ◌+◌, ◌++◌, ◌∷◌, ◌⊎◌, ◌<◌, ◌≤◌, ℕ, [], OnOk, OnErr, IfOk, IfErr, Some};
+ghost use Rattle.std.specs.Prelude.{◌≡◌, ◌+◌, ◌++◌, ◌∷◌, ◌⊎◌, ◌<◌, ◌≤◌, ℕ, [], OnOk, OnErr, IfOk, IfErr, Some};
 ghost use Rattle.std.specs.Prelude.{length, true, false};
 ghost use Rattle.std.specs.Int.{from_bool};
 ghost use Rattle.hdt_wire.specs.Counted.{inner, failures};

@@ -1,5 +1,5 @@
 //! Splitting a document by the subjects of its triples.
-ghost use Rattle.std.specs.Prelude.{◌≡◌, ◌≢◌, ◌+◌, ◌++◌, ◌∷◌, ◌⊎◌, ◌<◌, ◌≤◌, ◌^◌, ℕ, [], List, OnOk, OnErr, IfOk};
+ghost use Rattle.std.specs.Prelude.{◌≡◌, ◌≢◌, ◌+◌, ◌++◌, ◌∷◌, ◌⊎◌, ◌<◌, ◌≤◌, ◌^◌, ℕ, [], OnOk, OnErr, IfOk};
 ghost use Rattle.std.specs.Prelude.{IfErr, None, Some, map, length, get_or, replicate, take, true, false, IsUtf8};
 ghost use Rattle.hdt_wire.specs.Counted.{inner, failures};
 ghost use Rattle.hdt_terms.specs.Lint.{fault_of_line, numbered};
@@ -114,7 +114,6 @@ struct Splitter {
 
 impl Splitter {
     ghost use Rattle.std.specs.Prelude.{◌||◌};
-    ghost use Rattle.hdt_terms.specs.Split.{TripleLine};
 
     fn new(alloc: Global, parts: u32) -> Splitter
         ensures { (result.parts ≡ parts) × (result.number ≡ 0) × (result.part ≡ 0)

@@ -7,7 +7,6 @@ ghost use Rattle.hdt_dict.specs.Ids.{string_at_id};
 ghost use Rattle.hdt_file.specs.Graph.{layout_view};
 ghost use Rattle.hdt_dict.specs.Dictionary.{role_strings};
 ghost use Rattle.hdt_tool.specs.Outcomes.{IsCutShort};
-ghost use Rattle.hdt_tool.specs.PrintedReports.{escaped};
 ghost use Rattle.hdt_tool.specs.StringsText.{string_line, string_lines, PrintsString, PrintsNumber};
 
 use crate::fault::ToolFault;

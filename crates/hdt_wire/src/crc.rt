@@ -1,5 +1,5 @@
 //! CRC-8/SMBUS and CRC-16/ARC, each by a table of 256 entries.
-ghost use Rattle.std.specs.Prelude.{◌≡◌, bit_xor};
+ghost use Rattle.std.specs.Prelude.{◌≡◌};
 ghost use Rattle.hdt_wire.specs.Crc.{crc8_step, crc16_step, crc8, crc16};
 
 /// Entry b is byte b after eight shifts by the polynomial x^8 + x^2 + x + 1.
