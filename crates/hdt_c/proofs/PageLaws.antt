@@ -1,6 +1,6 @@
 -- Pages that were cut to the room of a buffer.
 use mathlib.Core.Path.{refl, ap, sym, ◌∙◌}
-use Rattle.std.proofs.Common.{◌≡◌, ◌++◌, ℕ, suc, zero, List, [], ◌∷◌, map, take, drop, length, subst, inl}
+use Rattle.std.proofs.Common.{◌≡◌, ℕ, suc, zero, List, [], ◌∷◌, map, take, drop, length, subst, inl}
 use Rattle.std.specs.Prelude.{Option, Some, None, ◌↔◌}
 use Rattle.std.proofs.lemmas.Option.{none-some}
 use Rattle.hdt_triples.specs.TripleSequences.{Triple}

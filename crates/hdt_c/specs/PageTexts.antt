@@ -6,7 +6,6 @@ use Rattle.hdt_triples.specs.declared.pattern.Pattern.{Pattern}
 use Rattle.hdt_file.specs.File.{GraphParts}
 use Rattle.hdt_file.specs.Paging.{IsNextMatch}
 use Rattle.hdt_c.specs.LookUps.{absent}
-use Rattle.hdt_c.specs.Pages.{PatternSatisfies}
 use Rattle.hdt_c.specs.Texts.{HoldsText, HoldsNoText}
 use Rattle.hdt_c.specs.declared.bytes.HdtBytes.{HdtBytes}
 use Rattle.hdt_c.specs.declared.report.HdtTextResult.{HdtTextResult}

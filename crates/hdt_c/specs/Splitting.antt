@@ -1,5 +1,5 @@
 -- The report of splitting N-Triples by subject.
-use Rattle.std.specs.Prelude.{◌≡◌, ◌⊎◌, ◌≤◌, ⊤, ℕ, if◌then◌else◌, List, [], map, replicate, Option, Some}
+use Rattle.std.specs.Prelude.{◌≡◌, ◌⊎◌, ⊤, ℕ, if◌then◌else◌, List, [], map, replicate, Option, Some}
 use Rattle.std.specs.List.{concat}
 use Rattle.hdt_wire.specs.Counted.{inner}
 use Rattle.hdt_wire.specs.declared.counted.Counted.{Counted}

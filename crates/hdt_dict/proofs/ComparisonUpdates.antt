@@ -33,12 +33,6 @@ abbrev pub FirstTurns : ℕ → Ordering × ℕ → List LocatedString → List 
 FirstTurns k comparison v [] = Unit {0}
 FirstTurns k comparison v (q ∷ qs) = IsStaleComparison k comparison v q.string
 
-pub first_turns : (k : ℕ) (comparison : Ordering × ℕ) (v list : List LocatedString) (x : List ℕ)
-    → FirstTurns k comparison v list → first_string list ≡ Some x → IsStaleComparison k comparison v x
-first_turns k comparison v [] x f e = absurd (cc)
-first_turns k comparison v (p ∷ ps) x f e =
-    subst (λ (y : List ℕ). IsStaleComparison k comparison v y) (string_of p ps x e) f
-
 list_turns_by : (k : ℕ) (comparison : Ordering × ℕ) (v : List LocatedString) (next last : List ℕ)
     → IsComparison comparison v last → k ≤ lcp_len next last → IsStaleComparison k comparison v next
 list_turns_by k comparison [] next last l h = (λ more. l, λ le. omega (arith, le, l.1))

@@ -7,7 +7,7 @@ use Rattle.hdt_wire.specs.declared.role.Role.{Role}
 use Rattle.hdt_wire.specs.declared.role.Role.TheVariants.{Subject, Predicate, Object}
 use Rattle.hdt_wire.specs.Checks.{◌>>=◌, demand}
 use Rattle.hdt_wire.specs.ItemChecks.{checks_from}
-use Rattle.hdt_front.specs.Section.{SectionParts, string_offset}
+use Rattle.hdt_front.specs.Section.{string_offset}
 use Rattle.hdt_dict.specs.Dictionary.{DictionaryParts, section_by_id, role_strings}
 use Rattle.hdt_triples.specs.TripleSequences.{Triple, triples_of}
 use Rattle.hdt_triples.specs.Triples.{bitmap_triples}

@@ -13,7 +13,7 @@ use Rattle.hdt_tool.specs.declared.fault.ToolFault.{ToolFault}
 use Rattle.hdt_tool.specs.declared.fault.ToolFault.TheVariants.{BadOptions, Read, Write}
 use Rattle.hdt_tool.specs.declared.request.Action.{Action}
 use Rattle.hdt_tool.specs.declared.request.Action.TheVariants.{Build, Rewrite, SkipNonTerms, Strings, VerifyTerms}
-use Rattle.hdt_tool.specs.Outcomes.{Completes, FailsAfter, IfBuild, IsFaultOfInput, IsReadOnly, Prints}
+use Rattle.hdt_tool.specs.Outcomes.{Completes, FailsAfter, IfBuild, IsReadOnly, Prints}
 use Rattle.hdt_tool.specs.Outcomes.{PrintsCountingNonTerms, PrintsText, PrintsWithCount, ReadsAll, ReadsWith}
 use Rattle.hdt_tool.specs.Outcomes.{RewritesFile, WritesOutputPrefix, Yields, YieldsAppended}
 use Rattle.hdt_tool.specs.TriplesText.{GivenStrings}
@@ -133,14 +133,7 @@ writes_prefix (Err e) action before after old new text built f g yields fails = 
     let cut : FailsAfter n text old new f g = subst (λ m. FailsAfter m text old new f g) count fails.2 in
     (cut.failed, record { text = text; built = built; yields = yields; within = cut.within; written = cut.written })
 
--- A write error is an error of any run, and no other error.
-pub told_writing : (r : Result (Unit {0}) ToolFault) (action : Action) (before after old new : Option (List ℕ))
-    (text : List ℕ) (f g : ℕ) → IfErr r (IsWriteFault text old new f g)
-    → IfErr r (IsFaultOfInput action before after)
-told_writing (Ok done) action before after old new text f g fails = tt
-told_writing (Err e) action before after old new text f g fails =
-    subst (IsFaultOfInput action before after) (sym fails.1) tt
-
+-- A write error is no other error.
 pub only_writing : (A : ToolFault
     → Type 0) (r : Result (Unit {0}) ToolFault) (old new : Option (List ℕ)) (text : List ℕ) (f g : ℕ)
     → IfErr r (IsWriteFault text old new f g)

@@ -3,14 +3,13 @@ use Rattle.std.proofs.Common.{◌≡◌, ◌≢◌, ℕ, ◌<◌, ◌≤◌, Boo
 use Rattle.std.proofs.Common.{inl, inr, arith}
 use Rattle.std.specs.declared.cmp.Ordering.{Ordering}
 use Rattle.std.specs.declared.cmp.Ordering.TheVariants.{Less, Equal, Greater}
-use Rattle.std.specs.Ordering.{is_lt, ordering_reverse}
+use Rattle.std.specs.Ordering.{is_lt}
 use Rattle.std.specs.List.{Contains}
 use Rattle.std.specs.Cmp.{both_ways}
 use Rattle.std.specs.Cmp.Lexicographic.{nat_list_cmp_total}
 use Rattle.std.specs.Str.{bytes_eq}
 use Rattle.std.proofs.lemmas.Bool.{cases_lt, cases_eq}
 use Rattle.std.proofs.lemmas.Cmp.{tied_itself}
-use Rattle.std.proofs.lemmas.Map.Lookups.{exact_bytes}
 use Rattle.std.proofs.lemmas.Map.Keys.{Less-from_sorted}
 use Rattle.std.proofs.lemmas.Slice.Eq.{bytes_eq-Decides}
 use Rattle.hdt_dict.specs.Laws.Strings.{has-Contains, Contains-has}
@@ -61,12 +60,6 @@ module _ (ys : List (List ℕ)) (at : ℕ) (x : List ℕ) (up : IsAscending ys) 
       both_ways _ _
       (λ t. cc)
       (λ t. absurd (omega (arith, (member_is_at (λ h. absurd (omega arith)) (has-Contains ys x t)).0)))
-
-pub below_or : (z x y : List ℕ) (o : Ordering) → string_cmp x y ≡ o → string_cmp z x ≡ Less → string_cmp y x ≢ Less
-    → string_cmp z y ≡ Less
-below_or z x y Less e less up = nat_list_cmp_total.trans z x y less e
-below_or z x y Equal e less up = ap (string_cmp z) (sym (exact_bytes x y e)) ∙ less
-below_or z x y Greater e less up = absurd (up (nat_list_cmp_total.antisymm y x ∙ ap ordering_reverse e))
 
 module _ (ys : List (List ℕ)) (x : List ℕ) where
   by : (absent : ¬ Contains ys x) (b : Bool) → has ys x ≡ b → not b ≡ true

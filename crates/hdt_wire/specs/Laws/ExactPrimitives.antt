@@ -1,9 +1,7 @@
 -- The checks of numbers, bytes, texts and control information are exact.
-use Rattle.std.proofs.Common.{◌≡◌, ◌≢◌, ℕ, List, [], ◌∷◌, ◌++◌, length, Ok, sym, ap, ◌∙◌}
-use Rattle.std.specs.Prelude.{All}
+use Rattle.std.proofs.Common.{◌≡◌, ℕ, List, Ok, sym, ap, ◌∙◌}
 use Rattle.hdt_wire.specs.declared.control.Kind.{Kind}
-use Rattle.hdt_wire.specs.Checks.{IsBytes, HasSlice, bytes_at, text_at}
-use Rattle.hdt_wire.specs.Laws.Checks.{bytes_found, bytes_only, text_found, text_only}
+use Rattle.hdt_wire.specs.Checks.{IsBytes}
 use Rattle.hdt_wire.specs.VByte.{IsVByteAt, vbyte_at}
 use Rattle.hdt_wire.specs.Laws.VByte.{vbyte_found, vbyte_only, vbyte_bounded}
 use Rattle.hdt_wire.specs.Control.{ControlInfo, IsControlAt, control_at, expected_control_info}

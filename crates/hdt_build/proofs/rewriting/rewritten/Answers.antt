@@ -1,4 +1,4 @@
-use Rattle.std.proofs.Common.{◌≡◌, append_assoc, arith}
+use Rattle.std.proofs.Common.{◌≡◌, append_assoc}
 use Rattle.hdt_dict.specs.Laws.Split.{split_sections}
 use Rattle.hdt_file.specs.Graph.{graph_view}
 use Rattle.hdt_build.specs.Canonical.{canonical_file}

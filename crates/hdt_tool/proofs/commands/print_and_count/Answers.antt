@@ -1,10 +1,10 @@
-use Rattle.std.proofs.Common.{List, [], ℕ, Err, IfErr, refl, subst}
+use Rattle.std.proofs.Common.{[], Err, refl}
 use Rattle.std.proofs.lemmas.Result.{err_from_is_err_and}
-use Rattle.hdt_wire.specs.Counted.{inner, failures}
+use Rattle.hdt_wire.specs.Counted.{inner}
 use Rattle.hdt_dict.specs.Dictionary.{role_strings}
-use Rattle.hdt_tool.specs.Outcomes.{Prints, PrintsCountingNonTerms, PrintsWithCount, ReadsWith}
+use Rattle.hdt_tool.specs.Outcomes.{Prints, PrintsWithCount, ReadsWith}
 use Rattle.hdt_tool.specs.StringsText.{string_lines}
-use Rattle.hdt_tool.proofs.Outputs.{IsWriteFault, counts_non_terms, counts_nothing, nothing_built, prints_text}
+use Rattle.hdt_tool.proofs.Outputs.{counts_non_terms, counts_nothing, nothing_built, prints_text}
 use Rattle.hdt_tool.proofs.Outputs.{reads_printed, writes_prefix}
 use Rattle.hdt_tool.proofs.Pieces.{all_lines, role_halts, role_reported, role_writes}
 use Rattle.hdt_tool.proofs.commands.print_and_count.Goals as goal

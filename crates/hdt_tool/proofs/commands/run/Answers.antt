@@ -1,4 +1,4 @@
-use Rattle.std.proofs.Common.{◌≡◌, ◌↔◌, ◌∙◌, ℕ, List, Ok, Err, IfErr, IsErrOf, OnErr, OnOk, ap, length, rules, subst}
+use Rattle.std.proofs.Common.{◌≡◌, ◌∙◌, ℕ, List, Ok, Err, IfErr, OnErr, OnOk, ap, length, rules, subst}
 use Rattle.std.proofs.Common.{sym}
 use Rattle.std.specs.Io.KnownBytes.{Appends}
 use Rattle.std.proofs.lemmas.Result.{err_from_is_err_and, on_ok_weaker}
