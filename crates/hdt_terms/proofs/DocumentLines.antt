@@ -1,7 +1,7 @@
 -- Reading the lines of a document, and what is written for them.
 use Rattle.std.proofs.Common.{◌≡◌, ◌⊎◌, ◌+◌, ◌<◌, ◌≤◌, ℕ, Bool, true, false, List, [], ◌∷◌, ◌++◌, length, take, drop}
 use Rattle.std.proofs.Common.{Option, None, Some, refl, sym, ap, subst, ◌∙◌, inl, inr, arith, append_assoc, append-nil}
-use Rattle.std.proofs.Common.{zero-add, add-zero}
+use Rattle.std.proofs.Common.{zero-add, add-zero, min, ◌^◌, ◌-◌}
 use Rattle.std.proofs.lemmas.List.{length-append, length-take-le}
 use Rattle.std.proofs.Math.Seq.{drop-append_seam}
 use Rattle.std.proofs.lemmas.List.Elements.{All-head, All-tail, filter_map-append}
@@ -15,7 +15,7 @@ use Rattle.hdt_terms.specs.LinesReader.{LinesState, Takes, left, line_number, st
 use Rattle.hdt_terms.specs.LinesTexts.{TakesWholeLine, IsNextLineError}
 use Rattle.hdt_terms.specs.Documents.{AreDocumentLines, AreEndedLines, BeginsWithLines, DocumentLine}
 use Rattle.hdt_terms.specs.Documents.{FaultAfterDocumentLines, document_lines}
-use Rattle.hdt_terms.specs.Lint.{GainsAllBut, GainsPrefix, LintsUntilFault, fault_of_line, fault_reports, faulty_lines}
+use Rattle.hdt_terms.specs.Lint.{GainsAllBut, GainsBytes, GainsPrefix, LintsUntilFault, fault_of_line, fault_reports, faulty_lines}
 use Rattle.hdt_terms.specs.Lint.{kept_if, kept_line, kept_lines, last_faulty, last_faulty_of, lines_without_faults}
 use Rattle.hdt_terms.specs.Lint.{numbered, report_if_faulty}
 use Rattle.hdt_terms.specs.declared.fault.LineFault.{LineFault}
@@ -259,6 +259,14 @@ pub wrote_all : (a b : Option (List ℕ)) (text pending : List ℕ) → GainsAll
     → Appends a b text
 wrote_all a b text pending h none = subst (Appends a b) (sym (h.1 ∙ ap (λ t. h.0 ++ t) none ∙ append-nil h.0)) h.2
 
+pub no_bytes : (a : Option (List ℕ)) → GainsBytes 0 a a
+no_bytes a = ([], Appends-nil a, refl)
+
+pub more_bytes : (n m : ℕ) (a b c : Option (List ℕ)) (part : List ℕ) → m ≡ min (n + length part) (2 ^ 64 - 1)
+    → Appends b c part → GainsBytes n a b → GainsBytes m a c
+more_bytes n m a b c part is more (gone, gained, count) =
+    (gone ++ part, Appends-trans a b c gone part gained more, omega (arith, is, count, length-append gone part))
+
 -- Nothing is written yet.
 pub wrote_none : (a : Option (List ℕ)) (text : List ℕ) → GainsAllBut a a text text
 wrote_none a text = ([], refl, Appends-nil a)
@@ -324,6 +332,20 @@ cut_short keep s input mid given a b c d lines fault r (inl is) kept reported =
 cut_short keep s input mid given a b c d lines fault r (inr (n, is)) kept reported =
     subst (LintsUntilFault keep input given a b c d) (sym is)
     (record { lines = lines; are = begins_with s input mid lines r; behind = tt; kept = kept; reported = reported })
+
+pub writer_failed : (fault : LintFault) (k l m r s t v w : ℕ) (a b c d e f : Option (List ℕ)) → l ≡ k → s ≡ r
+    → GainsBytes v a b → GainsBytes w d e
+    → (n : ℕ) × (fault ≡ Write n)
+    × (((m ≡ l + 1) × (t ≡ s) × ((before : Option (List ℕ)) → GainsBytes v before b → GainsBytes n before c))
+    ⊎ ((m ≡ l) × (t ≡ s + 1) × ((before : Option (List ℕ)) → GainsBytes w before e → GainsBytes n before f)))
+    → (n : ℕ) → fault ≡ Write n
+    → ((m ≡ k + 1) × (t ≡ r) × GainsBytes n a c) ⊎ ((m ≡ k) × (t ≡ r + 1) × GainsBytes n d f)
+writer_failed fault k l m r s t v w a b c d e f kept reported kept_count reported_count (o, is, inl one) n same =
+    let equal : o ≡ n = cc in
+    inl (one.0 ∙ ap (λ x. x + 1) kept, one.1 ∙ reported, subst (λ x. GainsBytes x a c) equal (one.2 a kept_count))
+writer_failed fault k l m r s t v w a b c d e f kept reported kept_count reported_count (o, is, inr one) n same =
+    let equal : o ≡ n = cc in
+    inr (one.0 ∙ kept, one.1 ∙ ap (λ x. x + 1) reported, subst (λ x. GainsBytes x d f) equal (one.2 d reported_count))
 
 -- Before the first line.
 pub nothing_linted : (keep : Bool) (input given a c : Option (List ℕ))

@@ -1,6 +1,6 @@
 -- Collecting the lines of an input, up to its end.
 use Rattle.std.proofs.Common.{◌≡◌, ℕ, Bool, true, false, List, [], ◌∷◌, ◌++◌, length, map, ◌+◌, arith, Option, None}
-use Rattle.std.proofs.Common.{Some, inl, inr, sym, refl, ap, ◌∙◌, append_assoc, append-nil, zero-add, add-zero}
+use Rattle.std.proofs.Common.{Some, inl, inr, sym, refl, ap, ◌∙◌, append_assoc, append-nil, add-zero}
 use Rattle.std.specs.Io.KnownBytes.{IsAtEnd}
 use Rattle.hdt_terms.specs.Chars.{is_line_end}
 use Rattle.hdt_terms.specs.Documents.{DocumentLine, numbered_lines, AreLines, LinesSoFar}

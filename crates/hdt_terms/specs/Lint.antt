@@ -1,6 +1,6 @@
 -- Checking every line of a document: the reports of the faulty lines, and the bytes of the others.
-use Rattle.std.specs.Prelude.{◌≡◌, ℕ, ◌==◌, ◌⊎◌, if◌then◌else◌, Bool, true, false, List, [], ◌∷◌, ◌++◌, length, take}
-use Rattle.std.specs.Prelude.{drop, Option, None, Some, Result, Ok, Err, codes, option_map}
+use Rattle.std.specs.Prelude.{◌≡◌, ℕ, ◌-◌, ◌^◌, ◌==◌, ◌⊎◌, if◌then◌else◌, Bool, true, false, List, [], ◌∷◌, ◌++◌, length}
+use Rattle.std.specs.Prelude.{min, take, drop, Option, None, Some, Result, Ok, Err, codes, option_map}
 use Rattle.std.specs.Fmt.{decimal}
 use Rattle.std.specs.Io.KnownBytes.{Appends}
 use Rattle.std.specs.List.{filter_map, flat_map}
@@ -89,6 +89,10 @@ kept_lines true lines = lines_without_faults 0 lines
 -- A writer has gained the text but for its last bytes, `more`.
 abbrev pub GainsAllBut : Option (List ℕ) → Option (List ℕ) → List ℕ → List ℕ → Type 0
 GainsAllBut before after text more = (part : List ℕ) × (text ≡ part ++ more) × Appends before after part
+
+-- A writer has gained n bytes; 2^64 - 1 stands for this number and all greater ones.
+abbrev pub GainsBytes : ℕ → Option (List ℕ) → Option (List ℕ) → Type 0
+GainsBytes n before after = (part : List ℕ) × Appends before after part × (n ≡ min (length part) (2 ^ 64 - 1))
 
 -- A writer has gained a prefix of the text.
 abbrev pub GainsPrefix : Option (List ℕ) → Option (List ℕ) → List ℕ → Type 0

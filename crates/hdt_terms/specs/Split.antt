@@ -1,6 +1,6 @@
 -- Splitting a document by the subjects of its triples: the lines of each part.
 use Rattle.std.specs.Prelude.{◌≡◌, ℕ, ◌-◌, ◌<◌, take, ◌==◌, ◌||◌, ◌&&◌, ◌⊎◌, if◌then◌else◌, Bool, false, List, [], ◌∷◌}
-use Rattle.std.specs.Prelude.{◌++◌, length, get_or, Option, None, Some, Result, Ok, Err}
+use Rattle.std.specs.Prelude.{◌+◌, ◌++◌, length, get_or, set, Option, None, Some, Result, Ok, Err}
 use Rattle.std.specs.Io.KnownBytes.{Appends}
 use Rattle.std.specs.List.{filter_map}
 use Rattle.hdt_terms.specs.declared.fault.LineFault.{LineFault}
@@ -159,6 +159,10 @@ abbrev pub EachGainsAllBut : List (Option (List ℕ)) → List (Option (List ℕ
 EachGainsAllBut before after text pending = (length after ≡ length before) × (length pending ≡ length before)
     × ((part : ℕ) → part < length before
     → GainsAllBut (get_or before part None) (get_or after part None) (text part) (get_or pending part []))
+
+-- The writer of the part failed, once, and no other writer.
+abbrev pub FailsOnce : ℕ → List ℕ → List ℕ → Type 0
+FailsOnce part before after = after ≡ set before part (get_or before part 0 + 1)
 
 -- ---- complete and interrupted runs
 

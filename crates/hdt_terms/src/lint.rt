@@ -3,8 +3,8 @@ ghost use Rattle.std.specs.Prelude.{◌≡◌, ◌+◌, ◌++◌, ◌∷◌, ◌
 ghost use Rattle.std.specs.Prelude.{length, true, false};
 ghost use Rattle.std.specs.Int.{from_bool};
 ghost use Rattle.hdt_wire.specs.Counted.{inner, failures};
-ghost use Rattle.hdt_terms.specs.Lint.{LintsInput, LintsUntilFault, GainsAllBut, GainsPrefix, at_line, IsReadFault};
-ghost use Rattle.hdt_terms.specs.Lint.{fault_of_line, fault_report, faulty_lines, kept_if, last_faulty, numbered};
+ghost use Rattle.hdt_terms.specs.Lint.{LintsInput, LintsUntilFault, GainsAllBut, GainsBytes, GainsPrefix, IsReadFault};
+ghost use Rattle.hdt_terms.specs.Lint.{at_line, fault_of_line, fault_report, faulty_lines, kept_if, last_faulty, numbered};
 ghost use Rattle.hdt_terms.specs.Lint.{report_if_faulty, text_fault};
 ghost use Rattle.hdt_terms.specs.declared.lint.LintFault.TheVariants.{OutOfMemory, Write as write_failed};
 
@@ -186,7 +186,12 @@ pub(crate) fn write_if_long<W: Write>(
         (W.contents (inner out.new)) text.old.items text.new.items) }
     ensures whole { OnOk result (least ≡ 0 → text.new.items ≡ []) }
     ensures well { OnOk result (failures out.new ≡ failures out.old) }
-    ensures err { IfErr result (λ e. (n : ℕ) × (e ≡ write_failed n)) }
+    ensures failed { OnErr result (failures out.new ≡ failures out.old + 1) }
+    ensures count { IfOk result (λ n. (before : _) → GainsBytes written before (W.contents (inner out.old))
+        → GainsBytes n before (W.contents (inner out.new))) }
+    ensures err { IfErr result (λ e. (n : ℕ) × (e ≡ write_failed n)
+        × ((before : _) → GainsBytes written before (W.contents (inner out.old))
+        → GainsBytes n before (W.contents (inner out.new)))) }
     ensures part { OnErr result (GainsPrefix (W.contents (inner out.old)) (W.contents (inner out.new)) text.old.items) }
 {
     if text.len() < least {
@@ -219,7 +224,18 @@ fn write_both_if_long<K: Write, T: Write>(
     ensures well { OnOk result ((failures kept.new ≡ failures kept.old)
         × (failures reported.new ≡ failures reported.old)) }
     ensures others { OnOk result ((linter.new.keep ≡ linter.old.keep) × (linter.new.faulty ≡ linter.old.faulty)) }
-    ensures err { IfErr result (λ e. (n : ℕ) × (e ≡ write_failed n)) }
+    ensures kept_count { IfOk result (λ n. (before : _) → GainsBytes written.0 before (K.contents (inner kept.old))
+        → GainsBytes n.0 before (K.contents (inner kept.new))) }
+    ensures reported_count { IfOk result (λ n. (before : _)
+        → GainsBytes written.1 before (T.contents (inner reported.old))
+        → GainsBytes n.1 before (T.contents (inner reported.new))) }
+    ensures err { IfErr result (λ e. (n : ℕ) × (e ≡ write_failed n)
+        × (((failures kept.new ≡ failures kept.old + 1) × (failures reported.new ≡ failures reported.old)
+        × ((before : _) → GainsBytes written.0 before (K.contents (inner kept.old))
+        → GainsBytes n before (K.contents (inner kept.new))))
+        ⊎ ((failures kept.new ≡ failures kept.old) × (failures reported.new ≡ failures reported.old + 1)
+        × ((before : _) → GainsBytes written.1 before (T.contents (inner reported.old))
+        → GainsBytes n before (T.contents (inner reported.new)))))) }
     ensures kept_part { GainsPrefix (K.contents (inner kept.old)) (K.contents (inner kept.new)) linter.old.kept.items }
     ensures reported_part { GainsPrefix (T.contents (inner reported.old))
         (T.contents (inner reported.new)) linter.old.reported.items }
@@ -279,6 +295,14 @@ pub fn lint_document<R: Read, K: Write, T: Write>(
     ensures ok { IfOk result (LintsInput keep most (R.remaining (inner input.old)) (K.contents (inner kept.old))
         (K.contents (inner kept.new)) (T.contents (inner reported.old)) (T.contents (inner reported.new))) }
     ensures writers_well { OnOk result ((failures kept.new ≡ failures kept.old)
+        × (failures reported.new ≡ failures reported.old)) }
+    // At `Write` one of them failed, once, after it had gained so many bytes. If memory ran out, neither has failed.
+    ensures write { IfErr result (λ e. (n : ℕ) → e ≡ write_failed n
+        → ((failures kept.new ≡ failures kept.old + 1) × (failures reported.new ≡ failures reported.old)
+        × GainsBytes n (K.contents (inner kept.old)) (K.contents (inner kept.new)))
+        ⊎ ((failures kept.new ≡ failures kept.old) × (failures reported.new ≡ failures reported.old + 1)
+        × GainsBytes n (T.contents (inner reported.old)) (T.contents (inner reported.new)))) }
+    ensures unfailed { IfErr result (λ e. e ≡ OutOfMemory → (failures kept.new ≡ failures kept.old)
         × (failures reported.new ≡ failures reported.old)) }
     // The writers have gained a prefix of the output for some first lines; all lines before one that cannot be read.
     ensures stopped { IfErr result

@@ -3,8 +3,8 @@ ghost use Rattle.std.specs.Prelude.{◌≡◌, ◌≢◌, ◌+◌, ◌++◌, ◌
 ghost use Rattle.std.specs.Prelude.{IfErr, None, Some, map, length, get_or, replicate, take, true, false, IsUtf8};
 ghost use Rattle.hdt_wire.specs.Counted.{inner, failures};
 ghost use Rattle.hdt_terms.specs.Lint.{fault_of_line, numbered};
-ghost use Rattle.hdt_terms.specs.Split.{EachGains, EachGainsPrefix, EachGainsAllBut, IsSplitReadFault, SplitsInput};
-ghost use Rattle.hdt_terms.specs.Split.{SplitsUntilFault, has_blank_node, is_blank_string, triple_line_after};
+ghost use Rattle.hdt_terms.specs.Split.{EachGains, EachGainsPrefix, EachGainsAllBut, FailsOnce, IsSplitReadFault};
+ghost use Rattle.hdt_terms.specs.Split.{SplitsInput, SplitsUntilFault, has_blank_node, is_blank_string, triple_line_after};
 ghost use Rattle.hdt_terms.specs.Split.{line_if_in_part, number_if_nonempty, prefix_label, triple_of_line};
 ghost use Rattle.hdt_terms.specs.Split.{triples_of_document, prefixed_line};
 ghost use Rattle.hdt_terms.specs.Parts.{part_of_string};
@@ -261,8 +261,9 @@ fn write_part<W: Write>(
     ensures others { (part : ℕ) → part ≢ at → get_or (map (λ text. text.items) pending.new) part []
         ≡ get_or (map (λ text. text.items) pending.old) part [] }
     ensures whole { OnOk result (least ≡ 0 → get_or (map (λ text. text.items) pending.new) at [] ≡ []) }
-    ensures well { OnOk result (map (λ out. failures out) outs.new ≡ map (λ out. failures out) outs.old) }
+    ensures well { OnOk result (map failures outs.new ≡ map failures outs.old) }
     ensures err { IfErr result (λ e. e ≡ write_failed at) }
+    ensures failed { OnErr result (FailsOnce at (map failures outs.old) (map failures outs.new)) }
     ensures part { OnErr result
         (EachGainsPrefix (map (λ out. W.contents (inner out)) outs.old) (map (λ out. W.contents (inner out)) outs.new)
         (λ part. get_or (map (λ text. text.items) pending.old) part [])) }
@@ -294,8 +295,9 @@ fn write_all_parts<W: Write>(
     ensures ok { OnOk result (EachGains (map (λ out. W.contents (inner out)) outs.old)
         (map (λ out. W.contents (inner out)) outs.new)
         (λ part. get_or (map (λ text. text.items) pending.old) part [])) }
-    ensures well { OnOk result (map (λ out. failures out) outs.new ≡ map (λ out. failures out) outs.old) }
-    ensures err { IfErr result (λ e. (part : ℕ) × (part < length outs.old) × (e ≡ write_failed part)) }
+    ensures well { OnOk result (map failures outs.new ≡ map failures outs.old) }
+    ensures err { IfErr result (λ e. (part : ℕ) × (part < length outs.old) × (e ≡ write_failed part)
+        × FailsOnce part (map failures outs.old) (map failures outs.new)) }
     ensures part { OnErr result
         (EachGainsPrefix (map (λ out. W.contents (inner out)) outs.old) (map (λ out. W.contents (inner out)) outs.new)
         (λ part. get_or (map (λ text. text.items) pending.old) part [])) }
@@ -339,7 +341,12 @@ pub fn split_document<R: Read, W: Write>(
     ensures read { IfErr result (λ e. IsSplitReadFault e → failures input.new ≡ failures input.old + 1) }
     ensures still { IfErr result (λ e. (IsSplitReadFault e → ⊥) → failures input.new ≡ failures input.old) }
     ensures reader_well { OnOk result (failures input.new ≡ failures input.old) }
-    ensures writers_well { OnOk result (map (λ out. failures out) outs.new ≡ map (λ out. failures out) outs.old) }
+    // The writer of the part that `Write` names failed, once, and no other writer; at no other result one has failed.
+    ensures write { IfErr result (λ e. (part : ℕ) → e ≡ write_failed part
+        → FailsOnce part (map failures outs.old) (map failures outs.new)) }
+    ensures unfailed { IfErr result (λ e. ((part : ℕ) → e ≢ write_failed part)
+        → map failures outs.new ≡ map failures outs.old) }
+    ensures writers_well { OnOk result (map failures outs.new ≡ map failures outs.old) }
 {
     let mut lines = Lines::new(alloc, MAX_INPUT_LEN)?;
     let mut splitter = Splitter::new(alloc, outs.len() as u32);

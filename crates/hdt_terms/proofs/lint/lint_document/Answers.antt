@@ -3,9 +3,9 @@ use Rattle.std.proofs.lemmas.Result.{err_from_is_err_and}
 use Rattle.hdt_terms.specs.LinesReader.{line_number}
 use Rattle.hdt_terms.specs.Documents.{DocumentLine}
 use Rattle.hdt_terms.specs.Lint.{numbered}
-use Rattle.hdt_terms.proofs.DocumentLines.{begins_with, below_most, counted_on, cut_short, fault_behind, linted_on}
+use Rattle.hdt_terms.proofs.DocumentLines.{begins_with, below_most, counted_on, cut_short, fault_behind, linted_on, no_bytes}
 use Rattle.hdt_terms.proofs.DocumentLines.{none_linted, none_read, nothing_linted, read_on, stops_at, wrote, wrote_all}
-use Rattle.hdt_terms.proofs.DocumentLines.{wrote_prefix}
+use Rattle.hdt_terms.proofs.DocumentLines.{wrote_prefix, writer_failed}
 use Rattle.hdt_terms.proofs.lint.lint_document.Goals as goal
 
 pub returns-in_err-lines-clause-stopped : goal.returns-in_err-lines-clause-stopped
@@ -26,6 +26,8 @@ lines-init g c = record {
   kept = refl;
   reported = refl;
   input = refl;
+  kept_count = no_bytes _;
+  reported_count = no_bytes _;
 }
 
 pub returns-in-Err-clause-stopped : goal.returns-in-Err-clause-stopped
@@ -62,9 +64,16 @@ returns-in_err-written-clause-stopped g c =
     c.lint_line.new.self.reported.items _ c.lint_line.new.self.faulty inv.2
     (rw c.lines.invariant.keep at lint.kept) lint.reported lint.faulty in
     rw (p.1, p.2) (cut_short c.args.keep c.next_whole_line.new.self _ _ _ _ _ _ _ (inv.0 ++ line
-    ∷ []) c.in_err-written.field-0.0 more (inr failed.err)
+    ∷ []) c.in_err-written.field-0.0 more (inr (failed.err.0, failed.err.1))
     (wrote_prefix _ _ _ _ c.lint_line.new.self.kept.items linted.kept_is failed.kept_part)
     (wrote_prefix _ _ _ _ c.lint_line.new.self.reported.items linted.reported_is failed.reported_part))
+
+pub returns-in_err-written-clause-write : goal.returns-in_err-written-clause-write
+returns-in_err-written-clause-write g c =
+    let inv = c.lines.invariant in
+    let p = err_from_is_err_and c.from_residual-in_err-written.result c.from_residual-in_err-written.ensures.1 in
+    rw (p.1, p.2) (writer_failed c.in_err-written.field-0.0 _ _ _ _ _ _ _ _ _ _ _ _ _ _ inv.kept inv.reported
+    inv.kept_count inv.reported_count c.in_err-written.ensures.err)
 
 pub lines-preserved : goal.lines-preserved
 lines-preserved g c =
@@ -98,6 +107,8 @@ lines-preserved g c =
       kept = done.well.0 ∙ c.lines.invariant.kept;
       reported = done.well.1 ∙ c.lines.invariant.reported;
       input = c.in-Ok.ensures.count ∙ c.lines.invariant.input;
+      kept_count = done.kept_count _ c.lines.invariant.kept_count;
+      reported_count = done.reported_count _ c.lines.invariant.reported_count;
     }
 
 pub returns-in_err-write_both_if_long-clause-stopped : goal.returns-in_err-write_both_if_long-clause-stopped
@@ -107,8 +118,16 @@ returns-in_err-write_both_if_long-clause-stopped g c =
     c.from_residual-in_err-write_both_if_long.ensures.1 in
     let failed = c.in_err-write_both_if_long.ensures in
     rw (p.1, p.2) (cut_short c.args.keep c.lines.lines _ _ _ _ _ _ _ inv.0 c.in_err-write_both_if_long.field-0.0 inv.1
-    (inr failed.err) (wrote_prefix _ _ _ _ c.lines.linter.kept.items inv.2.kept_is failed.kept_part)
+    (inr (failed.err.0, failed.err.1)) (wrote_prefix _ _ _ _ c.lines.linter.kept.items inv.2.kept_is failed.kept_part)
     (wrote_prefix _ _ _ _ c.lines.linter.reported.items inv.2.reported_is failed.reported_part))
+
+pub returns-in_err-write_both_if_long-clause-write : goal.returns-in_err-write_both_if_long-clause-write
+returns-in_err-write_both_if_long-clause-write g c =
+    let inv = c.lines.invariant in
+    let p = err_from_is_err_and c.from_residual-in_err-write_both_if_long.result
+    c.from_residual-in_err-write_both_if_long.ensures.1 in
+    rw (p.1, p.2) (writer_failed c.in_err-write_both_if_long.field-0.0 _ _ _ _ _ _ _ _ _ _ _ _ _ _ inv.kept
+    inv.reported inv.kept_count inv.reported_count c.in_err-write_both_if_long.ensures.err)
 
 pub returns-clause-ok : goal.returns-clause-ok
 returns-clause-ok g c =

@@ -2,7 +2,7 @@ use Rattle.std.proofs.Common.{◌≡◌, ◌+◌, ◌-◌, ◌≤◌, cond, List
 use Rattle.hdt_wire.specs.Counted.{inner, failures}
 use Rattle.hdt_terms.specs.LinesReader.{left}
 use Rattle.hdt_terms.specs.Documents.{DocumentLine}
-use Rattle.hdt_terms.specs.Lint.{faulty_lines}
+use Rattle.hdt_terms.specs.Lint.{GainsBytes, faulty_lines}
 use Rattle.hdt_terms.proofs.DocumentLines.{HasReadLines, Linted}
 use Rattle.hdt_terms.proofs.lint.lint_document.Given as goal
 
@@ -21,6 +21,9 @@ invariant-lines g l = record {
   kept : failures l.kept ≡ failures l.fn.kept;
   reported : failures l.reported ≡ failures l.fn.reported;
   input : failures l.input ≡ failures l.fn.input;
+  kept_count : GainsBytes l.written.0 (g.K.Write.contents (inner l.fn.kept)) (g.K.Write.contents (inner l.kept));
+  reported_count : GainsBytes l.written.1 (g.T.Write.contents (inner l.fn.reported))
+      (g.T.Write.contents (inner l.reported));
 }
 
 abbrev pub decreases-lines : goal.decreases-lines

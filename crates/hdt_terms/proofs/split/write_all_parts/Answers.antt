@@ -11,6 +11,18 @@ returns-in_err-write_part-clause-part g c =
     rw p.1 (each_wrote_prefix _ _ _ (λ part. get_or (map (λ text. text.items) c.args.pending.now) part [])
     (map (λ text. text.items) c.parts.pending) c.parts.invariant.gains c.in_err-write_part.ensures.part)
 
+pub returns-in_err-write_part-clause-err : goal.returns-in_err-write_part-clause-err
+returns-in_err-write_part-clause-err g c =
+    let p = err_from_is_err_and c.from_residual.result c.from_residual.ensures.1 in
+    let failed = c.in_err-write_part.ensures in
+    rw (p.1, p.2) (
+      c.parts.at,
+      omega (arith, c.parts-test.true, c.parts.invariant.outs),
+      failed.err,
+      rw c.parts.invariant.well at
+          failed.failed,
+    )
+
 pub parts-preserved : goal.parts-preserved
 parts-preserved g c =
     let inv = c.parts.invariant in

@@ -1,4 +1,5 @@
-use Rattle.std.proofs.Common.{[], ◌∙◌, arith}
+use Rattle.std.proofs.Common.{[], ◌∙◌, ◌+◌, ap, arith, map, set, sym}
+use Rattle.std.proofs.lemmas.List.{get_or-map, map-set}
 use Rattle.std.proofs.Math.Seq.{map-set_same}
 use Rattle.hdt_wire.specs.Counted.{inner, failures}
 use Rattle.hdt_terms.proofs.SplitLines.{one_failed, one_written, set_other, set_same}
@@ -32,3 +33,10 @@ returns-in-Err-clause-part g c =
     one_failed (λ text. text.items) (λ out. g.W.Write.contents (inner out)) c.args.pending.now c.args.outs.now c.args.at
     c.index-pending-at.result c.index-outs-at.result c.write_if_long.new.out c.requires.within.0 c.requires.len
     c.in-Err.ensures.part
+
+pub returns-in-Err-clause-failed : goal.returns-in-Err-clause-failed
+returns-in-Err-clause-failed g c =
+    map-set failures c.args.outs.now c.args.at c.write_if_long.new.out
+    ∙ ap (set (map failures c.args.outs.now) c.args.at) (c.in-Err.ensures.failed
+    ∙ ap (λ n. n + 1) (sym (get_or-map failures c.args.outs.now c.args.at c.index-outs-at.result 0
+    c.requires.within.0)))
