@@ -117,7 +117,7 @@ def rattle_module(kind: str, found: list[Entry]) -> str:
         f"//! The errors of {what}. `python3 -m tools.errors --rattle` makes this of docs/ERRORS.md.\n\n"
         "use crate::explanations::Explanation;\n\n"
         f"/// The errors of {what}, as docs/ERRORS.md explains them: number, name, meaning, cause and remedy.\n"
-        f"pub const {name.upper()}: &[Explanation] = &[\n{rows}];\n"
+        f"pub(crate) const {name.upper()}: &[Explanation] = &[\n{rows}];\n"
     )
 
 

@@ -3,7 +3,7 @@
 use crate::explanations::Explanation;
 
 /// The errors of an HDT file, as docs/ERRORS.md explains them: number, name, meaning, cause and remedy.
-pub const FILE_ERRORS: &[Explanation] = &[
+pub(crate) const FILE_ERRORS: &[Explanation] = &[
     (
         "1",
         "Truncated",

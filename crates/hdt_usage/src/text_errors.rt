@@ -3,7 +3,7 @@
 use crate::explanations::Explanation;
 
 /// The errors of an N-Triples text, as docs/ERRORS.md explains them: number, name, meaning, cause and remedy.
-pub const TEXT_ERRORS: &[Explanation] = &[
+pub(crate) const TEXT_ERRORS: &[Explanation] = &[
     (
         "1",
         "Syntax",
