@@ -1,6 +1,6 @@
 -- What an exit status implies about the result that it was computed from.
 use Rattle.std.proofs.Common.{◌≡◌, ◌≢◌, ◌⊎◌, ◌∙◌, ap, ℕ, zero, suc, Bool, true, false, cond, refl, inl, inr, subst, sym}
-use Rattle.std.specs.Prelude.{List, Result, Ok, Err, MatchResult, IfOk, IfErr, OnOk}
+use Rattle.std.specs.Prelude.{List, Result, Ok, Err, MatchResult, IfOk, IfErr, IsErrOf, OnOk}
 use Rattle.clap.specs.Words.{Text}
 use Rattle.hdt_tool.specs.declared.fault.ToolFault.{ToolFault}
 use Rattle.hdt_tool.specs.declared.fault.ToolFault.TheVariants.{File, NoTriples, Read, Write, OutOfMemory}
@@ -119,6 +119,38 @@ pub if_done : {A T : Type 0} (P : T → Type 0) (outcome : Result T ToolFault) (
     → OnOk outcome A → status ≡ 0 → A
 if_done P (Ok done) status of ok is = ok
 if_done P (Err fault) status of ok is = absurd (not_done fault status of is)
+
+-- Status 3: a read or a write failed.
+pub failed_status : {A B T : Type 0} (P : T → Type 0) (outcome : Result T ToolFault) (status : ℕ)
+    → MatchResult outcome P (λ fault. (status ≡ fault_status fault) ⊎ (status ≡ 4))
+    → ((x : T) → P x → status ≢ 3) → (IsErrOf outcome Read → A) → IfErr outcome (λ fault. (n : ℕ) → fault ≡ Write n → B)
+    → status ≡ 3 → A ⊎ B
+failed_status P (Ok done) status of other read write is = absurd (other done of is)
+failed_status P (Err fault) status (inr memory) other read write is = absurd cc
+failed_status P (Err Read) status (inl h) other read write is = inl (read refl)
+failed_status P (Err (Write n)) status (inl h) other read write is = inr (write n refl)
+failed_status P (Err fault) status (inl h) other read write is = absurd cc
+
+not_three : (status : ℕ) → (status ≡ 1) ⊎ (status ≡ 4) → status ≢ 3
+not_three status (inl h) is = absurd cc
+not_three status (inr h) is = absurd cc
+
+pub count_not_three : (status count : ℕ) → (count ≡ 0 → status ≡ 0) × (count ≢ 0 → (status ≡ 1) ⊎ (status ≡ 4))
+    → status ≢ 3
+count_not_three status zero h is = let none = h.0 refl in absurd cc
+count_not_three status (suc n) h is = not_three status (h.1 (λ e. absurd cc)) is
+
+pub lint_not_three : (status : ℕ) (faulty : Bool) → status ≡ cond faulty 1 0 → status ≢ 3
+lint_not_three status true h is = absurd cc
+lint_not_three status false h is = absurd cc
+
+report_not_three : (status : ℕ) (faulty : Bool) (skipped : ℕ)
+    → IsReportStatus (record { has_errors = faulty; skipped = skipped }) status → status ≢ 3
+report_not_three status faulty zero h is = lint_not_three status faulty (h.0 refl) is
+report_not_three status faulty (suc n) h is = not_three status (h.1 (λ e. absurd cc)) is
+
+pub answers_not_three : (status : ℕ) (report : AnswerReport) → IsReportStatus report status → status ≢ 3
+answers_not_three status report h = report_not_three status report.has_errors report.skipped h
 
 -- ---- the status of a command that writes no file
 

@@ -1,7 +1,8 @@
 //! The command `lint`: reports every faulty line of a document.
-ghost use Rattle.std.specs.Prelude.{◌≡◌, ◌≢◌, ◌⊎◌, ◌+◌, Option, false, true, if◌then◌else◌, IfOk, IfErr};
+ghost use Rattle.std.specs.Prelude.{◌≡◌, ◌≢◌, ◌⊎◌, ◌+◌, ℕ, Option, false, true, if◌then◌else◌, IfOk, IfErr};
 ghost use Rattle.std.specs.Prelude.{IsErrOf, MatchResult, OnOk};
 ghost use Rattle.hdt_wire.specs.Counted.{inner, failures};
+ghost use Rattle.hdt_terms.specs.Lint.{GainsBytes};
 ghost use Rattle.hdt_tool.specs.ErrorLines.{fault_status};
 ghost use Rattle.hdt_tool.specs.Linting.{IsAny, Lints, LintsUntilError, most_faulty};
 ghost use Rattle.hdt_tool.specs.Status.{IsCommandStatus};
@@ -69,6 +70,12 @@ pub(crate) fn lint_input<R: Read, K: Write, T: Write>(
         (T.contents (inner reported.old)) (T.contents (inner reported.new))) }
     ensures writers_unfailed { OnOk result ((failures kept.new ≡ failures kept.old)
         × (failures reported.new ≡ failures reported.old)) }
+    // `Write(n)`: one of them failed once in this call, after it had gained n bytes, and the other one did not fail.
+    ensures write { IfErr result (λ e. (n : ℕ) → e ≡ ToolFault.Write n
+        → ((failures kept.new ≡ failures kept.old + 1) × (failures reported.new ≡ failures reported.old)
+        × GainsBytes n (K.contents (inner kept.old)) (K.contents (inner kept.new)))
+        ⊎ ((failures kept.new ≡ failures kept.old) × (failures reported.new ≡ failures reported.old + 1)
+        × GainsBytes n (T.contents (inner reported.old)) (T.contents (inner reported.new)))) }
     // The writers have gained a prefix of the output for some first lines; all lines before one that cannot be read.
     ensures stopped { IfErr result
         (LintsUntilError keep (R.remaining (inner input.old)) (R.remaining (inner input.new))
@@ -115,6 +122,9 @@ fn run_lint<R: Read, K: Write, T: Write>(
         (T.contents (inner reported.old)) (T.contents (inner reported.new)) false }
     ensures unfailed { result ≡ 0 → (failures kept.new ≡ failures kept.old)
         × (failures reported.new ≡ failures reported.old) }
+    // 3: the reader or a writer failed.
+    ensures failed { result ≡ 3 → (failures input.new ≡ failures input.old + 1)
+        ⊎ (failures kept.new ≡ failures kept.old + 1) ⊎ (failures reported.new ≡ failures reported.old + 1) }
     // Otherwise the status is 1, some of the lines that were checked are faulty, and the writers have gained the
     // reports of exactly these and the other lines; or an error with this status, or lack of memory for its message,
     // ended the run.

@@ -1,7 +1,8 @@
 //! `split`: several documents into the parts of one graph, by subject.
-ghost use Rattle.std.specs.Prelude.{◌≡◌, ◌<◌, ◌^◌, None, IfOk, IfErr, OnOk, length, map, true};
+ghost use Rattle.std.specs.Prelude.{◌≡◌, ◌<◌, ◌^◌, ℕ, None, IfOk, IfErr, OnOk, length, map, true};
 ghost use Rattle.hdt_wire.specs.Counted.{inner, failures};
-ghost use Rattle.hdt_terms.specs.Split.{SplitsInput};
+ghost use Rattle.hdt_terms.specs.Split.{FailsOnce, SplitsInput};
+ghost use Rattle.hdt_terms.specs.declared.split.SplitFault.TheVariants as SplitFault;
 ghost use Rattle.hdt_tool.specs.SplitInputs.{IsBlankNodesFault, SplitsInTurn, IsFaultOfInputAt, StopsInTurn};
 ghost use Rattle.hdt_tool.specs.SplitInputs.{MixesBlankNodes, first_with_blank_nodes, input_prefix};
 ghost use Rattle.hdt_tool.specs.declared.splitting.SplitInputsFault.TheVariants as SplitInputsFault;
@@ -78,8 +79,10 @@ fn split_input<R: Read, W: Write>(
         (map (λ out. W.contents (inner out)) outs.old) (map (λ out. W.contents (inner out)) outs.new)) }
     ensures stopped { IfErr result (IsFaultOfInputAt blank_nodes None number (R.remaining (inner input.old))
         (map (λ out. W.contents (inner out)) outs.old) (map (λ out. W.contents (inner out)) outs.new)) }
+    ensures write { IfErr result (λ e. (k part : ℕ) → e ≡ SplitInputsFault.Input k (SplitFault.Write part)
+        → FailsOnce part (map failures outs.old) (map failures outs.new)) }
     ensures len { length outs.new ≡ length outs.old }
-    ensures unfailed { OnOk result (map (λ out. failures out) outs.new ≡ map (λ out. failures out) outs.old) }
+    ensures unfailed { OnOk result (map failures outs.new ≡ map failures outs.old) }
 {
     let prefix = input_prefix(alloc, blank_nodes, number)?;
     match split_document(alloc, &prefix, input, outs) {
@@ -112,8 +115,10 @@ pub(crate) fn split_inputs<R: Read + Drop, W: Write>(
     // The inputs before that of the error were split, and a prefix of its lines.
     ensures stopped { IfErr result (StopsInTurn blank_nodes None 0 (map (λ input. R.remaining input) inputs.items)
         (map (λ out. W.contents (inner out)) outs.old) (map (λ out. W.contents (inner out)) outs.new)) }
-    // At `Ok` no writer failed.
-    ensures unfailed { OnOk result (map (λ out. failures out) outs.new ≡ map (λ out. failures out) outs.old) }
+    // The writer of the part that `Write` names failed, once, and no other writer. At `Ok` none failed.
+    ensures write { IfErr result (λ e. (k part : ℕ) → e ≡ SplitInputsFault.Input k (SplitFault.Write part)
+        → FailsOnce part (map failures outs.old) (map failures outs.new)) }
+    ensures unfailed { OnOk result (map failures outs.new ≡ map failures outs.old) }
 {
     let mut first = None;
     let mut number = 0;

@@ -179,6 +179,9 @@ fn run_query<R: Read, W: Write>(
         → WritesWithCount action.now (R.remaining (inner input.old)) (R.remaining (inner input.new))
         (W.contents (inner out.old)) (W.contents (inner out.new)) 0 }
     ensures unfailed { result ≡ 0 → failures out.new ≡ failures out.old }
+    // 3: the reader or the writer failed, once.
+    ensures failed { result ≡ 3 → (failures input.new ≡ failures input.old + 1)
+        ⊎ (failures out.new ≡ failures out.old + 1) }
     // 1: the input is not valid, a look-up found nothing, or a string is not a term, and nothing was written; or `out`
     // has gained the output, and something was counted.
     ensures fault { result ≡ 1
@@ -274,6 +277,9 @@ fn run_answer<F: Read, R: Read, W: Write>(
         (R.remaining (inner input.old))
         (W.contents (inner out.old)) (W.contents (inner out.new)) (plain_report false) }
     ensures unfailed { result ≡ 0 → failures out.new ≡ failures out.old }
+    // 3: one of the readers or the writer failed, once.
+    ensures failed { result ≡ 3 → (failures file.new + failures input.new ≡ failures file.old + failures input.old + 1)
+        ⊎ (failures out.new ≡ failures out.old + 1) }
     // Otherwise nothing was written; or all answers, and one of them is an error (status 1), or they leave out triples
     // (1, or 4 if there is no memory for the message); or an error with this status, or lack of memory for its message,
     // ended the answers.

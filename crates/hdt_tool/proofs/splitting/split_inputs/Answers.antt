@@ -1,8 +1,9 @@
 use Rattle.std.proofs.Common.{◌≡◌, ◌∷◌, ℕ, List, [], Option, None, ap, inl, map, refl, rules, subst, sym}
 use Rattle.std.specs.Vec.Iter.{into_iter_items}
 use Rattle.std.proofs.lemmas.Result.{err_from_is_err_and}
-use Rattle.hdt_wire.specs.Counted.{inner}
-use Rattle.hdt_tool.specs.SplitInputs.{SplitsInTurn, IsFaultOfInputAt, StopsInTurn}
+use Rattle.hdt_wire.specs.Counted.{inner, failures}
+use Rattle.hdt_terms.specs.Split.{FailsOnce}
+use Rattle.hdt_tool.specs.SplitInputs.{SplitsInTurn, IsBlankNodesFault, IsFaultOfInputAt, StopsInTurn}
 use Rattle.hdt_tool.proofs.SplitRuns.{alone, mixed, none_left}
 use Rattle.hdt_tool.proofs.splitting.split_inputs.Goals as goal
 
@@ -48,6 +49,18 @@ returns-in_err-first-clause-stopped g c =
     read
     (mixed mode c.inputs.first c.inputs.number _ before after c.in_ok-report.report fault c.in_ok-report.ensures.ok
     c.in_err-first.ensures.err.0 c.in_err-first.ensures.err.1))))))
+
+pub returns-in_err-report-clause-write : goal.returns-in_err-report-clause-write
+returns-in_err-report-clause-write g c =
+    let p = err_from_is_err_and c.from_residual.result c.from_residual.ensures.1 in
+    rw (p.1, p.2) (λ k part same. subst (λ before. FailsOnce part before (map failures c.split_input.new.outs))
+    c.inputs.invariant.4 (c.in_err-report.ensures.write k part same))
+
+pub returns-in_err-first-clause-write : goal.returns-in_err-first-clause-write
+returns-in_err-first-clause-write g c =
+    let p = err_from_is_err_and c.from_residual-in_err-first.result c.from_residual-in_err-first.ensures.1 in
+    rw (p.1, p.2) (λ k part same. absurd
+    (subst (IsBlankNodesFault c.args.blank_nodes c.inputs.first c.inputs.number) same c.in_err-first.ensures.err.0))
 
 pub returns-clause-ok : goal.returns-clause-ok
 returns-clause-ok g c =

@@ -1,6 +1,8 @@
 use Rattle.std.proofs.Math.Logic.{⊎_map}
 use Rattle.std.proofs.lemmas.Result.{IfErr-weaker}
-use Rattle.hdt_tool.proofs.Statuses.{answers_done, answers_status, answers_stopped, if_done}
+use Rattle.hdt_tool.proofs.Statuses.{answers_done, answers_not_three, answers_status, answers_stopped}
+use Rattle.hdt_tool.proofs.Statuses.{failed_status, if_done}
+use Rattle.hdt_tool.proofs.Dialogues.{write_failed}
 use Rattle.hdt_tool.proofs.status.run_answer.Goals as goal
 
 pub returns-clause-statuses : goal.returns-clause-statuses
@@ -23,3 +25,10 @@ returns-clause-stopped g c not =
     c.answer_file-outcome.ensures.ok
     (IfErr-weaker c.answer_file-outcome.result _ _
     (λ e h. ⊎_map (λ none. none.2) (λ some. some) h) c.answer_file-outcome.ensures.stopped)
+
+pub returns-clause-failed : goal.returns-clause-failed
+returns-clause-failed g c is =
+    failed_status _ c.answer_file-outcome.result c.answers_status.result c.answers_status.ensures
+    (answers_not_three c.answers_status.result) c.answer_file-outcome.ensures.read
+    (IfErr-weaker c.answer_file-outcome.result _ _ (λ e h n same. write_failed _ _ _ _ _ _ _ _ _ e n same (h n same))
+    c.answer_file-outcome.ensures.write) is

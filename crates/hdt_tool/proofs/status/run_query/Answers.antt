@@ -1,5 +1,7 @@
 use Rattle.std.proofs.Common.{inl, inr}
-use Rattle.hdt_tool.proofs.Statuses.{count_done, count_fault, count_status, count_stopped}
+use Rattle.std.proofs.lemmas.Result.{IfErr-weaker}
+use Rattle.hdt_tool.proofs.Statuses.{count_done, count_fault, count_not_three, count_status, count_stopped}
+use Rattle.hdt_tool.proofs.Statuses.{failed_status}
 use Rattle.hdt_tool.proofs.status.run_query.Goals as goal
 
 pub returns-clause-statuses : goal.returns-clause-statuses
@@ -24,3 +26,10 @@ returns-clause-stopped g c not =
     count_stopped _ _ c.print_and_count-outcome.result c.count_status.result c.count_status.ensures
     c.print_and_count-outcome.ensures.ok c.print_and_count-outcome.ensures.unwritten
     c.print_and_count-outcome.ensures.write not
+
+pub returns-clause-failed : goal.returns-clause-failed
+returns-clause-failed g c is =
+    failed_status _ c.print_and_count-outcome.result c.count_status.result c.count_status.ensures
+    (count_not_three c.count_status.result) c.print_and_count-outcome.ensures.read
+    (IfErr-weaker c.print_and_count-outcome.result _ _ (λ e h n same. (h n same).0)
+    c.print_and_count-outcome.ensures.write) is

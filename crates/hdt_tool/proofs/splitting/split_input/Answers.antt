@@ -1,0 +1,6 @@
+use Rattle.hdt_tool.proofs.SplitRuns.{fault_in_input}
+use Rattle.hdt_tool.proofs.splitting.split_input.Goals as goal
+
+pub returns-in-Err-clause-write : goal.returns-in-Err-clause-write
+returns-in-Err-clause-write g c =
+    λ k part same. c.in-Err.ensures.write part (fault_in_input _ _ c.in-Err.fault _ same)
