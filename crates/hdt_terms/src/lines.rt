@@ -21,10 +21,9 @@ use std::marker::Model;
 /// The greatest limit of [`Lines::new`], in bytes: 2^63 - 1, which no input of a file exceeds.
 pub const MAX_INPUT_LEN: u64 = 9_223_372_036_854_775_807;
 
-/// The triples of a document, line by line (W3C RDF 1.1 N-Triples, by the profile of docs/NTRIPLES.md). How the reader
-/// cuts the input into pieces makes no difference.
-///
-/// Takes linear time, and memory for the longest line; in [`Lines::next_prefix`] its buffer of 64 KiB does not grow.
+/// The triples of a document, line by line (W3C RDF 1.1 N-Triples, by the profile of docs/NTRIPLES.md), however the
+/// reader cuts it into pieces. Linear time, and memory for the longest line; in [`Lines::next_prefix`] the buffer of
+/// 64 KiB does not grow.
 ///
 /// ```rust
 /// let mut input = Counted::new(document);
@@ -46,7 +45,6 @@ pub struct Lines {
 }
 
 impl Model for Lines {
-    ghost use Rattle.std.specs.Prelude.{◌+◌, ◌^◌, ◌<◌, ◌≤◌, length};
     ghost use Rattle.hdt_terms.specs.LinesReader.{LinesState};
 
     ghost Value = { LinesState };
@@ -56,8 +54,7 @@ impl Model for Lines {
       taken = s.taken;
       ends = s.ends;
       after_cr = s.after_cr;
-      limit =
-          s.limit;
+      limit = s.limit;
       ended = s.ended;
       failed = s.failed;
     } };
@@ -312,8 +309,8 @@ impl Lines {
     ///
     /// # Errors
     ///
-    /// The first malformed line, or why reading failed; earlier lines are returned first. Every later call returns the
-    /// same error and reads nothing.
+    /// The first malformed line, or why reading failed, after all lines before it. Later calls repeat it and read
+    /// nothing.
     pub fn next_triple<R: Read>(
         &mut self,
         input: &mut Counted<R>,

@@ -6,14 +6,14 @@ ghost use Rattle.hdt_build.specs.declared.options.Options.{Options};
 ghost use Rattle.hdt_wire.specs.declared.role.Role.{Role};
 ghost use Rattle.hdt_tool.specs.CommandLine.{IsQueryAction, Refutes, RefutesOrInvalidTerm, IsFaultOfArgument};
 ghost use Rattle.hdt_tool.specs.CommandLine.{IsInvalidTerm, IsInvalidPatternTerm, IsStringOfText, IsFindAction};
-ghost use Rattle.hdt_tool.specs.CommandLine.{HasInvalidTerm, ParsesAsFlag, ParsesAsFormat, ParsesAsProgress};
+ghost use Rattle.hdt_tool.specs.CommandLine.{HasInvalidTerm, ParsesAsFlag, ParsesAsFormat};
 ghost use Rattle.hdt_tool.specs.CommandLine.{ParsesAsNumber, ParsesAsNumberOrNone, ParsesAsBuildOptions};
 ghost use Rattle.hdt_tool.specs.CommandLine.{ParsesAsString, ParsesAsPatternTerm, IsFaultOfTerm, ParsesAsPrefix};
 ghost use Rattle.hdt_tool.specs.ErrorLines.{argument_name};
 ghost use Rattle.hdt_usage.specs.CommandTable.{role_name};
 
 use crate::fault::{TermArgument, UsageFault, missing};
-use crate::request::{Action, AnswerOptions, OutputFormat, Progress};
+use crate::request::{Action, AnswerOptions, OutputFormat};
 use clap::ArgMatches;
 use hdt_build::Options;
 use hdt_dict::Role;
@@ -40,19 +40,6 @@ pub(crate) fn has_flag<'m>(matches: &ArgMatches<'m>, id: &str) -> bool
     ensures none { one_of id.now (rows_of (found_of matches.now)) ≡ None → result ≡ false }
 {
     matches.get_flag(id)
-}
-
-/// How progress is reported.
-pub(crate) fn progress_option<'m>(matches: &ArgMatches<'m>) -> Progress
-    ensures { ParsesAsProgress (rows_of (found_of matches.now)) result }
-{
-    if has_flag(matches, "no-progress") {
-        Progress::Off
-    } else if has_flag(matches, "progress") {
-        Progress::Lines
-    } else {
-        Progress::Automatic
-    }
 }
 
 /// The text of a required argument.

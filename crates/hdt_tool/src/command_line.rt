@@ -12,11 +12,11 @@ ghost use Rattle.hdt_tool.specs.declared.request.Request.{Request};
 
 use crate::arguments::{
     answer_action, argument_text, build_options, count_action, dump_action, find_action, has_flag,
-    info_action, lint_action, progress_option, required_id, required_role, required_term,
-    required_text, required_u32, strings_action, verify_action,
+    info_action, lint_action, required_id, required_role, required_term, required_text,
+    required_u32, strings_action, verify_action,
 };
 use crate::fault::{TermArgument, UsageFault, missing};
-use crate::request::{Action, Invocation, Request};
+use crate::request::{Action, Invocation, Progress, Request};
 use crate::split_arguments::split_action;
 use clap::error::ErrorKind;
 use clap::{ArgMatches, Error};
@@ -140,6 +140,19 @@ fn request_of<'m>(
     match name {
         "build" | "rewrite" => output_request(alloc, name, matches),
         _ => query_request(alloc, name, matches),
+    }
+}
+
+/// How progress is reported.
+fn progress_option<'m>(matches: &ArgMatches<'m>) -> Progress
+    ensures { ParsesAsProgress (rows_of (found_of matches.now)) result }
+{
+    if has_flag(matches, "no-progress") {
+        Progress::Off
+    } else if has_flag(matches, "progress") {
+        Progress::Lines
+    } else {
+        Progress::Automatic
     }
 }
 

@@ -5,6 +5,7 @@ ghost use Rattle.hdt_seq.specs.Directory.{IsDirectoryOf, groups};
 ghost use Rattle.hdt_seq.specs.RankSelect.{ones_before};
 ghost use Rattle.hdt_seq.specs.Width.{digits};
 ghost use Rattle.hdt_triples.specs.TripleSequences.{pair_of, subject_at, triples_of, triple_at};
+ghost use Rattle.hdt_triples.specs.IndexViews.{directories_held, triples_indexed, triples_listed};
 ghost use Rattle.hdt_triples.specs.Views.{triples_view};
 ghost use Rattle.hdt_triples.specs.Scanning.{IsTriplePosition};
 ghost use Rattle.hdt_triples.specs.Bounds.{most_steps, start_cost};
@@ -22,8 +23,7 @@ use crate::triples::{TriplePosition, Triples};
 use hdt_seq::{Directory, Steps};
 use std::alloc::Global;
 
-/// Triples with rank/select indexes over both bitmaps, which find a subject or a pair by binary search. They borrow the
-/// input and own only the indexes.
+/// Triples with rank/select indexes over both bitmaps, for binary search. They borrow the input and own the indexes.
 #[derive(Drop)]
 pub struct IndexedTriples<'a> {
     pub(crate) triples: Triples<'a>,
@@ -34,8 +34,6 @@ pub struct IndexedTriples<'a> {
 }
 
 impl<'a> Triples<'a> {
-    ghost use Rattle.hdt_triples.specs.IndexViews.{triples_indexed};
-
     /// Builds the rank/select indexes in one pass over the bitmaps: 8 bytes for each group of 512 bits, and 8 more for
     /// each bitmap. On allocation failure the error is `self`.
     #[tactic(auto, unfolding(crate::specs::Views::triples_view))]
@@ -58,7 +56,6 @@ impl<'a> Triples<'a> {
 }
 
 impl<'a> IndexedTriples<'a> {
-    ghost use Rattle.hdt_triples.specs.IndexViews.{directories_held, triples_indexed, triples_listed};
     ghost use Rattle.hdt_triples.specs.Remaining.{remaining_matches, step_limit};
 
     /// Returns the memory of the indexes in units of 8 bytes.
@@ -167,8 +164,7 @@ impl<'a> IndexedTriples<'a> {
         TriplePosition { at, pair, subject }
     }
 
-    /// Returns the position of a subject's first triple from index `from` on. If there is none, that is a position from
-    /// which on no triple has the subject.
+    /// Returns the position of a subject's first triple from index `from` on, or one from which on no triple has it.
     #[tactic(auto, unfolding(crate::specs::Views::triples_view))]
     pub(crate) fn start_of_subject_from(
         &self,
