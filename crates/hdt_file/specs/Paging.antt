@@ -15,8 +15,7 @@ pub record IsNextMatch (ts : List Triple) (pattern : Pattern) (from most next : 
   pub later : from + most ≤ next
 
 -- Each match is reached by its number among the matches: the pattern gives nothing, a subject, a subject and a
--- predicate
--- (then they are consecutive triples), or only an object (then they are its list).
+-- predicate (then they are consecutive triples), or only an object (then they are its list).
 pub record HasPositions (p : Pattern) : Type 0 where
   pub predicate : p.s ≡ None → p.p ≡ None
   pub object : (p.s ≡ None) ⊎ (p.o ≡ None)

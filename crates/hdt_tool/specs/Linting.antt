@@ -32,8 +32,7 @@ lint_fault_of (linting.Write n) = Write n
 lint_fault_of linting.OutOfMemory = OutOfMemory
 
 -- The error ended the run after some lines: the two writers have gained a prefix of the kept lines and of the reports.
--- If
--- a line could not be read, these are all lines before it.
+-- If a line could not be read, these are all lines before it.
 pub record LintsUntilError (keep : Bool)
     (input given kept_before kept_after reported_before reported_after : Option (List ℕ))
     (error : ToolFault) : Type 0 where
