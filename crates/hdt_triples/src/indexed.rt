@@ -5,7 +5,6 @@ ghost use Rattle.hdt_seq.specs.Directory.{IsDirectoryOf, groups};
 ghost use Rattle.hdt_seq.specs.RankSelect.{ones_before};
 ghost use Rattle.hdt_seq.specs.Width.{digits};
 ghost use Rattle.hdt_triples.specs.TripleSequences.{pair_of, subject_at, triples_of, triple_at};
-ghost use Rattle.hdt_triples.specs.IndexViews.{directories_held, triples_indexed, triples_listed};
 ghost use Rattle.hdt_triples.specs.Views.{triples_view};
 ghost use Rattle.hdt_triples.specs.Scanning.{IsTriplePosition};
 ghost use Rattle.hdt_triples.specs.Bounds.{most_steps, start_cost};
@@ -34,8 +33,9 @@ pub struct IndexedTriples<'a> {
 }
 
 impl<'a> Triples<'a> {
-    /// Builds the rank/select indexes in one pass over the bitmaps: 8 bytes for each group of 512 bits, and 8 more for
-    /// each bitmap. On allocation failure the error is `self`.
+    ghost use Rattle.hdt_triples.specs.IndexViews.{triples_indexed};
+
+    /// Builds the indexes in one pass: 8 bytes for each group of 512 bits, and 16 more. Without memory: `Err(self)`.
     #[tactic(auto, unfolding(crate::specs::Views::triples_view))]
     pub fn with_directories(self, alloc: Global) -> Result<IndexedTriples<'a>, Triples<'a>>
         ensures indexed { IfOk result (λ t. triples_indexed t ≡ self.entry) }
@@ -56,6 +56,7 @@ impl<'a> Triples<'a> {
 }
 
 impl<'a> IndexedTriples<'a> {
+    ghost use Rattle.hdt_triples.specs.IndexViews.{directories_held, triples_indexed, triples_listed};
     ghost use Rattle.hdt_triples.specs.Remaining.{remaining_matches, step_limit};
 
     /// Returns the memory of the indexes in units of 8 bytes.

@@ -1,0 +1,51 @@
+"""The layout of the crates' sources: lines, modules, and where a type's `impl`s stand. Probes are test programs."""
+
+from __future__ import annotations
+
+import re
+from collections.abc import Iterator
+from pathlib import Path
+
+import pytest
+
+from support.built import TOP
+
+CRATES = sorted(it.name for it in (TOP / "crates").iterdir() if not it.name.startswith("hdt_probe"))
+# `rt fmt` writes an attribute on one line, however long its list of lemmas is. An import of one name cannot be parted,
+# nor can the bytes of a file.
+ONE_LINE = re.compile(r"#!?\[tactic\(|use [^,]*$|b\"")
+IMPL = re.compile(r"impl(?:<[^>]*>)? (?:[\w:<>', ]+ for )?(\w+)(?:<.*>)? (?:\{|where)")
+
+
+def sources(crate: str, *folders: str) -> Iterator[Path]:
+    """Yield the files of a crate that are written by hand."""
+    for folder in folders:
+        yield from sorted(it for it in (TOP / "crates" / crate / folder).rglob("*") if it.suffix in (".rt", ".antt"))
+
+
+@pytest.mark.parametrize("crate", CRATES)
+def test_lines(crate: str) -> None:
+    """A line has at most 120 columns."""
+    found = {}
+    for path in sources(crate, "src", "specs", "proofs"):
+        lines = path.read_text().split("\n")
+        found[path.name] = [it for it in lines if len(it) > 120 and not ONE_LINE.match(it.strip())]
+    assert {name: lines for name, lines in found.items() if lines} == {}
+
+
+@pytest.mark.parametrize("crate", CRATES)
+def test_modules(crate: str) -> None:
+    """A module has at most 400 lines."""
+    lengths = {path.name: path.read_text().count("\n") for path in sources(crate, "src")}
+    assert {name: length for name, length in lengths.items() if length > 400} == {}
+
+
+@pytest.mark.parametrize("crate", CRATES)
+def test_impls(crate: str) -> None:
+    """The `impl`s of a type stand in at most two files."""
+    files: dict[str, set[str]] = {}
+    for path in sources(crate, "src"):
+        for line in path.read_text().split("\n"):
+            if found := IMPL.match(line):
+                files.setdefault(found[1], set()).add(path.name)
+    assert {name: found for name, found in files.items() if len(found) > 2} == {}
