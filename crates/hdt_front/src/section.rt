@@ -48,8 +48,8 @@ impl<'a> Section<'a> {
     ghost use Rattle.hdt_wire.specs.Checks.{ReadsUnlessOom};
     ghost use Rattle.hdt_front.specs.EntryFacts.{bytes_from_entry};
     ghost use Rattle.hdt_front.specs.Faults.{read_fault_of};
-    ghost use Rattle.hdt_front.specs.Section.{AreSectionStrings, IsSectionAt, SectionParts, packed_parts_at, section_at};
-    ghost use Rattle.hdt_front.specs.Section.{string_offset};
+    ghost use Rattle.hdt_front.specs.Section.{AreSectionStrings, IsSectionAt, SectionParts, packed_parts_at};
+    ghost use Rattle.hdt_front.specs.Section.{section_at, string_offset};
     ghost use Rattle.hdt_front.specs.Strings.{strings_of, section_of, blocks_of, block_size, block_start};
     ghost use Rattle.hdt_front.specs.Strings.{packed_block};
 

@@ -15,9 +15,9 @@ use Rattle.hdt_terms.specs.LinesReader.{LinesState, Takes, left, line_number, st
 use Rattle.hdt_terms.specs.LinesTexts.{TakesWholeLine, IsNextLineError}
 use Rattle.hdt_terms.specs.Documents.{AreDocumentLines, AreEndedLines, BeginsWithLines, DocumentLine}
 use Rattle.hdt_terms.specs.Documents.{FaultAfterDocumentLines, document_lines}
-use Rattle.hdt_terms.specs.Lint.{GainsAllBut, GainsBytes, GainsPrefix, LintsUntilFault, fault_of_line, fault_reports, faulty_lines}
-use Rattle.hdt_terms.specs.Lint.{kept_if, kept_line, kept_lines, last_faulty, last_faulty_of, lines_without_faults}
-use Rattle.hdt_terms.specs.Lint.{numbered, report_if_faulty}
+use Rattle.hdt_terms.specs.Lint.{GainsAllBut, GainsBytes, GainsPrefix, LintsUntilFault, fault_of_line, fault_reports}
+use Rattle.hdt_terms.specs.Lint.{faulty_lines, kept_if, kept_line, kept_lines, last_faulty, last_faulty_of}
+use Rattle.hdt_terms.specs.Lint.{lines_without_faults, numbered, report_if_faulty}
 use Rattle.hdt_terms.specs.declared.fault.LineFault.{LineFault}
 use Rattle.hdt_terms.specs.declared.lint.LintFault.{LintFault}
 use Rattle.hdt_terms.specs.declared.lint.LintFault.TheVariants.{Write, OutOfMemory}

@@ -4,8 +4,8 @@ ghost use Rattle.std.specs.Prelude.{length, true, false};
 ghost use Rattle.std.specs.Int.{from_bool};
 ghost use Rattle.hdt_wire.specs.Counted.{inner, failures};
 ghost use Rattle.hdt_terms.specs.Lint.{LintsInput, LintsUntilFault, GainsAllBut, GainsBytes, GainsPrefix, IsReadFault};
-ghost use Rattle.hdt_terms.specs.Lint.{at_line, fault_of_line, fault_report, faulty_lines, kept_if, last_faulty, numbered};
-ghost use Rattle.hdt_terms.specs.Lint.{report_if_faulty, text_fault};
+ghost use Rattle.hdt_terms.specs.Lint.{at_line, fault_of_line, fault_report, faulty_lines, kept_if, last_faulty};
+ghost use Rattle.hdt_terms.specs.Lint.{numbered, report_if_faulty, text_fault};
 ghost use Rattle.hdt_terms.specs.declared.lint.LintFault.TheVariants.{OutOfMemory, Write as write_failed};
 
 use crate::fault::{LineFault, LineReason, TermFault};

@@ -4,9 +4,9 @@ ghost use Rattle.std.specs.Prelude.{IfErr, None, Some, map, length, get_or, repl
 ghost use Rattle.hdt_wire.specs.Counted.{inner, failures};
 ghost use Rattle.hdt_terms.specs.Lint.{fault_of_line, numbered};
 ghost use Rattle.hdt_terms.specs.Split.{EachGains, EachGainsPrefix, EachGainsAllBut, FailsOnce, IsSplitReadFault};
-ghost use Rattle.hdt_terms.specs.Split.{SplitsInput, SplitsUntilFault, has_blank_node, is_blank_string, triple_line_after};
-ghost use Rattle.hdt_terms.specs.Split.{line_if_in_part, number_if_nonempty, prefix_label, triple_of_line};
-ghost use Rattle.hdt_terms.specs.Split.{triples_of_document, prefixed_line};
+ghost use Rattle.hdt_terms.specs.Split.{SplitsInput, SplitsUntilFault, has_blank_node, is_blank_string};
+ghost use Rattle.hdt_terms.specs.Split.{triple_line_after, line_if_in_part, number_if_nonempty, prefix_label};
+ghost use Rattle.hdt_terms.specs.Split.{triple_of_line, triples_of_document, prefixed_line};
 ghost use Rattle.hdt_terms.specs.Parts.{part_of_string};
 ghost use Rattle.hdt_terms.specs.declared.split.SplitFault.TheVariants.{Line as line_failed, OutOfMemory};
 ghost use Rattle.hdt_terms.specs.declared.split.SplitFault.TheVariants.{Write as write_failed};

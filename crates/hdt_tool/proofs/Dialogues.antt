@@ -33,9 +33,9 @@ use Rattle.hdt_tool.specs.TriplesText.{AppendsTriples, PrintsTriples}
 use Rattle.hdt_triples.specs.TripleSequences.{Triple}
 use Rattle.hdt_file.specs.Writable.{SkipsNonTerms}
 use Rattle.hdt_tool.specs.Dialogue.{AnswersKept, AnswersLine, AnswersLines, AnswersOverFileUntilFault, AnswersRequest}
-use Rattle.hdt_tool.specs.Dialogue.{AnswersUntilFault, AreFirstLines, FollowsLines, StopsAfterAnswers, RequestStrings, bounded_request_in}
-use Rattle.hdt_tool.specs.Dialogue.{ended, given_strings, is_count, joined_reports, max_input_bytes, plain_report}
-use Rattle.hdt_tool.specs.Dialogue.{skips_in}
+use Rattle.hdt_tool.specs.Dialogue.{AnswersUntilFault, AreFirstLines, FollowsLines, StopsAfterAnswers, RequestStrings}
+use Rattle.hdt_tool.specs.Dialogue.{bounded_request_in, ended, given_strings, is_count, joined_reports, max_input_bytes}
+use Rattle.hdt_tool.specs.Dialogue.{plain_report, skips_in}
 
 -- Reports are joined in any order.
 abbrev made : Bool → ℕ → AnswerReport
@@ -366,8 +366,8 @@ lent_given (i ∷ j ∷ k ∷ l ∷ rest) s p o x y z a b c n one two last = abs
 
 -- A write that failed while answering is a failure of the writer.
 pub write_failed : (options : AnswerOptions) (file_before file_after input after a b : Option (List ℕ)) (f g : ℕ)
-    (e : ToolFault) (n : ℕ) → e ≡ Write n → AnswersOverFileUntilFault options file_before file_after input after a b f g e
-    → g ≡ f + 1
+    (e : ToolFault) (n : ℕ) → e ≡ Write n
+    → AnswersOverFileUntilFault options file_before file_after input after a b f g e → g ≡ f + 1
 write_failed options file_before file_after input after a b f g e n same h =
     let over = subst (AnswersOverFileUntilFault options file_before file_after input after a b f g) same h in
     over.holds.holds.stopped.failed

@@ -3,9 +3,9 @@ use Rattle.std.proofs.lemmas.Result.{err_from_is_err_and}
 use Rattle.hdt_terms.specs.LinesReader.{line_number}
 use Rattle.hdt_terms.specs.Documents.{DocumentLine}
 use Rattle.hdt_terms.specs.Lint.{numbered}
-use Rattle.hdt_terms.proofs.DocumentLines.{begins_with, below_most, counted_on, cut_short, fault_behind, linted_on, no_bytes}
-use Rattle.hdt_terms.proofs.DocumentLines.{none_linted, none_read, nothing_linted, read_on, stops_at, wrote, wrote_all}
-use Rattle.hdt_terms.proofs.DocumentLines.{wrote_prefix, writer_failed}
+use Rattle.hdt_terms.proofs.DocumentLines.{begins_with, below_most, counted_on, cut_short, fault_behind, linted_on}
+use Rattle.hdt_terms.proofs.DocumentLines.{no_bytes, none_linted, none_read, nothing_linted, read_on, stops_at}
+use Rattle.hdt_terms.proofs.DocumentLines.{wrote, wrote_all, wrote_prefix, writer_failed}
 use Rattle.hdt_terms.proofs.lint.lint_document.Goals as goal
 
 pub returns-in_err-lines-clause-stopped : goal.returns-in_err-lines-clause-stopped
