@@ -3,7 +3,7 @@ use Rattle.std.proofs.Common.{◌≡◌, ◌⊎◌, ◌+◌, ◌<◌, ◌≤◌,
 use Rattle.std.proofs.Common.{Option, None, Some, refl, sym, ap, subst, ◌∙◌, inl, inr, arith, append_assoc, append-nil}
 use Rattle.std.proofs.Common.{zero-add, add-zero, min, ◌^◌, ◌-◌}
 use Rattle.std.proofs.lemmas.List.{length-append, length-take-le}
-use Rattle.std.proofs.Math.Seq.{drop-append_seam}
+use Rattle.std.proofs.Math.Seq.{drop-append_seam, take-append_seam}
 use Rattle.std.proofs.lemmas.List.Elements.{All-head, All-tail, filter_map-append}
 use Rattle.std.proofs.lemmas.Grind.{flat_map-append}
 use Rattle.std.proofs.KnownBytes.{Appends-nil, Appends-trans}
@@ -318,6 +318,23 @@ counted_on lines line n one new h o is =
       ap length (filter_map-append fault_of_line lines (line ∷ [])),
       length-append (faulty_lines lines) (faulty_lines (line ∷ [])),
     )
+
+-- Before the first of no lines there is none.
+pub none_before : (most : ℕ) (before : List DocumentLine) (last : DocumentLine) → [] ≡ before ++ last ∷ []
+    → length (faulty_lines before) < most
+none_before most [] last h = absurd cc
+none_before most (x ∷ before) last h = absurd cc
+
+-- Fewer than `most` lines before this one are faulty.
+pub fewer_before : (lines : List DocumentLine) (line : DocumentLine) (count most : ℕ)
+    → count ≡ length (faulty_lines lines) → count < most → (before : List DocumentLine) (last : DocumentLine)
+    → lines ++ line ∷ [] ≡ before ++ last ∷ [] → length (faulty_lines before) < most
+fewer_before lines line count most is fewer before last h =
+    let equal : length before ≡ length lines =
+    omega (arith, ap length h, length-append lines (line ∷ []), length-append before (last ∷ [])) in
+    let same : before ≡ lines = sym (take-append_seam before (last ∷ [])) ∙ ap (take (length before)) (sym h)
+    ∙ ap (λ n. take n (lines ++ line ∷ [])) equal ∙ take-append_seam lines (line ∷ []) in
+    omega (arith, is, fewer, ap (λ xs. length (faulty_lines xs)) same)
 
 -- ---- errors
 

@@ -1,5 +1,5 @@
 -- Checking every line of a document: the reports of the faulty lines, and the bytes of the others.
-use Rattle.std.specs.Prelude.{◌≡◌, ℕ, ◌-◌, ◌^◌, ◌==◌, ◌⊎◌, if◌then◌else◌, Bool, true, false, List, [], ◌∷◌, ◌++◌}
+use Rattle.std.specs.Prelude.{◌≡◌, ℕ, ◌-◌, ◌<◌, ◌^◌, ◌==◌, ◌⊎◌, if◌then◌else◌, Bool, true, false, List, [], ◌∷◌, ◌++◌}
 use Rattle.std.specs.Prelude.{length, min, take, drop, Option, None, Some, Result, Ok, Err, codes, option_map}
 use Rattle.std.specs.Fmt.{decimal}
 use Rattle.std.specs.Io.KnownBytes.{Appends}
@@ -101,12 +101,14 @@ GainsPrefix before after text = (more : List ℕ) × GainsAllBut before after te
 -- ---- complete and interrupted runs
 
 -- All lines of the input, or its first lines up to the last of `most` faulty ones, were checked: n are faulty, and the
--- two writers have gained the kept lines and the reports.
+-- two writers have gained the kept lines and the reports. Before the last of these lines fewer than `most` are faulty.
 pub record LintsInput (keep : Bool) (most : ℕ)
     (input kept_before kept_after reported_before reported_after : Option (List ℕ)) (n : ℕ) : Type 0 where
   pub lines : List DocumentLine
   pub are : AreDocumentLines input lines ⊎ ((n ≡ most) × BeginsWithLines input lines)
   pub count : n ≡ length (faulty_lines lines)
+  pub fewer : (before : List DocumentLine) (last : DocumentLine) → lines ≡ before ++ last ∷ []
+      → length (faulty_lines before) < most
   pub kept : Appends kept_before kept_after (kept_lines keep lines)
   pub reported : Appends reported_before reported_after (fault_reports lines)
 

@@ -45,6 +45,7 @@ pub struct Lines {
 }
 
 impl Model for Lines {
+    ghost use Rattle.std.specs.Prelude.{◌+◌, ◌^◌, ◌<◌, ◌≤◌, length};
     ghost use Rattle.hdt_terms.specs.LinesReader.{LinesState};
 
     ghost Value = { LinesState };
@@ -309,8 +310,7 @@ impl Lines {
     ///
     /// # Errors
     ///
-    /// The first malformed line, or why reading failed, after all lines before it. Later calls repeat it and read
-    /// nothing.
+    /// The first malformed line, or why reading failed, after the lines before it. Later calls only return it again.
     pub fn next_triple<R: Read>(
         &mut self,
         input: &mut Counted<R>,

@@ -3,9 +3,9 @@ use Rattle.std.proofs.lemmas.Result.{err_from_is_err_and}
 use Rattle.hdt_terms.specs.LinesReader.{line_number}
 use Rattle.hdt_terms.specs.Documents.{DocumentLine}
 use Rattle.hdt_terms.specs.Lint.{numbered}
-use Rattle.hdt_terms.proofs.DocumentLines.{begins_with, below_most, counted_on, cut_short, fault_behind, linted_on}
-use Rattle.hdt_terms.proofs.DocumentLines.{no_bytes, none_linted, none_read, nothing_linted, read_on, stops_at}
-use Rattle.hdt_terms.proofs.DocumentLines.{wrote, wrote_all, wrote_prefix, writer_failed}
+use Rattle.hdt_terms.proofs.DocumentLines.{begins_with, below_most, counted_on, cut_short, fault_behind, fewer_before}
+use Rattle.hdt_terms.proofs.DocumentLines.{linted_on, no_bytes, none_before, none_linted, none_read, nothing_linted}
+use Rattle.hdt_terms.proofs.DocumentLines.{read_on, stops_at, writer_failed, wrote, wrote_all, wrote_prefix}
 use Rattle.hdt_terms.proofs.lint.lint_document.Goals as goal
 
 pub returns-in_err-lines-clause-stopped : goal.returns-in_err-lines-clause-stopped
@@ -20,6 +20,7 @@ lines-init g c = record {
     none_read c.in_ok-lines.lines _ c.in_ok-lines.ensures,
     none_linted _ _ _ _ _ _ c.new-linter.ensures.kept c.new-linter.ensures.reported c.new-linter.ensures.faulty,
     refl,
+    none_before _,
   );
   within = omega arith;
   keep = c.new-linter.ensures.keep;
@@ -99,6 +100,8 @@ lines-preserved g c =
           faulty_is = done.others.1 ∙ linted.faulty_is;
         },
         counted_on inv.0 line c.lines.count _ _ inv.3 (c.from.ensures ∙ lint.count) refl,
+        fewer_before inv.0 line c.lines.count c.args.most inv.3
+            (c.is_another_wanted.ensures.fewer c.lines-test.true),
       );
       within = rw c.from.ensures
           (below_most c.lines.count c.args.most c.in_ok-lint_line.field-0
@@ -139,6 +142,7 @@ returns-clause-ok g c =
       are = stops_at c.lines.count c.args.most c.lines.lines _ _ inv.0 inv.1 c.lines.invariant.within
           (c.is_another_wanted.ensures.done c.lines-test.false);
       count = inv.3;
+      fewer = inv.4;
       kept = wrote_all _ _ _ c.write_both_if_long-2.new.linter.kept.items
           (wrote _ _ _ _ c.lines.linter.kept.items c.write_both_if_long-2.new.linter.kept.items inv.2.kept_is done.kept)
           all.0;

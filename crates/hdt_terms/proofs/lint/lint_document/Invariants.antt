@@ -1,4 +1,4 @@
-use Rattle.std.proofs.Common.{◌≡◌, ◌+◌, ◌-◌, ◌≤◌, cond, List, length}
+use Rattle.std.proofs.Common.{◌≡◌, ◌+◌, ◌-◌, ◌<◌, ◌≤◌, ◌∷◌, ◌++◌, [], cond, List, length}
 use Rattle.hdt_wire.specs.Counted.{inner, failures}
 use Rattle.hdt_terms.specs.LinesReader.{left}
 use Rattle.hdt_terms.specs.Documents.{DocumentLine}
@@ -15,7 +15,9 @@ invariant-lines g l = record {
       × Linted l.keep lines (g.K.Write.contents (inner l.fn.kept)) (g.K.Write.contents (inner l.kept))
       (g.T.Write.contents (inner l.fn.reported))
       (g.T.Write.contents (inner l.reported)) l.linter.kept.items l.linter.reported.items l.linter.faulty
-      × (l.count ≡ length (faulty_lines lines));
+      × (l.count ≡ length (faulty_lines lines))
+      × ((before : List DocumentLine) (last : DocumentLine) → lines ≡ before ++ last ∷ []
+      → length (faulty_lines before) < l.most);
   within : l.count ≤ l.most;
   keep : l.linter.keep ≡ l.keep;
   kept : failures l.kept ≡ failures l.fn.kept;
