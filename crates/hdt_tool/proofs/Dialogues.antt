@@ -18,7 +18,7 @@ use Rattle.hdt_tool.specs.Outcomes.{FailsAfter}
 use Rattle.hdt_tool.specs.Faults.{fault_of_reason, line_fault_of}
 use Rattle.hdt_tool.specs.Inside.AnswerLoop.{HasTakenLines}
 use Rattle.hdt_tool.specs.declared.fault.ToolFault.{ToolFault}
-use Rattle.hdt_tool.specs.declared.fault.ToolFault.TheVariants.{Read, Write, OutOfMemory}
+use Rattle.hdt_tool.specs.declared.fault.ToolFault.TheVariants.{BadOptions, Read, Write, OutOfMemory}
 use Rattle.std.specs.Io.KnownBytes.{Appends}
 use Rattle.std.specs.Prelude.{IfErr, IsErrOf, option_map}
 use Rattle.hdt_dict.specs.Strings.{BorrowedString}
@@ -371,3 +371,11 @@ pub write_failed : (options : AnswerOptions) (file_before file_after input after
 write_failed options file_before file_after input after a b f g e n same h =
     let over = subst (AnswersOverFileUntilFault options file_before file_after input after a b f g) same h in
     over.holds.holds.stopped.failed
+
+-- Answers do not end for options that are not valid.
+pub answers_accept_options : (options : AnswerOptions) (file_before file_after input after a b : Option (List ℕ))
+    (f g : ℕ) (e : ToolFault) → e ≡ BadOptions
+    → AnswersOverFileUntilFault options file_before file_after input after a b f g e → ⊥
+answers_accept_options options file_before file_after input after a b f g e is h =
+    let over = subst (AnswersOverFileUntilFault options file_before file_after input after a b f g) is h in
+    over.holds.holds.stopped

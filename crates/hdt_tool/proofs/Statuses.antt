@@ -1,15 +1,18 @@
 -- What an exit status implies about the result that it was computed from.
 use Rattle.std.proofs.Common.{◌≡◌, ◌≢◌, ◌⊎◌, ◌∙◌, ap, ℕ, zero, suc, Bool, true, false, cond, refl, inl, inr, subst, sym}
-use Rattle.std.specs.Prelude.{List, Result, Ok, Err, MatchResult, IfOk, IfErr, IsErrOf, OnOk}
+use Rattle.std.specs.Prelude.{List, Option, Result, Ok, Err, MatchResult, IfOk, IfErr, IsErrOf, OnOk}
 use Rattle.clap.specs.Words.{Text}
 use Rattle.hdt_tool.specs.declared.fault.ToolFault.{ToolFault}
-use Rattle.hdt_tool.specs.declared.fault.ToolFault.TheVariants.{File, NoTriples, Read, Write, OutOfMemory}
+use Rattle.hdt_tool.specs.declared.fault.ToolFault.TheVariants.{File, NoTriples, BadOptions, Read, Write, OutOfMemory}
 use Rattle.hdt_tool.specs.declared.fault.UsageFault.{UsageFault}
 use Rattle.hdt_tool.specs.declared.request.AnswerReport.{AnswerReport}
 use Rattle.hdt_tool.specs.declared.request.Invocation.{Invocation}
 use Rattle.hdt_tool.specs.CommandLine.{IsRefused, ParsesToInvocation}
 use Rattle.hdt_tool.specs.Dialogue.{plain_report}
 use Rattle.hdt_tool.specs.ErrorLines.{fault_status}
+use Rattle.hdt_tool.specs.Outcomes.{HasBadOptions, IsFaultOfInput, IsReadOnly}
+use Rattle.hdt_tool.specs.declared.request.Action.{Action}
+use Rattle.hdt_tool.specs.declared.request.Action.TheVariants.{Build, Rewrite}
 use Rattle.hdt_tool.specs.Status.{ExitsWith, IsCommandStatus, IsRefusalStatus, IsActionStatus, IsReportStatus}
 use Rattle.hdt_tool.proofs.Refusals.{parses_to_request}
 
@@ -103,15 +106,16 @@ pub answers_done : (P : AnswerReport → Type 0) (outcome : Result AnswerReport 
 answers_done P (Ok report) status of ok is = done_report P report.has_errors report.skipped status of ok is
 answers_done P (Err fault) status of ok is = absurd (not_done fault status of is)
 
--- Any other status: an answer is an error or leaves out triples, or an error ended the answers.
-pub answers_stopped : {A : Type 0} (P : AnswerReport → Type 0) (Q : ToolFault
-    → Type 0) (outcome : Result AnswerReport ToolFault) (status : ℕ) → IsAnswersStatus outcome status → IfOk outcome P
-    → IfErr outcome (λ e. A ⊎ Q e)
-    → A ⊎ (((report : AnswerReport) × IsReportStatus report status × P report)
-    ⊎ ((e : ToolFault) × ((status ≡ fault_status e) ⊎ (status ≡ 4)) × Q e))
-answers_stopped P Q (Ok report) status of ok err = inr (inl (report, of, ok))
-answers_stopped P Q (Err fault) status of ok (inl a) = inl a
-answers_stopped P Q (Err fault) status of ok (inr q) = inr (inr (fault, of, q))
+-- Any other status: an error before the answers, or an answer is an error or leaves out triples, or an error ended
+-- them.
+pub answers_stopped : (P : AnswerReport → Type 0) (Q R : ToolFault → Type 0) (outcome : Result AnswerReport ToolFault)
+    (status : ℕ) → IsAnswersStatus outcome status → IfOk outcome P → IfErr outcome (λ e. Q e ⊎ R e)
+    → ((e : ToolFault) × ((status ≡ fault_status e) ⊎ (status ≡ 4)) × Q e)
+    ⊎ (((report : AnswerReport) × IsReportStatus report status × P report)
+    ⊎ ((e : ToolFault) × ((status ≡ fault_status e) ⊎ (status ≡ 4)) × R e))
+answers_stopped P Q R (Ok report) status of ok err = inr (inl (report, of, ok))
+answers_stopped P Q R (Err fault) status of ok (inl q) = inl (fault, of, q)
+answers_stopped P Q R (Err fault) status of ok (inr r) = inr (inr (fault, of, r))
 
 -- Status 0 implies what holds on success.
 pub if_done : {A T : Type 0} (P : T → Type 0) (outcome : Result T ToolFault) (status : ℕ)
@@ -120,37 +124,66 @@ pub if_done : {A T : Type 0} (P : T → Type 0) (outcome : Result T ToolFault) (
 if_done P (Ok done) status of ok is = ok
 if_done P (Err fault) status of ok is = absurd (not_done fault status of is)
 
+-- Without an error the status is 0 or 1, or 4 if there is no memory for a message.
+abbrev IsPlain : ℕ → Type 0
+IsPlain status = (status ≡ 0) ⊎ ((status ≡ 1) ⊎ (status ≡ 4))
+
+pub plain_count : (status count : ℕ) → (count ≡ 0 → status ≡ 0) × (count ≢ 0 → (status ≡ 1) ⊎ (status ≡ 4))
+    → IsPlain status
+plain_count status zero h = inl (h.0 refl)
+plain_count status (suc n) h = inr (h.1 (λ e. absurd cc))
+
+pub plain_lint : (status : ℕ) (faulty : Bool) → status ≡ cond faulty 1 0 → IsPlain status
+plain_lint status true h = inr (inl h)
+plain_lint status false h = inl h
+
+plain_report : (status : ℕ) (faulty : Bool) (skipped : ℕ)
+    → IsReportStatus (record { has_errors = faulty; skipped = skipped }) status → IsPlain status
+plain_report status faulty zero h = plain_lint status faulty (h.0 refl)
+plain_report status faulty (suc n) h = inr (h.1 (λ e. absurd cc))
+
+pub plain_answers : (status : ℕ) (report : AnswerReport) → IsReportStatus report status → IsPlain status
+plain_answers status report h = plain_report status report.has_errors report.skipped h
+
+not_two_or_three : (status : ℕ) → IsPlain status → (status ≡ 2) ⊎ (status ≡ 3) → ⊥
+not_two_or_three status (inl h) (inl is) = absurd cc
+not_two_or_three status (inl h) (inr is) = absurd cc
+not_two_or_three status (inr (inl h)) (inl is) = absurd cc
+not_two_or_three status (inr (inl h)) (inr is) = absurd cc
+not_two_or_three status (inr (inr h)) (inl is) = absurd cc
+not_two_or_three status (inr (inr h)) (inr is) = absurd cc
+
 -- Status 3: a read or a write failed.
 pub failed_status : {A B T : Type 0} (P : T → Type 0) (outcome : Result T ToolFault) (status : ℕ)
     → MatchResult outcome P (λ fault. (status ≡ fault_status fault) ⊎ (status ≡ 4))
-    → ((x : T) → P x → status ≢ 3) → (IsErrOf outcome Read → A) → IfErr outcome (λ fault. (n : ℕ) → fault ≡ Write n → B)
-    → status ≡ 3 → A ⊎ B
-failed_status P (Ok done) status of other read write is = absurd (other done of is)
-failed_status P (Err fault) status (inr memory) other read write is = absurd cc
-failed_status P (Err Read) status (inl h) other read write is = inl (read refl)
-failed_status P (Err (Write n)) status (inl h) other read write is = inr (write n refl)
-failed_status P (Err fault) status (inl h) other read write is = absurd cc
+    → ((x : T) → P x → IsPlain status) → (IsErrOf outcome Read → A)
+    → IfErr outcome (λ fault. (n : ℕ) → fault ≡ Write n → B) → status ≡ 3 → A ⊎ B
+failed_status P (Ok done) status of plain read write is = absurd (not_two_or_three status (plain done of) (inr is))
+failed_status P (Err fault) status (inr memory) plain read write is = absurd cc
+failed_status P (Err Read) status (inl h) plain read write is = inl (read refl)
+failed_status P (Err (Write n)) status (inl h) plain read write is = inr (write n refl)
+failed_status P (Err fault) status (inl h) plain read write is = absurd cc
 
-not_three : (status : ℕ) → (status ≡ 1) ⊎ (status ≡ 4) → status ≢ 3
-not_three status (inl h) is = absurd cc
-not_three status (inr h) is = absurd cc
+-- Status 2: the options are not valid.
+pub refused_status : {T : Type 0} (P : T → Type 0) (outcome : Result T ToolFault) (status : ℕ)
+    → MatchResult outcome P (λ fault. (status ≡ fault_status fault) ⊎ (status ≡ 4))
+    → ((x : T) → P x → IsPlain status) → IfErr outcome (λ fault. fault ≢ BadOptions) → status ≢ 2
+refused_status P (Ok done) status of plain other is = not_two_or_three status (plain done of) (inl is)
+refused_status P (Err fault) status (inr memory) plain other is = absurd cc
+refused_status P (Err BadOptions) status (inl h) plain other is = other refl
+refused_status P (Err fault) status (inl h) plain other is = absurd cc
 
-pub count_not_three : (status count : ℕ) → (count ≡ 0 → status ≡ 0) × (count ≢ 0 → (status ≡ 1) ⊎ (status ≡ 4))
-    → status ≢ 3
-count_not_three status zero h is = let none = h.0 refl in absurd cc
-count_not_three status (suc n) h is = not_three status (h.1 (λ e. absurd cc)) is
+-- A command that makes no file has no options that are not valid.
+read_only_options : (action : Action) (before after : Option (List ℕ)) → IsReadOnly action
+    → HasBadOptions action before after → ⊥
+read_only_options (Build options) before after read bad = read
+read_only_options (Rewrite b) before after read bad = read
+read_only_options action before after read bad = bad
 
-pub lint_not_three : (status : ℕ) (faulty : Bool) → status ≡ cond faulty 1 0 → status ≢ 3
-lint_not_three status true h is = absurd cc
-lint_not_three status false h is = absurd cc
-
-report_not_three : (status : ℕ) (faulty : Bool) (skipped : ℕ)
-    → IsReportStatus (record { has_errors = faulty; skipped = skipped }) status → status ≢ 3
-report_not_three status faulty zero h is = lint_not_three status faulty (h.0 refl) is
-report_not_three status faulty (suc n) h is = not_three status (h.1 (λ e. absurd cc)) is
-
-pub answers_not_three : (status : ℕ) (report : AnswerReport) → IsReportStatus report status → status ≢ 3
-answers_not_three status report h = report_not_three status report.has_errors report.skipped h
+pub accepts_options : (action : Action) (before after : Option (List ℕ)) (fault : ToolFault) → IsReadOnly action
+    → IsFaultOfInput action before after fault → fault ≢ BadOptions
+accepts_options action before after fault read h is =
+    read_only_options action before after read (subst (IsFaultOfInput action before after) is h)
 
 -- ---- the status of a command that writes no file
 

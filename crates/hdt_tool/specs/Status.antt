@@ -2,7 +2,11 @@
 use Rattle.std.specs.Prelude.{◌≡◌, ◌≢◌, ◌⊎◌, ℕ, List, if◌then◌else◌}
 use Rattle.clap.specs.Words.{Text}
 use Rattle.hdt_tool.specs.CommandLine.{IsRefused, ParsesToRequest}
+use Rattle.hdt_terms.specs.declared.split.SplitFault.TheVariants as splitting
 use Rattle.hdt_tool.specs.ErrorLines.{fault_status}
+use Rattle.hdt_tool.specs.Faults.{line_fault_of}
+use Rattle.hdt_tool.specs.declared.splitting.SplitInputsFault.{SplitInputsFault}
+use Rattle.hdt_tool.specs.declared.splitting.SplitInputsFault.TheVariants as stop
 use Rattle.hdt_tool.specs.declared.request.Action.{Action}
 use Rattle.hdt_tool.specs.declared.request.AnswerReport.{AnswerReport}
 use Rattle.hdt_tool.specs.declared.request.Action.TheVariants.{Build}
@@ -14,6 +18,14 @@ use Rattle.hdt_tool.specs.declared.fault.UsageFault.TheVariants as usage
 -- The status of success, or of some error of a command.
 abbrev pub IsCommandStatus : ℕ → Type 0
 IsCommandStatus status = (status ≡ 0) ⊎ ((fault : ToolFault) × (status ≡ fault_status fault))
+
+-- The status of an error of `split`.
+abbrev pub split_fault_status : SplitInputsFault → ℕ
+split_fault_status (stop.Input n (splitting.Line fault)) = fault_status (line_fault_of fault)
+split_fault_status (stop.Input n (splitting.Write part)) = 3
+split_fault_status (stop.Input n splitting.OutOfMemory) = 4
+split_fault_status (stop.BlankNodes one other) = 2
+split_fault_status stop.OutOfMemory = 4
 
 abbrev pub IsBuild : Action → Type 0
 IsBuild (Build options) = Unit {0}

@@ -324,6 +324,8 @@ pub fn answer_file<F: Read, R: Read, W: Write>(
         (R.remaining (inner input.old))
         (W.contents (inner out.old)) (W.contents (inner out.new))) }
     ensures writer_unfailed { OnOk result (failures out.new ≡ failures out.old) }
+    ensures readers_unfailed { OnOk result ((failures file.new ≡ failures file.old)
+        × (failures input.new ≡ failures input.old)) }
     // `Read`: one of the two readers failed once in this call.
     ensures read { IsErrOf result ToolFault.Read
         → failures file.new + failures input.new ≡ failures file.old + failures input.old + 1 }

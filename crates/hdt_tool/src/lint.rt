@@ -122,6 +122,7 @@ fn run_lint<R: Read, K: Write, T: Write>(
         (T.contents (inner reported.old)) (T.contents (inner reported.new)) false }
     ensures unfailed { result ≡ 0 → (failures kept.new ≡ failures kept.old)
         × (failures reported.new ≡ failures reported.old) }
+    ensures reader_unfailed { result ≡ 0 → failures input.new ≡ failures input.old }
     // 3: the reader or a writer failed.
     ensures failed { result ≡ 3 → (failures input.new ≡ failures input.old + 1)
         ⊎ (failures kept.new ≡ failures kept.old + 1) ⊎ (failures reported.new ≡ failures reported.old + 1) }

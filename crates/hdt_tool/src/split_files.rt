@@ -1,7 +1,7 @@
 //! `split` over files and streams.
-ghost use Rattle.std.specs.Prelude.{◌≡◌, ◌⊎◌, ◌<◌, ◌^◌, IfOk, length};
+ghost use Rattle.std.specs.Prelude.{◌≡◌, ◌≢◌, ◌⊎◌, ◌<◌, ◌^◌, IfOk, MatchResult, length};
 ghost use Rattle.hdt_tool.specs.ErrorLines.{fault_status};
-ghost use Rattle.hdt_tool.specs.Status.{IsCommandStatus};
+ghost use Rattle.hdt_tool.specs.Status.{IsCommandStatus, split_fault_status};
 
 use crate::atomic_replace::{NAME_ATTEMPTS, random_number};
 use crate::error_context::{ErrorSource, print_context};
@@ -171,7 +171,8 @@ fn printed_parts<W: Write + Drop>(
 
 /// The status of an error. Prints its message.
 fn print_fault(rt: &HostRuntime, source: ErrorSource<'_>, fault: ToolFault) -> u8
-    ensures { IsCommandStatus result }
+    ensures statuses { IsCommandStatus result }
+    ensures is { (result ≡ fault_status fault) ⊎ (result ≡ 4) }
 {
     command_status(rt, source, Err(fault))
 }
@@ -205,7 +206,8 @@ fn print_input_fault(rt: &HostRuntime, source: ErrorSource<'_>, path: &str, faul
 
 /// The status of an error in a line of the input at a path, or of reading it.
 fn print_line_fault(rt: &HostRuntime, source: ErrorSource<'_>, path: &str, fault: &ToolFault) -> u8
-    ensures { IsCommandStatus result }
+    ensures statuses { IsCommandStatus result }
+    ensures is { (result ≡ fault_status fault.now) ⊎ (result ≡ 4) }
 {
     if *fault == ToolFault::OutOfMemory {
         return print_fault(rt, source, *fault);
@@ -228,7 +230,8 @@ fn print_blank_nodes_line(rt: &HostRuntime, one: &str, other: &str) -> Result<()
 
 /// The status for two inputs with blank nodes.
 fn print_blank_nodes_fault(rt: &HostRuntime, one: &str, other: &str) -> u8
-    ensures { IsCommandStatus result }
+    ensures statuses { IsCommandStatus result }
+    ensures is { (result ≡ 2) ⊎ (result ≡ 4) }
 {
     match print_blank_nodes_line(rt, one, other) {
         Ok(()) => 2,
@@ -244,7 +247,10 @@ fn split_status(
     options: &SplitOptions,
     outcome: Result<(), SplitInputsFault>,
 ) -> u8
-    ensures { IsCommandStatus result }
+    ensures statuses { IsCommandStatus result }
+    // 0 without an error, else that of the error, or 4 if there is no memory for its message.
+    ensures is { MatchResult outcome (λ _. result ≡ 0)
+        (λ stop. (result ≡ split_fault_status stop) ⊎ (result ≡ 4)) }
 {
     let stop = match outcome {
         Ok(()) => return 0,
@@ -317,7 +323,8 @@ fn finish_folder(
     status: u8,
 ) -> u8
     requires { IsCommandStatus status }
-    ensures { IsCommandStatus result }
+    ensures statuses { IsCommandStatus result }
+    ensures kept { status ≢ 0 → result ≡ status }
 {
     let mut status = status;
     if status == 0 {

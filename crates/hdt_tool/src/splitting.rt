@@ -1,5 +1,5 @@
 //! `split`: several documents into the parts of one graph, by subject.
-ghost use Rattle.std.specs.Prelude.{◌≡◌, ◌<◌, ◌^◌, ℕ, None, IfOk, IfErr, OnOk, length, map, true};
+ghost use Rattle.std.specs.Prelude.{◌≡◌, ◌≢◌, ◌<◌, ◌^◌, ℕ, None, IfOk, IfErr, OnOk, length, map, true};
 ghost use Rattle.hdt_wire.specs.Counted.{inner, failures};
 ghost use Rattle.hdt_terms.specs.Split.{FailsOnce, SplitsInput};
 ghost use Rattle.hdt_terms.specs.declared.split.SplitFault.TheVariants as SplitFault;
@@ -81,6 +81,8 @@ fn split_input<R: Read, W: Write>(
         (map (λ out. W.contents (inner out)) outs.old) (map (λ out. W.contents (inner out)) outs.new)) }
     ensures write { IfErr result (λ e. (k part : ℕ) → e ≡ SplitInputsFault.Input k (SplitFault.Write part)
         → FailsOnce part (map failures outs.old) (map failures outs.new)) }
+    ensures others { IfErr result (λ e. ((k part : ℕ) → e ≢ SplitInputsFault.Input k (SplitFault.Write part))
+        → map failures outs.new ≡ map failures outs.old) }
     ensures len { length outs.new ≡ length outs.old }
     ensures unfailed { OnOk result (map failures outs.new ≡ map failures outs.old) }
 {
@@ -115,9 +117,11 @@ pub(crate) fn split_inputs<R: Read + Drop, W: Write>(
     // The inputs before that of the error were split, and a prefix of its lines.
     ensures stopped { IfErr result (StopsInTurn blank_nodes None 0 (map (λ input. R.remaining input) inputs.items)
         (map (λ out. W.contents (inner out)) outs.old) (map (λ out. W.contents (inner out)) outs.new)) }
-    // The writer of the part that `Write` names failed, once, and no other writer. At `Ok` none failed.
+    // The writer of the part that `Write` names failed, once, and no other writer. At any other result none failed.
     ensures write { IfErr result (λ e. (k part : ℕ) → e ≡ SplitInputsFault.Input k (SplitFault.Write part)
         → FailsOnce part (map failures outs.old) (map failures outs.new)) }
+    ensures others { IfErr result (λ e. ((k part : ℕ) → e ≢ SplitInputsFault.Input k (SplitFault.Write part))
+        → map failures outs.new ≡ map failures outs.old) }
     ensures unfailed { OnOk result (map failures outs.new ≡ map failures outs.old) }
 {
     let mut first = None;

@@ -15,9 +15,11 @@ ghost use Rattle.std.specs.IoError.{error_kind};
 ghost use Rattle.std.specs.Vec.Iter.{into_iter_items};
 ghost use Rattle.hdt_wire.specs.Counted.{inner, failures};
 ghost use Rattle.hdt_tool.specs.Outcomes.{HasInputFault, HasOut, InterruptsStrings, IsReadOnly, WritesAndCounts};
-ghost use Rattle.hdt_tool.specs.Outcomes.{WritesOutputPrefix, WritesWithCount};
+ghost use Rattle.hdt_tool.specs.Outcomes.{IsFaultOfInput, WritesOutputPrefix, WritesWithCount};
 ghost use Rattle.hdt_tool.specs.CommandLine.{IsRefused, IsUsageText, ParsesToInvocation};
 ghost use Rattle.hdt_tool.specs.Dialogue.{AnswersOverFile, AnswersOverFileUntilFault, plain_report};
+ghost use Rattle.hdt_tool.specs.declared.fault.ToolFault.{ToolFault};
+ghost use Rattle.hdt_tool.specs.declared.request.Action.TheVariants as Action;
 ghost use Rattle.hdt_tool.specs.declared.request.AnswerReport.{AnswerReport};
 ghost use Rattle.hdt_tool.specs.ErrorLines.{fault_status};
 ghost use Rattle.hdt_tool.specs.Status.{ExitsWith, IsBuild, IsCommandStatus, IsRefusalStatus, IsReportStatus};
@@ -179,6 +181,9 @@ fn run_query<R: Read, W: Write>(
         → WritesWithCount action.now (R.remaining (inner input.old)) (R.remaining (inner input.new))
         (W.contents (inner out.old)) (W.contents (inner out.new)) 0 }
     ensures unfailed { result ≡ 0 → failures out.new ≡ failures out.old }
+    ensures reader_unfailed { result ≡ 0 → failures input.new ≡ failures input.old }
+    // It is never 2: the options are valid.
+    ensures accepted { result ≢ 2 }
     // 3: the reader or the writer failed, once.
     ensures failed { result ≡ 3 → (failures input.new ≡ failures input.old + 1)
         ⊎ (failures out.new ≡ failures out.old + 1) }
@@ -277,13 +282,19 @@ fn run_answer<F: Read, R: Read, W: Write>(
         (R.remaining (inner input.old))
         (W.contents (inner out.old)) (W.contents (inner out.new)) (plain_report false) }
     ensures unfailed { result ≡ 0 → failures out.new ≡ failures out.old }
+    ensures readers_unfailed { result ≡ 0 → (failures file.new ≡ failures file.old)
+        × (failures input.new ≡ failures input.old) }
+    // It is never 2: the options are valid.
+    ensures accepted { result ≢ 2 }
     // 3: one of the readers or the writer failed, once.
     ensures failed { result ≡ 3 → (failures file.new + failures input.new ≡ failures file.old + failures input.old + 1)
         ⊎ (failures out.new ≡ failures out.old + 1) }
-    // Otherwise nothing was written; or all answers, and one of them is an error (status 1), or they leave out triples
-    // (1, or 4 if there is no memory for the message); or an error with this status, or lack of memory for its message,
-    // ended the answers.
-    ensures stopped { result ≢ 0 → (out.new ≡ out.old)
+    // Otherwise the file has an error with this status or was not read, and nothing was written; or all answers were,
+    // and one of them is an error (status 1), or they leave out triples (1, or 4 without memory for the message); or an
+    // error with this status ended the answers. Without memory for the message of an error the status is 4.
+    ensures stopped { result ≢ 0 → ((e : ToolFault) × ((result ≡ fault_status e) ⊎ (result ≡ 4))
+        × IsFaultOfInput (Action.Answer options) (F.remaining (inner file.old)) (F.remaining (inner file.new)) e
+        × (input.new ≡ input.old) × (out.new ≡ out.old))
         ⊎ ((report : AnswerReport) × IsReportStatus report result
         × AnswersOverFile options (F.remaining (inner file.old)) (F.remaining (inner file.new))
         (R.remaining (inner input.old)) (W.contents (inner out.old)) (W.contents (inner out.new)) report)

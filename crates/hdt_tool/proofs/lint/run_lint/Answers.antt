@@ -1,6 +1,6 @@
 use Rattle.std.proofs.Math.Logic.{⊎_map}
 use Rattle.std.proofs.lemmas.Result.{IfErr-weaker}
-use Rattle.hdt_tool.proofs.Statuses.{failed_status, if_done, lint_done, lint_not_three, lint_status, lint_stopped}
+use Rattle.hdt_tool.proofs.Statuses.{failed_status, if_done, lint_done, lint_status, lint_stopped, plain_lint}
 use Rattle.hdt_tool.proofs.lint.run_lint.Goals as goal
 
 pub returns-clause-statuses : goal.returns-clause-statuses
@@ -24,6 +24,11 @@ returns-clause-stopped g c not =
 pub returns-clause-failed : goal.returns-clause-failed
 returns-clause-failed g c is =
     failed_status _ c.lint_input-outcome.result c.lint_status.result c.lint_status.ensures
-    (lint_not_three c.lint_status.result) c.lint_input-outcome.ensures.read
+    (plain_lint c.lint_status.result) c.lint_input-outcome.ensures.read
     (IfErr-weaker c.lint_input-outcome.result _ _ (λ e h n same. ⊎_map (λ kept. kept.0) (λ reported. reported.1)
     (h n same)) c.lint_input-outcome.ensures.write) is
+
+pub returns-clause-reader_unfailed : goal.returns-clause-reader_unfailed
+returns-clause-reader_unfailed g c is =
+    if_done _ c.lint_input-outcome.result c.lint_status.result c.lint_status.ensures
+    c.lint_input-outcome.ensures.reader_unfailed is

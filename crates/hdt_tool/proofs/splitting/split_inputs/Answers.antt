@@ -1,4 +1,4 @@
-use Rattle.std.proofs.Common.{◌≡◌, ◌∷◌, ℕ, List, [], Option, None, ap, inl, map, refl, rules, subst, sym}
+use Rattle.std.proofs.Common.{◌≡◌, ◌∙◌, ◌∷◌, ℕ, List, [], Option, None, ap, inl, map, refl, rules, subst, sym}
 use Rattle.std.specs.Vec.Iter.{into_iter_items}
 use Rattle.std.proofs.lemmas.Result.{err_from_is_err_and}
 use Rattle.hdt_wire.specs.Counted.{inner, failures}
@@ -55,6 +55,16 @@ returns-in_err-report-clause-write g c =
     let p = err_from_is_err_and c.from_residual.result c.from_residual.ensures.1 in
     rw (p.1, p.2) (λ k part same. subst (λ before. FailsOnce part before (map failures c.split_input.new.outs))
     c.inputs.invariant.4 (c.in_err-report.ensures.write k part same))
+
+pub returns-in_err-report-clause-others : goal.returns-in_err-report-clause-others
+returns-in_err-report-clause-others g c =
+    let p = err_from_is_err_and c.from_residual.result c.from_residual.ensures.1 in
+    rw (p.1, p.2) (λ other. c.in_err-report.ensures.others other ∙ c.inputs.invariant.4)
+
+pub returns-in_err-first-clause-others : goal.returns-in_err-first-clause-others
+returns-in_err-first-clause-others g c =
+    let p = err_from_is_err_and c.from_residual-in_err-first.result c.from_residual-in_err-first.ensures.1 in
+    rw (p.1, p.2) (λ other. c.in_ok-report.ensures.unfailed ∙ c.inputs.invariant.4)
 
 pub returns-in_err-first-clause-write : goal.returns-in_err-first-clause-write
 returns-in_err-first-clause-write g c =

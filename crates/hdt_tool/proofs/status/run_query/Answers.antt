@@ -1,7 +1,7 @@
 use Rattle.std.proofs.Common.{inl, inr}
 use Rattle.std.proofs.lemmas.Result.{IfErr-weaker}
-use Rattle.hdt_tool.proofs.Statuses.{count_done, count_fault, count_not_three, count_status, count_stopped}
-use Rattle.hdt_tool.proofs.Statuses.{failed_status}
+use Rattle.hdt_tool.proofs.Statuses.{accepts_options, count_done, count_fault, count_status, count_stopped}
+use Rattle.hdt_tool.proofs.Statuses.{failed_status, if_done, plain_count, refused_status}
 use Rattle.hdt_tool.proofs.status.run_query.Goals as goal
 
 pub returns-clause-statuses : goal.returns-clause-statuses
@@ -30,6 +30,18 @@ returns-clause-stopped g c not =
 pub returns-clause-failed : goal.returns-clause-failed
 returns-clause-failed g c is =
     failed_status _ c.print_and_count-outcome.result c.count_status.result c.count_status.ensures
-    (count_not_three c.count_status.result) c.print_and_count-outcome.ensures.read
+    (plain_count c.count_status.result) c.print_and_count-outcome.ensures.read
     (IfErr-weaker c.print_and_count-outcome.result _ _ (λ e h n same. (h n same).0)
     c.print_and_count-outcome.ensures.write) is
+
+pub returns-clause-reader_unfailed : goal.returns-clause-reader_unfailed
+returns-clause-reader_unfailed g c is =
+    if_done _ c.print_and_count-outcome.result c.count_status.result c.count_status.ensures
+    c.print_and_count-outcome.ensures.reader_unfailed is
+
+pub returns-clause-accepted : goal.returns-clause-accepted
+returns-clause-accepted g c =
+    refused_status _ c.print_and_count-outcome.result c.count_status.result c.count_status.ensures
+    (plain_count c.count_status.result)
+    (IfErr-weaker c.print_and_count-outcome.result _ _ (λ e h. accepts_options c.args.action.now _ _ e c.requires h)
+    c.print_and_count-outcome.ensures.reported)
