@@ -7,6 +7,7 @@ mod CountLines
 mod ListedLines
 mod Pieces
 mod InputFaults
+mod LintFaults
 mod Outputs
 mod Rewriting
 mod InfoLaws
