@@ -36,6 +36,3 @@ pub stops_at_fault : (mode : Option BlankNodes) (n : ℕ) (prefix : List ℕ) (i
     → IsFaultOfInputAt mode None n input before after (stop.Input n fault)
 stops_at_fault mode n prefix input left before after fault e h =
     (refl, (left, subst (λ p. SplitsUntilFault p input left before after fault) e h))
-
-pub fault_in_input : (k n : ℕ) (fault other : SplitFault) → stop.Input k fault ≡ stop.Input n other → fault ≡ other
-fault_in_input k n fault other same = cc
