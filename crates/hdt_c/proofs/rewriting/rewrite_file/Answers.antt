@@ -5,6 +5,7 @@ use Rattle.std.proofs.lemmas.Bool.{cases_lt}
 use Rattle.std.specs.Prelude.{◌≡◌, ◌≤◌, ◌<◌, ◌⊎◌, ℕ, Result, Ok, Err}
 use Rattle.hdt_file.specs.Graph.{graph_view}
 use Rattle.hdt_build.specs.Options.{IsBlockSize}
+use Rattle.hdt_build.specs.declared.fault.RewriteFault.TheVariants.{BadOptions}
 use Rattle.hdt_c.proofs.rewriting.rewrite_file.Goals as goal
 
 -- a bound that is not refuted holds
@@ -31,3 +32,14 @@ returns-in-Err-BadOptions-clause-err c =
       bad = (c.rewrite_bytes.ensures.bad).0 (c.in-Err-BadOptions.is ∙ ap Err c.in-Err-BadOptions.field-0-is);
       is_reported = c.verdict_for.ensures;
     }))
+
+pub returns-in-Ok-rewrite_bytes-clause-ok : goal.returns-in-Ok-rewrite_bytes-clause-ok
+returns-in-Ok-rewrite_bytes-clause-ok c = record {
+  graph = graph_view c.in-Ok.graph;
+  layout = c.in-Ok.ensures.found;
+  right =
+      stable_size c.args.block_size
+      (λ no. no_err c.rewrite_bytes.result c.in-Ok-rewrite_bytes.made BadOptions c.in-Ok-rewrite_bytes.is
+      ((c.rewrite_bytes.ensures.bad).1 no));
+  is = c.in-Ok-rewrite_bytes.ensures.made;
+}
