@@ -3,23 +3,31 @@ use Rattle.std.proofs.Common.{◌≡◌, ℕ, List, [], ◌++◌, length, take, 
 use Rattle.std.specs.Prelude.{Option, Some}
 use Rattle.std.specs.Global.{Vec}
 use Rattle.std.proofs.lemmas.List.{length-map}
+use Rattle.std.proofs.lemmas.Result.{err_from_is_err_and}
 use Rattle.hdt_wire.specs.Counted.{inner}
 use Rattle.hdt_wire.specs.declared.counted.Counted.{Counted}
 use Rattle.hdt_dict.specs.Strings.{BorrowedString}
-use Rattle.hdt_terms.specs.Split.{SplitsInput, SplitsUntilFault}
-use Rattle.hdt_terms.specs.declared.fault.SplitFault.{SplitFault}
-use Rattle.hdt_terms.specs.declared.fault.SplitFault.TheVariants.{Line, Write, OutOfMemory}
+use Rattle.hdt_terms.specs.Documents.{BeginsWithLines}
+use Rattle.hdt_terms.specs.Split.{IsFaultAfter, SplitsInput, SplitsUntilFault}
+use Rattle.hdt_terms.specs.declared.split.SplitFault.{SplitFault}
+use Rattle.hdt_terms.specs.declared.split.SplitFault.TheVariants.{Line, Write, OutOfMemory}
 use Rattle.hdt_c.specs.Splitting.{HasSplitFault, written_text, written_texts}
 use Rattle.hdt_c.proofs.JoinLaws.{known_texts, whole_buffer}
 use Rattle.hdt_c.proofs.splitting.texts_of_parts.Goals as goal
 
 -- the error that ended the run is in the text
-in_text : (text prefix : List ℕ) (given : Option (List ℕ)) (before after : List (Option (List ℕ)))
-    → (fault : SplitFault) → SplitsUntilFault prefix (Some text) given before after fault → HasSplitFault text fault
-in_text text prefix given before after (Line fault) until =
-    record { given = given; lines = until.lines; are = until.are; right = until.right; behind = until.behind }
-in_text text prefix given before after (Write part) until = tt
-in_text text prefix given before after OutOfMemory until = tt
+in_text : (text prefix : List ℕ) (input given : Option (List ℕ)) (before after : List (Option (List ℕ)))
+    → (fault : SplitFault) → input ≡ Some text → SplitsUntilFault prefix input given before after fault
+    → HasSplitFault text fault
+in_text text prefix input given before after (Line fault) e until = record {
+  given = given;
+  lines = until.lines;
+  are = subst (λ (input : Option (List ℕ)). BeginsWithLines input until.lines) e until.are;
+  right = until.right;
+  behind = subst (λ (input : Option (List ℕ)). IsFaultAfter fault input given until.lines) e until.behind;
+}
+in_text text prefix input given before after (Write part) e until = tt
+in_text text prefix input given before after OutOfMemory e until = tt
 
 pub returns-clause-ok : goal.returns-clause-ok
 returns-clause-ok c =
@@ -53,7 +61,7 @@ returns-clause-ok c =
 pub returns-in_err-report-clause-err : goal.returns-in_err-report-clause-err
 returns-in_err-report-clause-err c =
     let fault : SplitFault = c.in_err-report.field-0.0 in
-    rw c.from_residual-in_err-report.ensures
-    (in_text c.args.text.now c.args.prefix.now _ _ _ fault
-    (subst (λ (input : Option (List ℕ)). SplitsUntilFault c.args.prefix.now input _ _ _ fault)
-    (ap (λ (s : BorrowedString). Some s.now) c.new.ensures.inner) c.in_err-report.ensures.stopped))
+    let p = err_from_is_err_and c.from_residual-in_err-report.result c.from_residual-in_err-report.ensures.1 in
+    rw (p.1, p.2)
+    (in_text c.args.text.now c.args.prefix.now _ _ _ _ fault
+    (ap (λ (s : BorrowedString). Some s.now) c.new.ensures.inner) c.in_err-report.ensures.stopped)
