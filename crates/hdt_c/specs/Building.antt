@@ -40,10 +40,11 @@ report_of_fault faults.BadOptions = report_for bad_options_reason
 report_of_fault faults.OutOfMemory = report_for out_of_memory_reason
 report_of_fault (faults.Write n) = report_for out_of_memory_reason
 
--- the text is a document, and the bytes are the canonical file of its graph
+-- the options are valid, the text is a document, and the bytes are the canonical file of its graph
 pub record BuildsText (text base : List ℕ) (b : ℕ) (bytes : List ℕ) (report : Report) : Type 0 where
   pub options : Options
   pub given : AreGivenOptions base b options
+  pub right : AreValidOptions options
   pub builds : Builds options (Some text) bytes report
 
 -- the options are not valid
@@ -57,11 +58,11 @@ pub record HasDocumentFault (text : List ℕ) (fault : BuildFault) : Type 0 wher
   pub after : Option (List ℕ)
   pub is_reported : IsBuildFaultOf (Some text) after fault
 
--- the text or the options have the error; running out of memory says nothing of them
+-- the options have the error; or the text has it, and the options are valid; running out of memory says nothing of them
 abbrev pub HasBuildFault : List ℕ → List ℕ → ℕ → BuildFault → Type 0
 HasBuildFault text base b faults.BadOptions = AreInvalidOptions base b
 HasBuildFault text base b faults.OutOfMemory = ⊤
-HasBuildFault text base b fault = HasDocumentFault text fault
+HasBuildFault text base b fault = (AreInvalidOptions base b → ⊥) × HasDocumentFault text fault
 
 -- the bytes are the file, and the report says so
 pub record BuildsBytes (text base : List ℕ) (b : ℕ) (out : HdtBytes) (reported : HdtReport) : Type 0 where

@@ -12,6 +12,7 @@ pub record HoldsNoBytes (h : HdtBytes) : Type 0 where
   pub at : h.at.at ≡ null_ptr
   pub len : h.len ≡ 0
   pub state : h.state ≡ 0
+  pub owner : h.resource.at ≡ null_ptr
   pub resource : h.resource.value ≡ None
 
 -- the bytes are those of a vector that the handle owns; `at` and `len` are its address and length

@@ -1,5 +1,6 @@
 -- Handles of graphs.
-use Rattle.std.specs.Prelude.{◌≡◌, ◌≢◌, ℕ, List, Some}
+use denote.RawPtr.{null_ptr}
+use Rattle.std.specs.Prelude.{◌≡◌, ◌≢◌, ℕ, List, None, Some}
 use Rattle.hdt_file.specs.declared.graph.Graph.{Graph}
 use Rattle.hdt_file.specs.File.{GraphParts, IsLayout}
 use Rattle.hdt_file.specs.Graph.{graph_view}
@@ -13,6 +14,12 @@ IsOpen h = h.state ≡ 1
 -- the graph is closed
 abbrev pub IsClosed : HdtGraph → Type 0
 IsClosed h = h.state ≢ 1
+
+-- the handle is zeroed: all fields are zero
+pub record IsZeroed (h : HdtGraph) : Type 0 where
+  pub state : h.state ≡ 0
+  pub at : h.resource.at ≡ null_ptr
+  pub resource : h.resource.value ≡ None
 
 -- the handle is open, and has this graph
 abbrev pub HoldsGraph : HdtGraph → Graph → Type 0

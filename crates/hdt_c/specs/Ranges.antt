@@ -1,9 +1,9 @@
 -- The IDs of the strings that begin with a prefix.
-use Rattle.std.specs.Prelude.{◌≡◌, ◌↔◌, ℕ, ◌+◌, ◌-◌, List, [], ◌∷◌, Option, Some, None}
+use Rattle.std.specs.Prelude.{◌≡◌, ◌↔◌, ℕ, ◌+◌, ◌-◌, List, [], ◌∷◌, length, Option, Some, None}
 use Rattle.hdt_wire.specs.declared.role.Role.{Role}
 use Rattle.hdt_dict.specs.Dictionary.{role_strings}
 use Rattle.hdt_dict.specs.Ids.{string_at_id}
-use Rattle.hdt_dict.specs.Prefixes.{IsInRanges, SomeBeginsWith}
+use Rattle.hdt_dict.specs.Prefixes.{IsInRanges, RangesAscend, SomeBeginsWith}
 use Rattle.hdt_dict.specs.declared.prefix.PrefixRanges.{PrefixRanges}
 use Rattle.hdt_file.specs.File.{GraphParts}
 use Rattle.hdt_c.specs.LookUps.{absent}
@@ -13,11 +13,13 @@ use Rattle.hdt_c.specs.declared.prefix.HdtRanges.{HdtRanges}
 abbrev pub ranges_in_c : PrefixRanges → HdtRanges
 ranges_in_c r = record { first = r.first.start ∷ r.first.end ∷ []; second = r.second.start ∷ r.second.end ∷ [] }
 
--- the ranges have exactly the IDs of the strings of the role that begin with the prefix, and the result is their number
+-- the ranges have exactly the IDs of the strings of the role that begin with the prefix; they are one after another, so
+-- no ID is in both, and the result is the number of these IDs
 pub record HasIdsWithPrefix (g : GraphParts) (role : Role) (prefix : List ℕ) (answer : ℕ)
     (new : HdtRanges) : Type 0 where
   pub ranges : PrefixRanges
   pub exact : (n : ℕ) → IsInRanges ranges n ↔ SomeBeginsWith prefix (string_at_id (role_strings g.dictionary role) n)
+  pub ascend : RangesAscend ranges (length (role_strings g.dictionary role))
   pub are : new ≡ ranges_in_c ranges
   pub count : answer ≡ (ranges.first.end - ranges.first.start) + (ranges.second.end - ranges.second.start)
 

@@ -16,16 +16,25 @@ use Rattle.hdt_c.specs.ReasonNumbers.{bad_options_reason, out_of_memory_reason}
 abbrev pub rewritten_verdict : Report → HdtVerdict
 rewritten_verdict r = record { reason = 0; place = 0; counts = report_counts r }
 
--- the new bytes are the canonical file of the graph that the bytes encode
+-- the block size is valid, and the new bytes are the canonical file of the graph that the bytes encode
 pub record IsRewriteOf (bytes : List ℕ) (b : ℕ) (new : List ℕ) (report : Report) : Type 0 where
   pub graph : GraphParts
   pub layout : IsLayout bytes graph
+  pub right : IsBlockSize b
   pub is : IsRewritten b graph new report
 
--- the verdict if the bytes are not rewritten: their first error, or that the block size is not valid or memory ran out
+-- the bytes encode a graph, but the block size is not valid, and the verdict says so
+pub record RefusesBlockSize (bytes : List ℕ) (b : ℕ) (v : HdtVerdict) : Type 0 where
+  pub graph : GraphParts
+  pub layout : IsLayout bytes graph
+  pub bad : IsBlockSize b → ⊥
+  pub is_reported : v ≡ verdict_for bad_options_reason
+
+-- the verdict if the bytes are not rewritten: their first error; or, if they encode a graph, that the block size is not
+-- valid; or that memory ran out
 abbrev pub RefusesRewriting : List ℕ → ℕ → HdtVerdict → Type 0
 RefusesRewriting bytes b v = ((fault : Fault) × (decode_graph bytes ≡ Err fault) × (v ≡ verdict_on (Err fault)))
-    ⊎ (((IsBlockSize b → ⊥) × (v ≡ verdict_for bad_options_reason)) ⊎ (v ≡ verdict_for out_of_memory_reason))
+    ⊎ (RefusesBlockSize bytes b v ⊎ (v ≡ verdict_for out_of_memory_reason))
 
 -- the bytes are the new file, and the verdict says so
 pub record RewritesBytes (bytes : List ℕ) (b : ℕ) (out : HdtBytes) (v : HdtVerdict) : Type 0 where

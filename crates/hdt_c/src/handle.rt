@@ -5,6 +5,7 @@ ghost use Rattle.hdt_c.specs.Inside.ResourceKind.{is_graph};
 ghost use Rattle.hdt_c.specs.declared.handle.Resource.{Resource};
 ghost use Rattle.hdt_c.specs.ResourceOwnership.{coded_resource, resource_ptr_owns};
 ghost use Rattle.hdt_c.specs.declared.handle.Resource.TheVariants as resources;
+ghost use denote.RawPtr.{null_ptr};
 
 use std::alloc::{Allocator, Global};
 use std::marker::Model;
@@ -68,7 +69,7 @@ impl<T, A: Allocator> RawBox<T, A> {
 #[repr(C)]
 #[derive(Drop)]
 pub struct ResourcePtr {
-    at: *mut u8,
+    pub(crate) at: *mut u8,
     alloc: Global,
     pub(crate) ghost value: { Option Resource } by { coded_resource },
 }
@@ -80,7 +81,7 @@ impl Model for ResourcePtr {
 impl ResourcePtr {
     /// The null pointer.
     pub(crate) fn none(alloc: Global) -> ResourcePtr
-        ensures { result.value ≡ None }
+        ensures { (result.value ≡ None) × (result.at ≡ null_ptr) }
     {
         ResourcePtr {
             at: null_mut(),
@@ -113,9 +114,11 @@ impl ResourcePtr {
 }
 
 impl HdtGraph {
-    /// A closed handle.
+    /// A closed handle, which is zeroed.
     fn closed(alloc: Global) -> HdtGraph
-        ensures { result.state ≡ 0 }
+        ensures state { result.state ≡ 0 }
+        ensures at { result.resource.at ≡ null_ptr }
+        ensures resource { result.resource.value ≡ None }
     {
         HdtGraph {
             state: 0,
@@ -123,13 +126,16 @@ impl HdtGraph {
         }
     }
 
-    /// Takes the graph out and leaves the handle closed; returns `None` if it was closed.
+    /// Takes the graph out and leaves the handle zeroed; returns `None` if it was closed.
     pub(crate) fn take(&mut self, alloc: Global) -> Option<Box<Resource, Global>>
         ensures taken { IfSome result (λ b. (self.old.state ≡ 1) × (self.old.resource.value ≡ Some b.value)
             × (is_graph (Some b.value) ≡ true)) }
         ensures open { self.old.state ≡ 1 → IsSome result }
         ensures none { result ≡ None → self.new ≡ self.old }
         ensures closed { self.new.state ≢ 1 }
+        ensures zeroed { self.old.state ≡ 1 → (self.new.state ≡ 0) × (self.new.resource.at ≡ null_ptr)
+            × (self.new.resource.value ≡ None) }
+        ensures left { self.old.state ≢ 1 → self.new ≡ self.old }
     {
         if self.state != 1 {
             return None;

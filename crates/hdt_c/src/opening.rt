@@ -5,7 +5,7 @@ ghost use Rattle.hdt_wire.specs.Checks.{ReadsUnlessOom};
 ghost use Rattle.hdt_file.specs.Faults.{open_fault_of};
 ghost use Rattle.hdt_file.specs.File.{decode_graph};
 ghost use Rattle.hdt_file.specs.Graph.{graph_view, graph_counts};
-ghost use Rattle.hdt_c.specs.Handle.{IsClosed, IsOpen, IsOpened};
+ghost use Rattle.hdt_c.specs.Handle.{IsClosed, IsOpen, IsOpened, IsZeroed};
 ghost use Rattle.hdt_c.specs.Verdicts.{IsVerdictOn, verdict_for};
 ghost use Rattle.hdt_c.specs.ReasonNumbers.{open_reason};
 
@@ -75,7 +75,10 @@ pub extern "C" fn hdt_open(
 /// `hdt_close`: closes a graph, and frees its indexes. A closed graph stays closed.
 #[unsafe(no_mangle)]
 pub extern "C" fn hdt_close(alloc: Global, graph: &mut HdtGraph)
-    ensures { IsClosed graph.new }
+    ensures closed { IsClosed graph.new }
+    // A graph that was open is zeroed; any other is unchanged.
+    ensures zeroed { IsOpen graph.old → IsZeroed graph.new }
+    ensures left { IsClosed graph.old → graph.new ≡ graph.old }
 {
     drop(graph.take(alloc));
 }

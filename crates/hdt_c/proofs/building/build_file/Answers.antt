@@ -1,16 +1,17 @@
 -- The reader of a slice gives the bytes of the slice.
 use mathlib.Core.Path.{refl, ap, sym, subst, ◌∙◌}
 use mathlib.Core.Bool.{true≢false}
-use Rattle.std.specs.Prelude.{◌≡◌, ◌≢◌, ℕ, Bool, true, false, List, Option, Some, Err}
+use Rattle.std.specs.Prelude.{◌≡◌, ◌≢◌, ℕ, Bool, true, false, List, Option, Some, Result, Err}
 use Rattle.hdt_wire.specs.Counted.{inner}
 use Rattle.hdt_dict.specs.Strings.{BorrowedString}
 use Rattle.hdt_build.specs.Built.{Builds}
-use Rattle.hdt_build.specs.Options.{AreValidOptions}
+use Rattle.hdt_terms.specs.Terms.{IsIri}
+use Rattle.hdt_build.specs.Options.{AreValidOptions, IsBlockSize}
 use Rattle.hdt_build.specs.Reading.{IsBuildFaultOf}
 use Rattle.hdt_build.specs.declared.fault.BuildFault.{BuildFault}
 use Rattle.hdt_build.specs.declared.fault.BuildFault.TheVariants.{Line, NoTriples, BadOptions, OutOfMemory, Write}
 use Rattle.hdt_build.specs.declared.options.Options.{Options}
-use Rattle.hdt_c.specs.Building.{AreGivenOptions, HasBuildFault}
+use Rattle.hdt_c.specs.Building.{AreGivenOptions, AreInvalidOptions, HasBuildFault}
 use Rattle.hdt_c.proofs.building.build_file.Goals as goal
 
 is_bad : BuildFault → Bool
@@ -20,21 +21,43 @@ is_bad BadOptions = true
 is_bad OutOfMemory = false
 is_bad (Write n) = false
 
+-- an error of a result is its only one
+err_is : {A : Type 0} (r : Result A BuildFault) (e f : BuildFault) → r ≡ Err e → r ≡ Err f → e ≡ f
+err_is r e f a b = cc
+
+-- options are valid if others with the same base and block size are
+valid_for : (base : List ℕ) (b : ℕ) (options other : Options) → AreGivenOptions base b options
+    → AreGivenOptions base b other → AreValidOptions options → AreValidOptions other
+valid_for base b options other given same valid = record {
+  block_size = subst IsBlockSize (given.size_is ∙ sym same.size_is) valid.block_size;
+  base = subst IsIri (given.base_is ∙ sym same.base_is) valid.base;
+}
+
+-- the options are valid, unless it is proved that they are not
+not_invalid : (base : List ℕ) (b : ℕ) (options : Options) → AreGivenOptions base b options
+    → ((AreValidOptions options → ⊥) → ⊥) → AreInvalidOptions base b → ⊥
+not_invalid base b options given right invalid =
+    right (λ valid. invalid.bad (valid_for base b options invalid.options given invalid.given valid))
+
 -- the error that is returned is in the options or in the text
 stands : (text base : List ℕ) (b : ℕ) (options : Options) → AreGivenOptions base b options
     → (after : Option (List ℕ)) (fault : BuildFault)
-    → (fault ≡ BadOptions → AreValidOptions options → ⊥) → (fault ≢ BadOptions → IsBuildFaultOf (Some text) after fault)
+    → (fault ≡ BadOptions → AreValidOptions options → ⊥) → (fault ≢ BadOptions → (AreValidOptions options → ⊥) → ⊥)
+    → (fault ≢ BadOptions → IsBuildFaultOf (Some text) after fault)
     → HasBuildFault text base b fault
 unfolding is_bad
-stands text base b options given after (Line fault) bad is_reported =
-    record { after = after; is_reported = is_reported (λ e. true≢false (sym (ap is_bad e))) }
-stands text base b options given after NoTriples bad is_reported =
-    record { after = after; is_reported = is_reported (λ e. true≢false (sym (ap is_bad e))) }
-stands text base b options given after BadOptions bad is_reported =
+stands text base b options given after (Line fault) bad right is_reported =
+    let other : (Line fault) ≢ BadOptions = λ e. true≢false (sym (ap is_bad e)) in
+    (not_invalid base b options given (right other), record { after = after; is_reported = is_reported other })
+stands text base b options given after NoTriples bad right is_reported =
+    let other : NoTriples ≢ BadOptions = λ e. true≢false (sym (ap is_bad e)) in
+    (not_invalid base b options given (right other), record { after = after; is_reported = is_reported other })
+stands text base b options given after BadOptions bad right is_reported =
     record { options = options; given = given; bad = bad refl }
-stands text base b options given after OutOfMemory bad is_reported = tt
-stands text base b options given after (Write n) bad is_reported =
-    record { after = after; is_reported = is_reported (λ e. true≢false (sym (ap is_bad e))) }
+stands text base b options given after OutOfMemory bad right is_reported = tt
+stands text base b options given after (Write n) bad right is_reported =
+    let other : (Write n) ≢ BadOptions = λ e. true≢false (sym (ap is_bad e)) in
+    (not_invalid base b options given (right other), record { after = after; is_reported = is_reported other })
 
 pub returns-in-Ok-clause-ok : goal.returns-in-Ok-clause-ok
 returns-in-Ok-clause-ok c =
@@ -42,6 +65,7 @@ returns-in-Ok-clause-ok c =
     record {
       options = options;
       given = record { base_is = c.in_ok-from_slice.ensures.items; size_is = refl };
+      right = c.in-Ok.ensures.right;
       builds = subst (λ (input : Option (List ℕ)). Builds options input c.in-Ok.made.0.items c.in-Ok.made.1)
           (ap (λ (s : BorrowedString). Some s.now) c.new.ensures.inner) c.in-Ok.ensures.found;
     }
@@ -53,5 +77,6 @@ returns-clause-err c =
     stands c.args.text.now c.args.base.now c.args.block_size options
     (record { base_is = c.in_ok-from_slice.ensures.items; size_is = refl }) after c.in-Err.fault
     (λ e. (c.build_bytes.ensures.bad).0 (c.in-Err.is ∙ ap Err e))
+    (λ ne no. ne (err_is _ c.in-Err.fault BadOptions c.in-Err.is ((c.build_bytes.ensures.bad).1 no)))
     (λ ne. subst (λ (input : Option (List ℕ)). IsBuildFaultOf input after c.in-Err.fault)
     (ap (λ (s : BorrowedString). Some s.now) c.new.ensures.inner) (c.in-Err.ensures.fault ne))

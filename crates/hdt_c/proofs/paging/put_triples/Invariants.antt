@@ -1,4 +1,4 @@
-use Rattle.std.proofs.Common.{◌≡◌, ◌+◌, ◌-◌, ◌++◌, ◌≤◌, map, take, drop, length}
+use Rattle.std.proofs.Common.{◌≡◌, ◌-◌, ◌++◌, ◌≤◌, map, take, drop, length}
 use Rattle.hdt_c.specs.LookUps.{numbers}
 use Rattle.hdt_c.specs.CallerBuffer.{overwritten_prefix}
 use Rattle.hdt_c.proofs.paging.put_triples.Given as goal
