@@ -137,13 +137,13 @@ pub plain_lint : (status : ℕ) (faulty : Bool) → status ≡ cond faulty 1 0 �
 plain_lint status true h = inr (inl h)
 plain_lint status false h = inl h
 
-plain_report : (status : ℕ) (faulty : Bool) (skipped : ℕ)
+plain_counts : (status : ℕ) (faulty : Bool) (skipped : ℕ)
     → IsReportStatus (record { has_errors = faulty; skipped = skipped }) status → IsPlain status
-plain_report status faulty zero h = plain_lint status faulty (h.0 refl)
-plain_report status faulty (suc n) h = inr (h.1 (λ e. absurd cc))
+plain_counts status faulty zero h = plain_lint status faulty (h.0 refl)
+plain_counts status faulty (suc n) h = inr (h.1 (λ e. absurd cc))
 
 pub plain_answers : (status : ℕ) (report : AnswerReport) → IsReportStatus report status → IsPlain status
-plain_answers status report h = plain_report status report.has_errors report.skipped h
+plain_answers status report h = plain_counts status report.has_errors report.skipped h
 
 not_two_or_three : (status : ℕ) → IsPlain status → (status ≡ 2) ⊎ (status ≡ 3) → ⊥
 not_two_or_three status (inl h) (inl is) = absurd cc
