@@ -1,5 +1,5 @@
 use Rattle.std.proofs.Common.{List, ℕ, inr, subst}
-use Rattle.std.proofs.lemmas.Result.{IfOk-weaker, IfErr-weaker}
+use Rattle.std.proofs.lemmas.Result.{IfOk-weaker, IfErr-weaker, on_ok_weaker}
 use Rattle.hdt_file.specs.File.{IsLayout}
 use Rattle.hdt_file.specs.Graph.{graph_view}
 use Rattle.hdt_tool.proofs.commands.answer_file.Goals as goal
@@ -42,3 +42,8 @@ returns-clause-write g c =
           record { graph = graph; encoded = encoded; holds = h };
     })
     c.answer_requests.ensures.stopped
+
+pub returns-clause-readers_unfailed : goal.returns-clause-readers_unfailed
+returns-clause-readers_unfailed g c =
+    on_ok_weaker c.answer_requests.result (λ input. (c.in_ok-bytes.ensures.unfailed, input))
+    c.answer_requests.ensures.reader_unfailed
