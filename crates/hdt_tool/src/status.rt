@@ -293,8 +293,8 @@ fn run_answer<F: Read, R: Read, W: Write>(
     // and one of them is an error (status 1), or they leave out triples (1, or 4 without memory for the message); or an
     // error with this status ended the answers. Without memory for the message of an error the status is 4.
     ensures stopped { result ≢ 0 → ((e : ToolFault) × ((result ≡ fault_status e) ⊎ (result ≡ 4))
-        × IsFaultOfInput (Action.Answer options) (F.remaining (inner file.old)) (F.remaining (inner file.new)) e
-        × (input.new ≡ input.old) × (out.new ≡ out.old))
+        × (IsFaultOfInput (Action.Answer options) (F.remaining (inner file.old)) (F.remaining (inner file.new)) e
+        × (input.new ≡ input.old) × (out.new ≡ out.old)))
         ⊎ ((report : AnswerReport) × IsReportStatus report result
         × AnswersOverFile options (F.remaining (inner file.old)) (F.remaining (inner file.new))
         (R.remaining (inner input.old)) (W.contents (inner out.old)) (W.contents (inner out.new)) report)
