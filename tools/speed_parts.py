@@ -109,8 +109,12 @@ def builds(document: Path, parts: int) -> list[Cost]:
                 (cpu, clock, peak), own = run(BUILD, document, f"{folder}/out", *kind)
             found.append(Cost(cpu, clock, peak, own))
     return [
-        Cost(min(it.cpu for it in found), min(it.clock for it in found), max(it.peak for it in found),
-             max(it.own for it in found))
+        Cost(
+            min(it.cpu for it in found),
+            min(it.clock for it in found),
+            max(it.peak for it in found),
+            max(it.own for it in found),
+        )
         for found in costs
     ]
 
