@@ -5,8 +5,8 @@ use Rattle.std.specs.List.{All}
 use Rattle.std.proofs.lemmas.Bool.{cases_lt}
 use Rattle.std.proofs.lemmas.List.{get_or_append_left, get_or-append-add, get_or_default, length-append, length-map}
 use Rattle.std.proofs.lemmas.List.Elements.{All-map}
-use Rattle.hdt_wire.specs.declared.role.Role.{Role}
-use Rattle.hdt_wire.specs.declared.role.Role.TheVariants.{Subject, Predicate, Object}
+use Rattle.hdt_wire.specs.declared.Role.{Role}
+use Rattle.hdt_wire.specs.declared.Role.TheVariants.{Subject, Predicate, Object}
 use Rattle.hdt_front.specs.Section.{AreSectionStrings}
 use Rattle.hdt_dict.specs.Strings.{IsDictionaryString}
 use Rattle.hdt_triples.specs.TripleSequences.{Triple}

@@ -16,8 +16,8 @@ use Rattle.hdt_build.specs.Inside.Rewriting.{IsIdOf, string_of_id}
 use Rattle.hdt_build.specs.Inside.Filtering.{AreSectionsOf}
 use Rattle.hdt_triples.specs.TripleSequences.{Triple}
 use Rattle.hdt_triples.specs.Uses.{role_component, Uses}
-use Rattle.hdt_wire.specs.declared.role.Role.{Role}
-use Rattle.hdt_wire.specs.declared.role.Role.TheVariants.{Subject, Predicate, Object}
+use Rattle.hdt_wire.specs.declared.Role.{Role}
+use Rattle.hdt_wire.specs.declared.Role.TheVariants.{Subject, Predicate, Object}
 use Rattle.hdt_build.proofs.IndexTriples.{map_along}
 use Rattle.hdt_file.specs.Denoted.{StringTriple}
 use Rattle.hdt_file.specs.Tight.{IsTight}

@@ -13,7 +13,7 @@ use Rattle.hdt_dict.specs.Split.{IsSplit}
 use Rattle.hdt_build.specs.Inside.Rewriting.{string_of_id}
 use Rattle.hdt_build.proofs.StringsOfIds.{term_is}
 use Rattle.hdt_dict.specs.Dictionary.{SectionLists, role_strings}
-use Rattle.hdt_wire.specs.declared.role.Role.TheVariants.{Subject, Predicate, Object}
+use Rattle.hdt_wire.specs.declared.Role.TheVariants.{Subject, Predicate, Object}
 
 -- equal strings have the same index
 pub record Distinct (xs : List (List ℕ)) : Type 0 where

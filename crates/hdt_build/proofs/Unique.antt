@@ -15,7 +15,7 @@ use Rattle.hdt_build.proofs.StringsOfIds.{string_triple}
 use Rattle.hdt_build.proofs.Distinct.{number_unique, subjects_distinct, predicates_distinct, objects_distinct}
 use Rattle.hdt_build.proofs.Order.{triple_total, triple_cmp, sorted_triples}
 use Rattle.hdt_dict.specs.Dictionary.{SectionLists, role_strings}
-use Rattle.hdt_wire.specs.declared.role.Role.TheVariants.{Subject, Predicate, Object}
+use Rattle.hdt_wire.specs.declared.Role.TheVariants.{Subject, Predicate, Object}
 use Rattle.hdt_triples.specs.Order.{IsInRange}
 use Rattle.hdt_file.specs.File.{role_counts}
 

@@ -6,12 +6,12 @@ ghost use Rattle.hdt_front.specs.WriterState.{last_string};
 ghost use Rattle.hdt_front.specs.Order.{string_cmp, lcp_len};
 ghost use Rattle.hdt_file.specs.Denoted.{string_of};
 ghost use Rattle.hdt_file.specs.Graph.{graph_view};
-ghost use Rattle.hdt_wire.specs.declared.role.Role.TheVariants as roles;
+ghost use Rattle.hdt_wire.specs.declared.Role.TheVariants as roles;
 ghost use Rattle.hdt_build.specs.Inside.Rewriting.{section_role, second_run_end, IsValidRun, IsRunFrom};
 ghost use Rattle.hdt_build.specs.Inside.Rewriting.{HasPrefixLength, PrefixesDecideOrder, IsRewrittenSection};
 ghost use Rattle.hdt_build.specs.Inside.Rewriting.{AreRewrittenSections, HaveBlockSize, lists_of_sections};
 ghost use Rattle.hdt_dict.specs.Dictionary.{role_strings};
-ghost use Rattle.hdt_wire.specs.declared.role.Role.TheVariants.{Object};
+ghost use Rattle.hdt_wire.specs.declared.Role.TheVariants.{Object};
 
 use crate::id_map::{IdMap, id_map_of};
 use crate::retained::run_ends;

@@ -1,7 +1,7 @@
 -- The number of triples of each predicate.
 use Rattle.std.specs.Prelude.{ℕ, List, map, length}
 use Rattle.std.specs.List.{range_with_len}
-use Rattle.hdt_wire.specs.declared.role.Role.TheVariants.{Predicate}
+use Rattle.hdt_wire.specs.declared.Role.TheVariants.{Predicate}
 use Rattle.hdt_dict.specs.Dictionary.{role_strings}
 use Rattle.hdt_triples.specs.Bounds.{of_predicate}
 use Rattle.hdt_triples.specs.Patterns.{matches}

@@ -1,6 +1,6 @@
 -- Patterns of strings and IDs.
 use Rattle.std.specs.Prelude.{◌≡◌, ℕ, zero, suc, List, Option, Some, None}
-use Rattle.hdt_wire.specs.declared.role.Role.TheVariants.{Subject, Predicate, Object}
+use Rattle.hdt_wire.specs.declared.Role.TheVariants.{Subject, Predicate, Object}
 use Rattle.hdt_dict.specs.Dictionary.{role_strings}
 use Rattle.hdt_dict.specs.Ids.{string_at_id}
 use Rattle.hdt_triples.specs.declared.pattern.Pattern.{Pattern}

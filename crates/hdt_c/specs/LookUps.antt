@@ -1,7 +1,7 @@
 -- What the calls that query a graph return.
 use Rattle.std.specs.Prelude.{◌≡◌, ◌⊎◌, ℕ, List, [], ◌∷◌, suc, zero, map, take, drop, length, Option, Some, None}
-use Rattle.hdt_wire.specs.declared.role.Role.{Role}
-use Rattle.hdt_wire.specs.declared.role.Role.TheVariants.{Subject, Predicate, Object}
+use Rattle.hdt_wire.specs.declared.Role.{Role}
+use Rattle.hdt_wire.specs.declared.Role.TheVariants.{Subject, Predicate, Object}
 use Rattle.hdt_dict.specs.Ids.{string_at_id}
 use Rattle.hdt_dict.specs.Strings.{BorrowedString}
 use Rattle.hdt_triples.specs.TripleSequences.{Triple}

@@ -1,6 +1,6 @@
 -- The IDs of the strings that begin with a prefix.
 use Rattle.std.specs.Prelude.{◌≡◌, ◌↔◌, ℕ, ◌+◌, ◌-◌, List, [], ◌∷◌, length, Option, Some, None}
-use Rattle.hdt_wire.specs.declared.role.Role.{Role}
+use Rattle.hdt_wire.specs.declared.Role.{Role}
 use Rattle.hdt_dict.specs.Dictionary.{role_strings}
 use Rattle.hdt_dict.specs.Ids.{string_at_id}
 use Rattle.hdt_dict.specs.Prefixes.{IsInRanges, RangesAscend, SomeBeginsWith}

@@ -1,7 +1,7 @@
 -- The strings of many IDs.
 use Rattle.std.specs.Prelude.{◌≡◌, ◌⊎◌, ℕ, List, [], length, Option, Some, None}
 use Rattle.std.specs.List.{concat}
-use Rattle.hdt_wire.specs.declared.role.Role.{Role}
+use Rattle.hdt_wire.specs.declared.Role.{Role}
 use Rattle.hdt_dict.specs.Dictionary.{role_strings}
 use Rattle.hdt_dict.specs.StringBatch.{AreIds, ends_from, strings_by_id}
 use Rattle.hdt_file.specs.File.{GraphParts}

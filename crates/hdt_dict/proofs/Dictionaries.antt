@@ -7,8 +7,8 @@ use Rattle.hdt_front.specs.Strings.{strings_of, section_of}
 use Rattle.hdt_front.specs.SectionIteration.{located_strings}
 use Rattle.hdt_front.specs.Laws.Iteration.{located_are_strings, located_ascend}
 use Rattle.hdt_dict.specs.declared.dictionary.Dictionary.{Dictionary}
-use Rattle.hdt_wire.specs.declared.role.Role.{Role}
-use Rattle.hdt_wire.specs.declared.role.Role.TheVariants.{Subject, Predicate, Object}
+use Rattle.hdt_wire.specs.declared.Role.{Role}
+use Rattle.hdt_wire.specs.declared.Role.TheVariants.{Subject, Predicate, Object}
 use Rattle.hdt_dict.specs.declared.role_sections.RoleSections.{RoleSections}
 use Rattle.hdt_dict.specs.Dictionary.{AreDisjoint, role_strings, lists_of_dictionary}
 use Rattle.hdt_dict.specs.Laws.Dictionary.{apart_exact}

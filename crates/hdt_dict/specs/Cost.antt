@@ -1,8 +1,8 @@
 -- The cost of a look-up in a role, in steps, as a function of the sections.
 use Rattle.std.specs.Prelude.{ℕ, ◌+◌, max}
 use Rattle.hdt_front.specs.Cost.{section_search_cost}
-use Rattle.hdt_wire.specs.declared.role.Role.{Role}
-use Rattle.hdt_wire.specs.declared.role.Role.TheVariants.{Subject, Predicate, Object}
+use Rattle.hdt_wire.specs.declared.Role.{Role}
+use Rattle.hdt_wire.specs.declared.Role.TheVariants.{Subject, Predicate, Object}
 use Rattle.hdt_dict.specs.Dictionary.{DictionaryParts}
 
 -- searching for a string: at most the sum over the sections of the role

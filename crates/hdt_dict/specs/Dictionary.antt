@@ -12,8 +12,8 @@ use Rattle.hdt_front.specs.Section.{SectionParts, IsSectionAt, string_offset, se
 use Rattle.hdt_dict.specs.Strings.{has}
 use Rattle.hdt_dict.specs.declared.dictionary.SectionId.{SectionId}
 use Rattle.hdt_dict.specs.declared.dictionary.SectionId.TheVariants as sections
-use Rattle.hdt_wire.specs.declared.role.Role.{Role}
-use Rattle.hdt_wire.specs.declared.role.Role.TheVariants.{Subject, Predicate, Object}
+use Rattle.hdt_wire.specs.declared.Role.{Role}
+use Rattle.hdt_wire.specs.declared.Role.TheVariants.{Subject, Predicate, Object}
 
 -- a dictionary: its four sections, with their byte offsets
 pub record DictionaryParts : Type 0 where

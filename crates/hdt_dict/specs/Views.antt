@@ -2,8 +2,8 @@
 use Rattle.std.specs.Prelude.{ℕ, ◌-◌, ◌&&◌, nat_le, cond, length, List, [], Option, Some, None}
 use Rattle.hdt_front.specs.Strings.{strings_of, section_of, packed_block}
 use Rattle.hdt_front.specs.declared.section.Section.{Section}
-use Rattle.hdt_wire.specs.declared.role.Role.{Role}
-use Rattle.hdt_wire.specs.declared.role.Role.TheVariants.{Subject, Predicate, Object}
+use Rattle.hdt_wire.specs.declared.Role.{Role}
+use Rattle.hdt_wire.specs.declared.Role.TheVariants.{Subject, Predicate, Object}
 use Rattle.hdt_dict.specs.declared.dictionary.Dictionary.{Dictionary}
 use Rattle.hdt_dict.specs.Dictionary.{DictionaryParts}
 

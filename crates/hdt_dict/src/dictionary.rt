@@ -20,7 +20,7 @@ ghost use Rattle.hdt_dict.specs.RoleSections.{second_strings, second_search_cost
 ghost use Rattle.hdt_dict.specs.Split.{IsSplit};
 ghost use Rattle.hdt_dict.specs.StringBatch.{AppendsAll, AreIds, AscendTo};
 ghost use Rattle.hdt_dict.specs.Writing.{AreSections, canonical_dictionary, canonical_dictionary_parts};
-ghost use Rattle.hdt_wire.specs.declared.role.Role.{Role};
+ghost use Rattle.hdt_wire.specs.declared.Role.{Role};
 
 use crate::disjoint::check_disjoint;
 use crate::role_iter::RoleIter;

@@ -13,7 +13,7 @@ use Rattle.hdt_terms.specs.Lines.{HasNoLineEnd, EncodesTriple, TerminatedLines, 
 use Rattle.hdt_terms.specs.Grammar.{Encodes}
 use Rattle.hdt_terms.specs.Terms.{IsGrammarTerm}
 use Rattle.hdt_terms.specs.Writing.{written}
-use Rattle.hdt_wire.specs.declared.role.Role.TheVariants.{Subject, Predicate}
+use Rattle.hdt_wire.specs.declared.Role.TheVariants.{Subject, Predicate}
 use Rattle.hdt_file.specs.Denoted.{StringTriple}
 use Rattle.hdt_file.specs.Text.{TermTriple, AreTermsOf, Pairwise, line, IsTextOf}
 use Rattle.hdt_file.specs.Documents.{triple_of, AreGrammarTerms}

@@ -1,7 +1,7 @@
 -- Listing the strings of a section that are not terms.
 use Rattle.std.proofs.Common.{◌≡◌, ℕ, suc, ◌+◌, ◌<◌, List, [], ◌∷◌, ◌++◌, length, get_or, Option, Some, refl, sym, ap}
 use Rattle.std.proofs.Common.{◌∙◌, ◌⊎◌, subst, append_assoc, append-nil, inl, inr, arith, ◌^◌, Bool, false}
-use Rattle.hdt_wire.specs.declared.role.Role.{Role}
+use Rattle.hdt_wire.specs.declared.Role.{Role}
 use Rattle.hdt_front.specs.Iteration.{IterState, LocatedString, strings, step_iter_by, next_offset}
 use Rattle.hdt_front.specs.Section.{SectionParts, string_offset}
 use Rattle.hdt_dict.specs.Iteration.{AreLocated}

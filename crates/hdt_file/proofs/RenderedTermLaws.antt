@@ -12,8 +12,8 @@ use Rattle.hdt_dict.specs.Arena.{AreStringStarts, arena_strings}
 use Rattle.hdt_dict.specs.Laws.Arena.{none, none_starts, starts_push, texts_push}
 use Rattle.hdt_dict.specs.Ids.{string_at_id}
 use Rattle.hdt_dict.specs.Iteration.{RoleIterState, step_role_iter_by, next_id}
-use Rattle.hdt_wire.specs.declared.role.Role.{Role}
-use Rattle.hdt_wire.specs.declared.role.Role.TheVariants.{Subject, Predicate, Object}
+use Rattle.hdt_wire.specs.declared.Role.{Role}
+use Rattle.hdt_wire.specs.declared.Role.TheVariants.{Subject, Predicate, Object}
 use Rattle.hdt_terms.specs.Chars.{is_absolute}
 use Rattle.hdt_terms.specs.declared.triple.Term.TheVariants.{Iri, Blank, Literal}
 use Rattle.hdt_terms.specs.Terms.{dictionary_string}

@@ -1,8 +1,8 @@
 -- What a writer of terms caches between lines.
 use Rattle.std.specs.Prelude.{ℕ, ⊤, List, [], Option, None, Some}
 use Rattle.std.specs.List.{All}
-use Rattle.hdt_wire.specs.declared.role.Role.{Role}
-use Rattle.hdt_wire.specs.declared.role.Role.TheVariants.{Subject, Predicate, Object}
+use Rattle.hdt_wire.specs.declared.Role.{Role}
+use Rattle.hdt_wire.specs.declared.Role.TheVariants.{Subject, Predicate, Object}
 use Rattle.hdt_file.specs.File.{GraphParts}
 use Rattle.hdt_file.specs.Denoted.{string_of}
 use Rattle.hdt_file.specs.TextWriting.{AppendsTerm}

@@ -6,7 +6,7 @@ use Rattle.hdt_wire.specs.declared.fault.Reason.TheVariants.{TrailingBytes}
 use Rattle.hdt_wire.specs.Checks.{◌>>=◌, demand}
 use Rattle.hdt_wire.specs.Exact.{viewed}
 use Rattle.hdt_dict.specs.Dictionary.{DictionaryParts, SectionLists, IsDictionaryAt, lists_of_dictionary, role_strings}
-use Rattle.hdt_wire.specs.declared.role.Role.TheVariants.{Subject, Predicate, Object}
+use Rattle.hdt_wire.specs.declared.Role.TheVariants.{Subject, Predicate, Object}
 use Rattle.hdt_triples.specs.TripleSequences.{Triple, triples_of}
 use Rattle.hdt_triples.specs.declared.pattern.Counts.{Counts}
 use Rattle.hdt_triples.specs.Triples.{TripleParts, bitmap_triples, IsTriplesAt, decode_triple_parts}

@@ -1,7 +1,7 @@
 -- The strings of a dictionary that are not terms which their roles allow.
 use Rattle.std.specs.Prelude.{◌≡◌, ◌⊎◌, ℕ, ◌+◌, List, [], ◌∷◌, ◌++◌, length}
-use Rattle.hdt_wire.specs.declared.role.Role.{Role}
-use Rattle.hdt_wire.specs.declared.role.Role.TheVariants.{Subject, Predicate, Object}
+use Rattle.hdt_wire.specs.declared.Role.{Role}
+use Rattle.hdt_wire.specs.declared.Role.TheVariants.{Subject, Predicate, Object}
 use Rattle.hdt_front.specs.Section.{SectionParts, string_offset}
 use Rattle.hdt_dict.specs.Dictionary.{DictionaryParts}
 use Rattle.hdt_file.specs.File.{FileParts, IsFile, graph_of_file}

@@ -2,7 +2,7 @@
 ghost use Rattle.std.specs.Prelude.{◌≡◌, ◌≤◌, ℕ, List, ◌<◌, ◌^◌, length, Ok, IfOk};
 ghost use Rattle.hdt_wire.specs.Checks.{ReadsUnlessOom, IsBytes};
 ghost use Rattle.hdt_wire.specs.Exact.{Exactly};
-ghost use Rattle.hdt_wire.specs.declared.role.Role.{Role};
+ghost use Rattle.hdt_wire.specs.declared.Role.{Role};
 ghost use Rattle.hdt_dict.specs.Dictionary.{lists_of_dictionary, role_strings};
 ghost use Rattle.hdt_dict.specs.Views.{dictionary_of};
 ghost use Rattle.hdt_file.specs.Faults.{open_fault_of};

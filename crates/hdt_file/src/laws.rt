@@ -2,7 +2,7 @@
 ghost use Rattle.std.specs.Prelude.{◌≡◌, ℕ, List, map, [], Option, filter};
 ghost use Rattle.std.specs.List.{AllByRecursion};
 ghost use Rattle.hdt_terms.specs.Lines.{Document};
-ghost use Rattle.hdt_wire.specs.declared.role.Role.{Role};
+ghost use Rattle.hdt_wire.specs.declared.Role.{Role};
 ghost use Rattle.hdt_triples.specs.TripleSequences.{Triple};
 ghost use Rattle.hdt_file.specs.Denoted.{StringTriple, denoted};
 ghost use Rattle.hdt_file.specs.Documents.{triple_of, AreGrammarTerms};

@@ -10,7 +10,7 @@ ghost use Rattle.hdt_file.specs.Text.{FitsRole, HasNoTerm};
 ghost use Rattle.hdt_file.specs.File.{GraphParts};
 ghost use Rattle.hdt_file.specs.CachedTerms.{CachesPredicate, CachesTerm, CachesTerms};
 ghost use Rattle.hdt_wire.specs.Control.{IsPrefixOf};
-ghost use Rattle.hdt_wire.specs.declared.role.Role.TheVariants.{Predicate, Object};
+ghost use Rattle.hdt_wire.specs.declared.Role.TheVariants.{Predicate, Object};
 ghost use Rattle.hdt_file.specs.TextWriting.{AppendsLine, AppendsTerm, ReportsNonTermOfTriple, ReportsNonTerm};
 ghost use Rattle.hdt_file.specs.TextWriting.{separator};
 ghost use Rattle.hdt_file.specs.Graph.{layout_view};

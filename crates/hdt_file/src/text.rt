@@ -1,7 +1,7 @@
 //! The N-Triples text of a graph.
 ghost use Rattle.std.specs.Prelude.{◌≡◌, ◌≢◌, ◌<◌, ◌+◌, ℕ, Option, OnOk, OnErr, IfOk, IfErr, Some, IsOk};
 ghost use Rattle.hdt_wire.specs.Counted.{inner, failures};
-ghost use Rattle.hdt_wire.specs.declared.role.Role.{Role};
+ghost use Rattle.hdt_wire.specs.declared.Role.{Role};
 ghost use Rattle.hdt_file.specs.Denoted.{denoted};
 ghost use Rattle.hdt_file.specs.CachedTerms.{CachesTerms};
 ghost use Rattle.hdt_file.specs.Graph.{layout_view, graph_view};

@@ -1,10 +1,10 @@
-//! Bitmaps: eight bits a byte.
+//! Bitmaps, eight bits a byte, and the steps of a search, which contracts count.
 ghost use Rattle.std.specs.Prelude.{◌≡◌, ◌+◌, ◌*◌, ◌%◌, ◌^◌, ◌<◌, ◌≤◌, ℕ, length};
 
 use crate::bit_access::{read_bit, read_bits};
 use crate::checks::{byte_at, crc8_at, packed_at};
-use crate::steps::Steps;
-use hdt_wire::{Fault, Reason, demand, read_vbyte};
+use hdt_wire::{Fault, GhostCounter, Reason, demand, read_vbyte};
+use std::marker::Model;
 
 /// A bitmap that was read. It borrows its bytes from the input.
 ///
@@ -121,5 +121,37 @@ impl<'a> Bits<'a> {
     {
         steps.tick();
         read_bits(self.packed, u128::from(from), (to - from) as u8)
+    }
+}
+
+/// A count of steps. It takes no memory; only contracts see it, and only [`Steps::tick`] increments it.
+#[derive(Drop)]
+pub struct Steps {
+    taken: GhostCounter,
+}
+
+impl Model for Steps {
+    ghost use Rattle.std.specs.Prelude.{ℕ};
+
+    ghost Value = { ℕ };
+
+    ghost view = { λ s. s.taken.count };
+}
+
+impl Steps {
+    /// Returns a count of 0.
+    pub fn new() -> Steps
+        ensures { result ≡ 0 }
+    {
+        Steps {
+            taken: GhostCounter::new(),
+        }
+    }
+
+    /// Counts one step.
+    pub fn tick(&mut self)
+        ensures { self.new ≡ self.old + 1 }
+    {
+        self.taken.tick();
     }
 }

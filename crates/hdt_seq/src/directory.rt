@@ -6,8 +6,7 @@ ghost use Rattle.hdt_seq.specs.Width.{digits};
 ghost use Rattle.hdt_seq.specs.RankSelect.{ones_before, IsSelect};
 ghost use Rattle.hdt_seq.specs.Bits.{bits_of};
 
-use crate::bits::Bits;
-use crate::steps::Steps;
+use crate::bits::{Bits, Steps};
 use std::alloc::{AllocError, Global};
 
 /// The number of bits of a group. The last group of a bitmap may have fewer.

@@ -18,9 +18,8 @@
 //!
 //! Both sequences borrow the input and are `Copy`. A `Directory` is a rank/select index; it owns only its counts.
 //! Contracts see sequences as lists, by `numbers_of` and `bits_of` of specs/, and their offsets by `numbers_offsets`
-//! and
-//! `bits_offsets`. `IsDirectoryOf` says that an index is that of a list of bits. Laws on these lists, and on rank and
-//! select, are in specs/Laws: `Numbers`, `Bits`, `RankSelect`.
+//! and `bits_offsets`. `IsDirectoryOf` says that an index is that of a list of bits. Laws on these lists, and on rank
+//! and select, are in specs/Laws: `Numbers`, `Bits`, `RankSelect`.
 #![tactic(auto)]
 
 mod bit_access;
@@ -29,13 +28,11 @@ mod checks;
 mod directory;
 mod numbers;
 mod packing;
-mod steps;
 mod writing;
 
-pub use bits::Bits;
+pub use bits::{Bits, Steps};
 pub use checks::{byte_at, crc8_at, packed_at};
 pub use directory::{Directory, rank_select_inverse};
 pub use numbers::Numbers;
 pub use packing::width_of;
-pub use steps::Steps;
 pub use writing::{bits_round_trip, numbers_round_trip, put_bits, put_numbers};

@@ -5,8 +5,8 @@ use Rattle.std.specs.Prelude.{IsUtf8}
 use Rattle.std.proofs.lemmas.Bool.{cases_Bool}
 use Rattle.std.proofs.lemmas.Bool.Decides.{eqb_tells}
 use Rattle.hdt_terms.specs.declared.fault.FailedCheck.{FailedCheck}
-use Rattle.hdt_wire.specs.declared.role.Role.{Role}
-use Rattle.hdt_wire.specs.declared.role.Role.TheVariants.{Subject, Predicate, Object}
+use Rattle.hdt_wire.specs.declared.Role.{Role}
+use Rattle.hdt_wire.specs.declared.Role.TheVariants.{Subject, Predicate, Object}
 use Rattle.hdt_terms.specs.declared.triple.Term.{Term}
 use Rattle.hdt_terms.specs.LineParsing.{role_term_at, is_comment_or_end, is_blank_or_comment}
 use Rattle.hdt_terms.specs.Lines.{IsBlankOrComment}

@@ -6,8 +6,8 @@ use Rattle.hdt_terms.specs.declared.fault.LineReason.TheVariants.{Syntax}
 use Rattle.hdt_terms.specs.declared.fault.FailedCheck.{FailedCheck}
 use Rattle.hdt_terms.specs.declared.fault.ParseError.{ParseError}
 use Rattle.hdt_terms.specs.declared.fault.TermFault.{TermFault}
-use Rattle.hdt_wire.specs.declared.role.Role.{Role}
-use Rattle.hdt_wire.specs.declared.role.Role.TheVariants.{Subject, Predicate, Object}
+use Rattle.hdt_wire.specs.declared.Role.{Role}
+use Rattle.hdt_wire.specs.declared.Role.TheVariants.{Subject, Predicate, Object}
 use Rattle.hdt_terms.specs.declared.triple.Term.{Term}
 use Rattle.hdt_terms.specs.Faults.{out_of_memory}
 use Rattle.hdt_terms.specs.LineParsing.{role_term_at, comment_or_end_at, unless_blank}

@@ -9,7 +9,7 @@ use Rattle.hdt_terms.specs.declared.split.SplitFault.{SplitFault}
 use Rattle.hdt_terms.specs.declared.split.SplitFault.TheVariants as faults
 use Rattle.hdt_terms.specs.declared.split.SplitReport.{SplitReport}
 use Rattle.hdt_terms.specs.declared.triple.Triple.{Triple}
-use Rattle.hdt_wire.specs.declared.role.Role.TheVariants.{Subject, Predicate}
+use Rattle.hdt_wire.specs.declared.Role.TheVariants.{Subject, Predicate}
 use Rattle.hdt_terms.specs.declared.fault.FailedCheck.{FailedCheck}
 use Rattle.hdt_terms.specs.LineParsing.{line_in, role_term_after_whitespace}
 use Rattle.hdt_terms.specs.TermParsing.{◌>>=◌, skip_whitespace}

@@ -16,7 +16,7 @@ use Rattle.std.specs.List.Sorted.{IsPermutation, IsSorted}
 use Rattle.std.specs.Ordering.{MatchOrdering, is_lt, nat_cmp, ordering_then}
 use Rattle.std.specs.declared.cmp.Ordering.{Ordering}
 use Rattle.std.specs.declared.cmp.Ordering.TheVariants.{Less, Equal, Greater}
-use Rattle.hdt_wire.specs.declared.role.Role.{Role}
+use Rattle.hdt_wire.specs.declared.Role.{Role}
 use Rattle.hdt_terms.specs.Strings.{AppendsDictionaryTermText}
 use Rattle.hdt_terms.specs.declared.triple.TermKind.{TermKind}
 use Rattle.hdt_dict.specs.Dictionary.{role_strings}

@@ -10,7 +10,7 @@ use Rattle.clap.specs.Words.{Row, Text, Kinds, IsAmong, all_of, first_of, one_of
 use Rattle.clap.specs.declared.error.kind.ErrorKind.{ErrorKind}
 use Rattle.clap.specs.declared.error.kind.ErrorKind.TheVariants as kind
 use Rattle.hdt_build.specs.declared.options.Options.{Options}
-use Rattle.hdt_wire.specs.declared.role.Role.{Role}
+use Rattle.hdt_wire.specs.declared.Role.{Role}
 use Rattle.hdt_terms.specs.declared.fault.TermFault.{TermFault}
 use Rattle.hdt_terms.specs.declared.fault.LineReason.TheVariants as line
 use Rattle.hdt_terms.specs.Appending.{AppendsStringOfText}

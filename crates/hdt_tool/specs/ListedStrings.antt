@@ -1,7 +1,7 @@
 -- The output of `strings` with `--prefix` or `--terms`: the strings of a role that begin with a prefix.
 use Rattle.std.specs.Prelude.{◌≡◌, ◌↔◌, ◌<◌, ℕ, suc, Bool, true, false, List, [], ◌∷◌, ◌++◌, Some, get_or, length}
 use Rattle.std.specs.List.{Contains}
-use Rattle.hdt_wire.specs.declared.role.Role.{Role}
+use Rattle.hdt_wire.specs.declared.Role.{Role}
 use Rattle.hdt_dict.specs.Ids.{string_at_id}
 use Rattle.hdt_dict.specs.Prefixes.{SomeBeginsWith}
 use Rattle.hdt_tool.specs.StringsText.{AreLinesOf, IsFirstWithoutLine, string_line}

@@ -18,7 +18,7 @@ use Rattle.hdt_build.specs.declared.fault.BuildFault.TheVariants as building
 use Rattle.hdt_build.specs.declared.options.Options.{Options}
 use Rattle.hdt_build.specs.declared.options.Report.{Report}
 use Rattle.hdt_terms.specs.declared.fault.LineReason.TheVariants as reasons
-use Rattle.hdt_wire.specs.declared.role.Role.{Role}
+use Rattle.hdt_wire.specs.declared.Role.{Role}
 use Rattle.hdt_dict.specs.Ids.{string_at_id}
 use Rattle.hdt_tool.specs.declared.fault.ToolFault.{ToolFault}
 use Rattle.hdt_tool.specs.declared.fault.ToolFault.TheVariants.{File, Input, NoTriples, NoSuchTerm, NoMatch}

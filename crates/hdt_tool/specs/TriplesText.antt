@@ -6,7 +6,7 @@ use Rattle.std.specs.List.{flat_map}
 use Rattle.std.specs.declared.alloc.Global.{Global}
 use Rattle.std.specs.declared.vec.Vec.{Vec}
 use Rattle.hdt_dict.specs.Strings.{BorrowedString}
-use Rattle.hdt_wire.specs.declared.role.Role.{Role}
+use Rattle.hdt_wire.specs.declared.Role.{Role}
 use Rattle.hdt_triples.specs.TripleSequences.{Triple}
 use Rattle.hdt_triples.specs.declared.pattern.Pattern.{Pattern}
 use Rattle.hdt_file.specs.Denoted.{denoted}

@@ -3,7 +3,7 @@ ghost use Rattle.std.specs.Prelude.{◌≡◌, ◌≢◌, ℕ, false, IfOk, IfEr
 ghost use Rattle.std.specs.Prelude.{option_map, string_bytes};
 ghost use Rattle.clap.specs.Words.{first_of, one_of, found_of, rows_of};
 ghost use Rattle.hdt_build.specs.declared.options.Options.{Options};
-ghost use Rattle.hdt_wire.specs.declared.role.Role.{Role};
+ghost use Rattle.hdt_wire.specs.declared.Role.{Role};
 ghost use Rattle.hdt_tool.specs.CommandLine.{IsQueryAction, Refutes, RefutesOrInvalidTerm, IsFaultOfArgument};
 ghost use Rattle.hdt_tool.specs.CommandLine.{IsInvalidTerm, IsInvalidPatternTerm, IsStringOfText, IsFindAction};
 ghost use Rattle.hdt_tool.specs.CommandLine.{HasInvalidTerm, ParsesAsFlag, ParsesAsFormat};

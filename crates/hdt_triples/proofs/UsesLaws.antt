@@ -4,8 +4,8 @@ use Rattle.std.proofs.Common.{◌∷◌, length, slice_index, slice_index_or, ap
 use Rattle.std.proofs.lemmas.Bool.{leb-true, le-leb, ne_eqb}
 use Rattle.std.proofs.lemmas.Bool.Decides.{same_from_decides}
 use Rattle.std.proofs.lemmas.List.{get_or-map, length-map}
-use Rattle.hdt_wire.specs.declared.role.Role.{Role}
-use Rattle.hdt_wire.specs.declared.role.Role.TheVariants.{Subject, Predicate, Object}
+use Rattle.hdt_wire.specs.declared.Role.{Role}
+use Rattle.hdt_wire.specs.declared.Role.TheVariants.{Subject, Predicate, Object}
 use Rattle.hdt_seq.specs.RankSelect.{ones_before}
 use Rattle.hdt_seq.specs.Laws.RankSelect.{ones_before_at_0, some_select, ones_through_select, less_by_ones}
 use Rattle.hdt_seq.specs.Laws.RankSelect.{ones_before_le}

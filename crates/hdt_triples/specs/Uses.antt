@@ -1,8 +1,8 @@
 -- Which IDs occur in triples.
 use Rattle.std.specs.Prelude.{◌≡◌, ◌↔◌, ℕ, ◌<◌, ◌==◌, Bool, true, false, List, length, map, slice_index_or}
 use Rattle.std.specs.List.{Contains, list_any}
-use Rattle.hdt_wire.specs.declared.role.Role.{Role}
-use Rattle.hdt_wire.specs.declared.role.Role.TheVariants.{Subject, Predicate, Object}
+use Rattle.hdt_wire.specs.declared.Role.{Role}
+use Rattle.hdt_wire.specs.declared.Role.TheVariants.{Subject, Predicate, Object}
 use Rattle.hdt_triples.specs.TripleSequences.{Triple}
 
 -- The component of a triple that has the role.

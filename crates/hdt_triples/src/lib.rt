@@ -52,7 +52,6 @@ mod sequences;
 mod subject;
 mod subject_object;
 mod triples;
-mod uses;
 mod writing;
 
 pub use indexed::IndexedTriples;
@@ -60,14 +59,13 @@ pub use listed_triples::ListedTriples;
 pub use matches::Matches;
 pub use object::ObjectMatches;
 pub use pair::PairMatches;
-pub use pattern::{Counts, Pattern};
+pub use pattern::{Counts, Pattern, role_component, use_flags};
 pub use predicate::PredicateMatches;
 pub use predicate_object::PredicateObjectMatches;
 pub use scan::ScanMatches;
 pub use subject::SubjectMatches;
 pub use subject_object::SubjectObjectMatches;
 pub use triples::Triples;
-pub use uses::{role_component, use_flags};
 pub use writing::{
     are_writable, put_triples, triples_are_exact, triples_ascend, triples_round_trip,
 };

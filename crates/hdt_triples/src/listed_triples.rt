@@ -75,7 +75,7 @@ impl<'a> ListedTriples<'a> {
     ghost use Rattle.hdt_triples.specs.IndexViews.{directories_held, lists_held, string_counts, triples_indexed};
     ghost use Rattle.hdt_triples.specs.IndexViews.{triples_listed};
     ghost use Rattle.hdt_triples.specs.Remaining.{remaining_matches, step_limit, shorter_list_step_limit, steps_taken};
-    ghost use Rattle.hdt_wire.specs.declared.role.Role.TheVariants as roles;
+    ghost use Rattle.hdt_wire.specs.declared.Role.TheVariants as roles;
 
     /// Returns the triples without their indexes.
     pub fn triples(&self) -> &Triples<'a>

@@ -17,11 +17,9 @@ mod control;
 mod counted;
 mod crc;
 mod crc32c;
-mod decimal;
 mod fault;
 mod ghost_counter;
 mod properties;
-mod role;
 mod vbyte;
 
 pub use checks::{bytes_at, demand, len_before_zero, text_at, truncate_on_error};
@@ -29,9 +27,18 @@ pub use control::{Control, Kind, control_round_trip, put_control, read_control};
 pub use counted::{Counted, Failed};
 pub use crc::{check8, check16};
 pub use crc32c::check32;
-pub use decimal::put_decimal;
 pub use fault::{Fault, Reason};
 pub use ghost_counter::GhostCounter;
 pub use properties::property;
-pub use role::Role;
-pub use vbyte::{put_vbyte, read_vbyte, vbyte_len, vbyte_round_trip};
+pub use vbyte::{put_decimal, put_vbyte, read_vbyte, vbyte_len, vbyte_round_trip};
+
+/// The role of a term in a triple. Each role has its own IDs, from 1.
+#[derive(Clone, Copy, Debug, PartialEq, Eq)]
+pub enum Role {
+    /// The subject. IDs count the strings of the section shared, then those of the section subjects.
+    Subject,
+    /// The predicate. IDs count the strings of the section predicates.
+    Predicate,
+    /// The object. IDs count the strings of the section shared, then those of the section objects.
+    Object,
+}

@@ -1,10 +1,13 @@
-//! VByte: numbers in base 128, least significant digit first, one digit a byte. The last byte has its top bit set.
+//! Numbers as bytes: VByte (base 128, least significant digit first, one digit a byte; the last byte has its top bit
+//! set) and decimal.
 ghost use Rattle.std.specs.Prelude.{◌≡◌, ℕ, List, ◌+◌, ◌≤◌, ◌<◌, ◌^◌, ◌++◌, length, take, drop, Ok, OnOk, OnErr, IfOk};
 ghost use Rattle.std.specs.Prelude.{IfSome, IfNone};
+ghost use Rattle.std.specs.Fmt.{decimal};
 ghost use Rattle.hdt_wire.specs.Checks.{EncodedAt};
 ghost use Rattle.hdt_wire.specs.VByte.{VByte, vbyte, vbyte_at, last_digit_index, base128_value};
 
 use crate::fault::{Fault, Reason};
+use itoa::Buffer;
 use std::alloc::AllocError;
 
 /// The length of the longest encoding, that of 2^64 - 1.
@@ -139,4 +142,12 @@ pub fn read_vbyte(bytes: &[u8], at: usize) -> Result<(u64, usize), Fault>
     ensures end { IfOk result (λ r. (at < r.1) × (r.1 ≤ length bytes.now)) }
 {
     read_short_or_long(bytes, at)
+}
+
+/// Appends a number in decimal, without leading zeros. If memory runs out, `out` is unchanged.
+pub fn put_decimal(number: u64, out: &mut Vec<u8>) -> Result<(), AllocError>
+    ensures ok { OnOk result (out.new.items ≡ out.old.items ++ decimal number) }
+    ensures err { OnErr result (out.new.items ≡ out.old.items) }
+{
+    out.extend_from_slice(Buffer::new().format(number).as_bytes())
 }

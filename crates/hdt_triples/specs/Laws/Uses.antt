@@ -5,7 +5,7 @@ use Rattle.std.proofs.lemmas.Bool.Decides.{Decides-at}
 use Rattle.std.proofs.lemmas.List.Folds.{Any-from_list_any, list_any_at}
 use Rattle.std.specs.Bool.{Decides}
 use Rattle.std.specs.Prelude.{List, slice_index_or}
-use Rattle.hdt_wire.specs.declared.role.Role.{Role}
+use Rattle.hdt_wire.specs.declared.Role.{Role}
 use Rattle.hdt_triples.specs.TripleSequences.{Triple}
 use Rattle.hdt_triples.specs.Uses.{ids_in_role, Uses, uses}
 

@@ -2,7 +2,7 @@ use Rattle.std.proofs.Common.{ℕ, subst, sym, arith}
 use Rattle.std.proofs.lemmas.List.{length-map}
 use Rattle.hdt_build.specs.Inside.Collecting.{AreBelow}
 use Rattle.hdt_front.specs.Canonical.{borrowed_texts}
-use Rattle.hdt_wire.specs.declared.role.Role.TheVariants.{Subject, Predicate, Object}
+use Rattle.hdt_wire.specs.declared.Role.TheVariants.{Subject, Predicate, Object}
 use Rattle.hdt_build.proofs.FilteredSections.{used_text, mark_uses, are_parts}
 use Rattle.hdt_build.proofs.section_filter.write_sections.Goals as goal
 

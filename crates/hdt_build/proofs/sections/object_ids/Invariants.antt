@@ -1,5 +1,5 @@
 use Rattle.std.proofs.Common.{◌≡◌, ℕ, ◌<◌, length, get_or}
-use Rattle.hdt_wire.specs.declared.role.Role.TheVariants.{Object}
+use Rattle.hdt_wire.specs.declared.Role.TheVariants.{Object}
 use Rattle.hdt_file.specs.Graph.{graph_view}
 use Rattle.hdt_build.proofs.sections.object_ids.Given as goal
 use Rattle.hdt_dict.specs.Dictionary.{role_strings}

@@ -1,5 +1,5 @@
 use Rattle.std.proofs.Common.{ℕ, subst}
-use Rattle.hdt_wire.specs.declared.role.Role.TheVariants.{Subject, Object}
+use Rattle.hdt_wire.specs.declared.Role.TheVariants.{Subject, Object}
 use Rattle.hdt_dict.specs.Views.{dictionary_of}
 use Rattle.hdt_file.specs.NonTerms.{AreNonTermsOf}
 use Rattle.hdt_file.proofs.NonTermLaws.{five, for_layout, objects_fit, shared_count, subjects_fit}

@@ -1,6 +1,6 @@
 use Rattle.std.proofs.Common.{◌≡◌, length}
 use Rattle.hdt_triples.proofs.UsesLaws.{AreUseFlagsBefore}
-use Rattle.hdt_triples.proofs.uses.use_flags.Given as goal
+use Rattle.hdt_triples.proofs.pattern.use_flags.Given as goal
 
 abbrev pub invariant-loop-triple : goal.invariant-loop-triple
 invariant-loop-triple l = record {
