@@ -35,9 +35,10 @@ def test_lines(crate: str) -> None:
 
 @pytest.mark.parametrize("crate", CRATES)
 def test_modules(crate: str) -> None:
-    """A module has at most 400 lines."""
+    """A module has 40 to 400 lines; the crate's root, and the examples of one crate, may be shorter."""
     lengths = {path.name: path.read_text().count("\n") for path in sources(crate, "src")}
-    assert {name: length for name, length in lengths.items() if length > 400} == {}
+    short = {name for name in lengths if name in ("lib.rt", "main.rt") or crate == "example"}
+    assert {name: length for name, length in lengths.items() if length > 400 or length < 40 and name not in short} == {}
 
 
 @pytest.mark.parametrize("crate", CRATES)

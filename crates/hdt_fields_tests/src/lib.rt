@@ -5,10 +5,4 @@
 #![tactic(auto)]
 
 #[cfg(test)]
-mod directory_tests;
-#[cfg(test)]
-mod graph_tests;
-#[cfg(test)]
-mod sample;
-#[cfg(test)]
-mod triples_tests;
+mod fields;

@@ -101,7 +101,10 @@ fn reply_run_in(args: &mut Args<'_>, reply: &mut Reply) {
         Action::Build(_) | Action::Rewrite(_) => {
             run(args.alloc, &request, &mut input, &mut out, &mut made)
         }
-        action => print_output(args.alloc, action, &mut input, capacity, &mut out),
+        action => match print_output(args.alloc, action, &mut input, capacity, &mut out) {
+            Ok(_) => Ok(()),
+            Err(fault) => Err(fault),
+        },
     };
     if let Err(fault) = outcome {
         reply_tool_fault(fault, reply);

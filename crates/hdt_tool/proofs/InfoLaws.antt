@@ -1,10 +1,11 @@
 -- `info` decides whether a file is tight, and whether it is the file that `rewrite` makes of it, of which there is only
 -- one.
-use Rattle.std.proofs.Common.{◌≡◌, ◌↔◌, ◌∙◌, ℕ, Bool, false, List, Result, Ok, Err, subst, sym}
-use Rattle.std.specs.Prelude.{IsTrue}
+use Rattle.std.proofs.Common.{◌≡◌, ◌↔◌, ◌∙◌, ℕ, Bool, true, false, List, Result, Ok, Err, refl, subst, sym}
+use Rattle.std.specs.Prelude.{IfOk, IsTrue}
 use Rattle.std.specs.Str.{bytes_eq}
 use Rattle.std.proofs.lemmas.Slice.Eq.{bytes_eq-Decides}
 use Rattle.hdt_wire.specs.Checks.{ReadsUnlessOom}
+use Rattle.hdt_wire.specs.Exact.{IsViewOf}
 use Rattle.hdt_wire.specs.declared.fault.Fault.{Fault}
 use Rattle.hdt_file.specs.File.{GraphParts, IsLayout}
 use Rattle.hdt_file.specs.Faults.{open_fault_of}
@@ -60,15 +61,23 @@ compared b bytes made graph report same is size encoded only alone rewritten =
 pub bad_size : (b : ℕ) (bytes : List ℕ) → (IsBlockSize b → ⊥) → IsTrue false ↔ IsRewrittenAs b bytes
 bad_size b bytes bad = (λ t. absurd (cc), λ h. absurd (bad h.size))
 
--- A file whose tight reading fails.
-pub not_tight : (bytes : List ℕ) (e : OpenFault) (fault : Fault) → e ≡ opening.Fault fault
+-- A file whose tight reading succeeds or fails.
+pub tight : (bytes lens : List ℕ) (verified : Result (List ℕ) OpenFault) → verified ≡ Ok lens
+    → IfOk verified (λ lens. IsViewOf graph_counts (IsTightLayout bytes) lens) → IsTrue true ↔ IsTightFile bytes
+tight bytes lens verified is found =
+    let view = subst (λ (r : Result (List ℕ) OpenFault). IfOk r (λ lens. IsViewOf graph_counts (IsTightLayout bytes) lens))
+        is found in
+    (λ t. (view.value, view.is), λ h. refl)
+
+pub not_tight : (bytes : List ℕ) (verified : Result (List ℕ) OpenFault) (fault : Fault)
+    → verified ≡ Err (opening.Fault fault)
     → ((graph : GraphParts) → IsTightLayout bytes graph
-    → ReadsUnlessOom open_fault_of (λ (lens : List ℕ). lens) (Err e) (Ok (graph_counts graph))) → IsTrue false
-    ↔ IsTightFile bytes
-not_tight bytes e fault is only = (
+    → ReadsUnlessOom open_fault_of (λ (lens : List ℕ). lens) verified (Ok (graph_counts graph)))
+    → IsTrue false ↔ IsTightFile bytes
+not_tight bytes verified fault is only = (
   λ t. absurd (cc),
   λ h. let k =
-      subst (λ (e : OpenFault). ReadsUnlessOom open_fault_of (λ (lens : List ℕ). lens) (Err e)
+      subst (λ (r : Result (List ℕ) OpenFault). ReadsUnlessOom open_fault_of (λ (lens : List ℕ). lens) r
       (Ok (graph_counts h.0))) is (only h.0 h.1) in absurd (cc),
 )
 
@@ -85,3 +94,11 @@ only_graph bytes graph only other h = graph_is other graph (only other h)
 pub out_of_memory : (json : Bool) (bytes : List ℕ) (e : ToolFault) → e ≡ OutOfMemory
     → IsFaultOfBytes (Info json) bytes e
 out_of_memory json bytes e is = subst (λ (t : ToolFault). IsFaultOfBytes (Info json) bytes t) (sym is) tt
+
+-- A block size that is not valid makes no file, whatever it is.
+of_size : (a b : ℕ) (bytes : List ℕ) → (IsBlockSize a → a ≡ b) → IsRewrittenAs a bytes → IsRewrittenAs b bytes
+of_size a b bytes same h = subst (λ (n : ℕ). IsRewrittenAs n bytes) (same h.size) h
+
+pub bounded : (a b : ℕ) (bytes : List ℕ) → (IsBlockSize a → a ≡ b) → (IsBlockSize b → b ≡ a)
+    → IsRewrittenAs a bytes ↔ IsRewrittenAs b bytes
+bounded a b bytes to from = (of_size a b bytes to, of_size b a bytes from)

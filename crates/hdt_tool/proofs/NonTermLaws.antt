@@ -20,7 +20,7 @@ use Rattle.hdt_file.specs.declared.fault.OpenFault.TheVariants as opening
 use Rattle.hdt_tool.specs.Faults.{tool_fault_of}
 use Rattle.hdt_tool.specs.declared.fault.ToolFault.{ToolFault}
 use Rattle.hdt_tool.specs.declared.fault.ToolFault.TheVariants.{File, OutOfMemory}
-use Rattle.hdt_tool.specs.declared.request.Action.TheVariants.{VerifyTerms, VerifyTight}
+use Rattle.hdt_tool.specs.declared.request.Action.TheVariants.{VerifyTerms}
 
 -- ---- triples that have lines
 
@@ -48,24 +48,26 @@ kept_written g given count most found kept old text n finds skips is none h =
 
 -- ---- strings that are not terms
 
-pub verdict_printed : (tight : Bool) (bytes text : List ℕ) (v : TermVerdict) (n : ℕ) → IsTermVerdict bytes v
-    → (tight ≡ true → (graph : GraphParts) × IsTightLayout bytes graph)
+pub verdict_printed : (bytes text : List ℕ) (v : TermVerdict) (n : ℕ) → IsTermVerdict bytes v
     → text ≡ term_verdict_lines v.counts v.non_terms.items
-    → n ≡ length v.non_terms.items → PrintsTermVerdict tight bytes text n
-verdict_printed tight bytes text v n is tight_is printed counted =
-    record { verdict_of = v; is = is; tight_is = tight_is; printed = printed; counted = counted }
+    → n ≡ length v.non_terms.items → PrintsTermVerdict false bytes text n
+verdict_printed bytes text v n is printed counted =
+    record { verdict_of = v; is = is; tight_is = λ t. absurd cc; printed = printed; counted = counted }
 
-pub tight_fault : (tight : Bool) (bytes : List ℕ) (e : ToolFault) → tight ≡ true → IsFaultOfBytes VerifyTight bytes e
-    → IsFaultOfBytes (VerifyTerms tight) bytes e
-tight_fault true bytes (File fault) is h = h
-tight_fault true bytes OutOfMemory is h = tt
-tight_fault true bytes e is h = absurd h
-tight_fault false bytes e is h = absurd cc
+pub open_fault : (bytes : List ℕ) (e : OpenFault) → IfSome (open_fault_of e) (λ fault. decode_graph bytes ≡ Err fault)
+    → IsFaultOfBytes (VerifyTerms false) bytes (tool_fault_of e)
+open_fault bytes (opening.Fault fault) h = h
+open_fault bytes opening.OutOfMemory h = tt
 
-pub open_fault : (tight : Bool) (bytes : List ℕ) (e : OpenFault)
+-- The same of a file that is tight.
+pub tight_verdict : (bytes text : List ℕ) (n : ℕ) → ((graph : GraphParts) × IsTightLayout bytes graph)
+    → PrintsTermVerdict false bytes text n → PrintsTermVerdict true bytes text n
+tight_verdict bytes text n tight h =
+    record { verdict_of = h.verdict_of; is = h.is; tight_is = λ t. tight; printed = h.printed; counted = h.counted }
+
+pub tight_fault : (bytes : List ℕ) (e : ToolFault)
     → ((bytes : List ℕ) (fault : Fault) → decode_graph bytes ≡ Err fault → decode_tight_graph bytes ≡ Err fault)
-    → IfSome (open_fault_of e) (λ fault. decode_graph bytes ≡ Err fault)
-    → IsFaultOfBytes (VerifyTerms tight) bytes (tool_fault_of e)
-open_fault true bytes (opening.Fault fault) earlier h = earlier bytes fault h
-open_fault false bytes (opening.Fault fault) earlier h = h
-open_fault tight bytes opening.OutOfMemory earlier h = tt
+    → IsFaultOfBytes (VerifyTerms false) bytes e → IsFaultOfBytes (VerifyTerms true) bytes e
+tight_fault bytes (File fault) earlier h = earlier bytes fault h
+tight_fault bytes OutOfMemory earlier h = tt
+tight_fault bytes e earlier h = absurd h

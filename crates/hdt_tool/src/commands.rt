@@ -163,9 +163,15 @@ pub(crate) fn write_text<W: Write>(text: &[u8], out: &mut Counted<W>) -> Result<
     out.write_all(text).map_err(ToolFault::Write)
 }
 
-/// Runs a command that writes no file, as [`print_output`] does, and returns what it counts: the triples that
-/// `--skip-non-terms` leaves out, or the strings that `verify --terms` prints; 0 for other commands.
-pub(crate) fn print_and_count<R: Read, W: Write>(
+/// Runs a command that writes no file, as [`run`] does: reads `input` to its end, into a buffer of this initial
+/// capacity, and writes the command's output. Returns what it counts: the triples that `--skip-non-terms` leaves out, or
+/// the strings that `verify --terms` prints; 0 for other commands. Only `strings` writes in pieces; `answer`, `lint` and
+/// `split` write nothing here. Memory and time: those of [`run`].
+///
+/// # Errors
+///
+/// Those of [`run`]; its clauses say when each of them occurs, and what was written.
+pub fn print_output<R: Read, W: Write>(
     alloc: Global,
     action: &Action,
     input: &mut Counted<R>,
@@ -207,43 +213,6 @@ pub(crate) fn print_and_count<R: Read, W: Write>(
             Ok(0)
         }
     }
-}
-
-/// Runs a command that writes no file, as [`run`] does: reads `input` to its end, into a buffer of this initial
-/// capacity, and writes the command's output. Only `strings` writes in pieces; `answer`, `lint` and `split` write
-/// nothing here. Memory and time: those of [`run`].
-///
-/// # Errors
-///
-/// Those of [`run`]; its clauses say when each of them occurs, and what was written.
-pub fn print_output<R: Read, W: Write>(
-    alloc: Global,
-    action: &Action,
-    input: &mut Counted<R>,
-    capacity: usize,
-    out: &mut Counted<W>,
-) -> Result<(), ToolFault>
-    requires { IsReadOnly action.now }
-    ensures ok { OnOk result ((text : List ℕ)
-        × ReadsWith (R.remaining (inner input.old)) (R.remaining (inner input.new))
-        (λ bytes. Prints action.now bytes text)
-        × Appends (W.contents (inner out.old)) (W.contents (inner out.new)) text) }
-    ensures reported { IfErr result
-        (IsFaultOfInput action.now (R.remaining (inner input.old)) (R.remaining (inner input.new))) }
-    ensures read { IsErrOf result ToolFault.Read → failures input.new ≡ failures input.old + 1 }
-    ensures reader_unfailed { OnOk result (failures input.new ≡ failures input.old) }
-    ensures reader_reported { IfErr result (λ e. e ≢ ToolFault.Read → failures input.new ≡ failures input.old) }
-    ensures write { IfErr result (λ e. (n : ℕ) → e ≡ ToolFault.Write n → (failures out.new ≡ failures out.old + 1)
-        × WritesOutputPrefix action.now (R.remaining (inner input.old)) (R.remaining (inner input.new))
-        (W.contents (inner out.old)) (W.contents (inner out.new)) n) }
-    ensures writer_unfailed { OnOk result (failures out.new ≡ failures out.old) }
-    ensures unwritten { IfErr result (λ e. ((n : ℕ) → e ≢ ToolFault.Write n) → (out.new ≡ out.old)
-        ⊎ ((e ≡ ToolFault.OutOfMemory)
-        × InterruptsStrings action.now (R.remaining (inner input.old)) (R.remaining (inner input.new))
-        (W.contents (inner out.old)) (W.contents (inner out.new)) (failures out.old) (failures out.new))) }
-{
-    print_and_count(alloc, action, input, capacity, out)?;
-    Ok(())
 }
 
 /// Runs a request: reads `input` to its end and writes the command's output to `out`. `build` and `rewrite` append the
@@ -300,7 +269,10 @@ pub fn run<R: Read, W: Write>(
             let line = make_file(alloc, &request.action, input, 0, made)?;
             truncate_on_error(write_text(&line, out), start, made)
         }
-        action => print_output(alloc, action, input, 0, out),
+        action => {
+            print_output(alloc, action, input, 0, out)?;
+            Ok(())
+        }
     }
 }
 

@@ -1,9 +1,9 @@
 //! The command `hdt`: parses arguments, runs a command, prints one line if it fails, and returns the exit status. The
-//! program itself, hdt, is one call of `process_status`.
+//! program itself, hdt, passes its arguments to `process_status`.
 //!
 //! Contracts: the output of `run`, `print_output`, `answer_file` and `answer_requests` is a stated function of the
 //! input, and an error that they return is the first one in the input. So are those of the private functions that
-//! `process_status` calls over files and streams; the contract of `status_of` states the exit status.
+//! `process_status` calls over files and streams; its own contract states the exit status.
 //!
 //! Functions that state no cost take time and memory linear in their arguments.
 //!
@@ -68,4 +68,4 @@ pub use request::{
     Action, AnswerOptions, AnswerReport, BlankNodes, Invocation, OutputFormat, Progress, Request,
     SplitOptions, SplitOutput,
 };
-pub use status::process_status;
+pub use status::{collect_arguments, process_status};

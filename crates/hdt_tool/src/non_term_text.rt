@@ -1,10 +1,8 @@
 //! The output of `find` and `dump` with `--skip-non-terms`, and of `verify --terms`, with the number of the triples or
 //! strings that have no form in N-Triples.
-ghost use Rattle.std.specs.Prelude.{◌≡◌, ◌++◌, true, OnOk, IfOk, IfErr};
+ghost use Rattle.std.specs.Prelude.{◌≡◌, ◌++◌, false, OnOk, IfOk, IfErr};
 ghost use Rattle.std.specs.List.{flat_map};
-ghost use Rattle.hdt_file.specs.File.{GraphParts};
 ghost use Rattle.hdt_file.specs.Graph.{layout_view};
-ghost use Rattle.hdt_file.specs.Tight.{IsTightLayout};
 ghost use Rattle.hdt_tool.specs.Outcomes.{CountsNonTerms, IsFaultOfBytes, PrintsCountingNonTerms};
 ghost use Rattle.hdt_tool.specs.NonTermText.{PrintsKept, PrintsTermVerdict, kept_format, non_term_line};
 ghost use Rattle.hdt_tool.specs.NonTermText.{term_verdict_lines};
@@ -86,25 +84,11 @@ fn term_verdict_text(
     non_term_lines(alloc, found)
 }
 
-/// Fails if `tight` and a string of the file is unused.
-fn check_tight(alloc: Global, tight: bool, bytes: &[u8]) -> Result<(), ToolFault>
-    ensures ok { OnOk result (tight ≡ true → (graph : GraphParts) × IsTightLayout bytes.now graph) }
-    ensures err { IfErr result (λ e. (tight ≡ true) × IsFaultOfBytes Action.VerifyTight bytes.now e) }
+/// The output of `verify --terms`, and the number of strings that are not terms.
+fn verify_terms_text(alloc: Global, bytes: &[u8]) -> Result<(Vec<u8>, u64), ToolFault>
+    ensures ok { IfOk result (λ made. PrintsTermVerdict false bytes.now made.0.items made.1) }
+    ensures err { IfErr result (IsFaultOfBytes (Action.VerifyTerms false) bytes.now) }
 {
-    if tight {
-        verify_tight(alloc, bytes)?;
-    }
-    Ok(())
-}
-
-/// The output of `verify --terms`, with or without `--tight`, and the number of strings that are not terms.
-#[tactic(auto, using(crate::proofs::NonTermLaws::verdict_printed, crate::proofs::NonTermLaws::tight_fault))]
-fn verify_terms_text(alloc: Global, tight: bool, bytes: &[u8]) -> Result<(Vec<u8>, u64), ToolFault>
-    ensures ok { IfOk result (λ made. PrintsTermVerdict tight bytes.now made.0.items made.1) }
-    ensures err { IfErr result (IsFaultOfBytes (Action.VerifyTerms tight) bytes.now) }
-{
-    one_tight_layout();
-    check_tight(alloc, tight, bytes)?;
     let found = verify_terms(alloc, bytes)?;
     let text = term_verdict_text(alloc, found.counts, &found.non_terms)?;
     Ok((text, found.non_terms.len() as u64))
@@ -125,7 +109,12 @@ pub(crate) fn text_and_count(
             let layout = Layout::read(alloc, bytes)?;
             Ok(kept_text(alloc, &layout, given, *count, *most)?)
         }
-        Action::VerifyTerms { tight } => verify_terms_text(alloc, *tight, bytes),
+        Action::VerifyTerms { tight: false } => verify_terms_text(alloc, bytes),
+        Action::VerifyTerms { tight: true } => {
+            one_tight_layout();
+            verify_tight(alloc, bytes)?;
+            verify_terms_text(alloc, bytes)
+        }
         _ => unreachable!(),
     }
 }

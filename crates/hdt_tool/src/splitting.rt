@@ -1,14 +1,14 @@
 //! `split`: several documents into the parts of one graph, by subject.
 ghost use Rattle.std.specs.Prelude.{◌≡◌, ◌≢◌, ◌<◌, ◌^◌, ℕ, None, IfOk, IfErr, OnOk, length, map, true};
 ghost use Rattle.hdt_wire.specs.Counted.{inner, failures};
-ghost use Rattle.hdt_terms.specs.Split.{FailsOnce, SplitsInput};
+ghost use Rattle.hdt_terms.specs.Split.{FailsOnce};
 ghost use Rattle.hdt_terms.specs.declared.split.SplitFault.TheVariants as SplitFault;
-ghost use Rattle.hdt_tool.specs.SplitInputs.{IsBlankNodesFault, SplitsInTurn, IsFaultOfInputAt, StopsInTurn};
+ghost use Rattle.hdt_tool.specs.SplitInputs.{IsBlankNodesFault, SplitsInTurn, StopsInTurn};
 ghost use Rattle.hdt_tool.specs.SplitInputs.{MixesBlankNodes, first_with_blank_nodes, input_prefix};
 ghost use Rattle.hdt_tool.specs.declared.splitting.SplitInputsFault.TheVariants as SplitInputsFault;
 
 use crate::request::BlankNodes;
-use hdt_terms::{SplitFault, SplitReport, split_document};
+use hdt_terms::{SplitFault, split_document};
 use hdt_wire::Counted;
 use std::alloc::{AllocError, Global};
 use std::io::{Read, Write};
@@ -65,34 +65,6 @@ fn first_with_blank_nodes(
     }
 }
 
-/// Splits the input with this number.
-#[tactic(auto, using(crate::proofs::SplitRuns::stops_at_fault))]
-fn split_input<R: Read, W: Write>(
-    alloc: Global,
-    blank_nodes: Option<BlankNodes>,
-    number: u64,
-    input: &mut Counted<R>,
-    outs: &mut [Counted<W>],
-) -> Result<SplitReport, SplitInputsFault>
-    requires parts { (0 < length outs.old) × (length outs.old < 2 ^ 32) }
-    ensures ok { IfOk result (SplitsInput (input_prefix blank_nodes number) (R.remaining (inner input.old))
-        (map (λ out. W.contents (inner out)) outs.old) (map (λ out. W.contents (inner out)) outs.new)) }
-    ensures stopped { IfErr result (IsFaultOfInputAt blank_nodes None number (R.remaining (inner input.old))
-        (map (λ out. W.contents (inner out)) outs.old) (map (λ out. W.contents (inner out)) outs.new)) }
-    ensures write { IfErr result (λ e. (k part : ℕ) → e ≡ SplitInputsFault.Input k (SplitFault.Write part)
-        → FailsOnce part (map failures outs.old) (map failures outs.new)) }
-    ensures others { IfErr result (λ e. ((k part : ℕ) → e ≢ SplitInputsFault.Input k (SplitFault.Write part))
-        → map failures outs.new ≡ map failures outs.old) }
-    ensures len { length outs.new ≡ length outs.old }
-    ensures unfailed { OnOk result (map failures outs.new ≡ map failures outs.old) }
-{
-    let prefix = input_prefix(alloc, blank_nodes, number)?;
-    match split_document(alloc, &prefix, input, outs) {
-        Ok(report) => Ok(report),
-        Err(fault) => Err(SplitInputsFault::Input(number, fault)),
-    }
-}
-
 /// Splits documents, one after another: each line with a triple goes whole to the writer of the part of its subject
 /// ([`part_of`](hdt_terms::part_of) its dictionary string), in the order of inputs and lines; other lines go nowhere.
 /// There are as many parts as writers. With `Apart` the labels of blank nodes get a prefix: `f0_` those of the first
@@ -128,7 +100,11 @@ pub(crate) fn split_inputs<R: Read + Drop, W: Write>(
     let mut number = 0;
     'inputs: for input in inputs {
         let mut input = Counted::new(input);
-        let report = split_input(alloc, blank_nodes, number, &mut input, outs)?;
+        let prefix = input_prefix(alloc, blank_nodes, number)?;
+        let report = match split_document(alloc, &prefix, &mut input, outs) {
+            Ok(report) => report,
+            Err(fault) => return Err(SplitInputsFault::Input(number, fault)),
+        };
         first = first_with_blank_nodes(blank_nodes, first, number, report.has_blank_nodes)?;
         number += 1;
     }

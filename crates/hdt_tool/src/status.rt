@@ -25,7 +25,7 @@ ghost use Rattle.hdt_tool.specs.ErrorLines.{fault_status};
 ghost use Rattle.hdt_tool.specs.Status.{ExitsWith, IsBuild, IsCommandStatus, IsRefusalStatus, IsReportStatus};
 
 use crate::command_line::parse_invocation;
-use crate::commands::{answer_file, print_and_count};
+use crate::commands::{answer_file, print_output};
 use crate::error_context::{ErrorSource, print_context, print_prefix_hint, print_term_context};
 use crate::error_lines::{OUT_OF_MEMORY, fault_line, usage_line};
 use crate::fault::{ToolFault, UsageFault, file_fault};
@@ -38,7 +38,6 @@ use crate::session::Session;
 use crate::split_files::run_split;
 use hdt_wire::Counted;
 use std::alloc::{AllocError, Global};
-use std::env;
 use std::env::Args;
 use std::io::{self, ErrorKind, Read, Write};
 
@@ -121,7 +120,7 @@ fn parse_arguments(alloc: Global, words: &[String]) -> Result<Invocation, UsageF
 }
 
 /// Collects the arguments of the process, or returns the system's error. (`collect` would ignore a failed allocation.)
-pub(crate) fn collect_arguments(alloc: Global, given: io::Result<Args>) -> io::Result<Vec<String>>
+pub fn collect_arguments(alloc: Global, given: io::Result<Args>) -> io::Result<Vec<String>>
     ensures ok { IfOk result (λ words. MatchResult given (λ args. words.items ≡ into_iter_items args) (λ _. ⊥)) }
     ensures memory { IfErr result (λ error. IfOk given (λ _. error_kind error ≡ ErrorKind.OutOfMemory)) }
     ensures refused { IfErr given (λ error. result ≡ Err error) }
@@ -205,7 +204,7 @@ fn run_query<R: Read, W: Write>(
         ⊎ InterruptsStrings action.now (R.remaining (inner input.old)) (R.remaining (inner input.new))
         (W.contents (inner out.old)) (W.contents (inner out.new)) (failures out.old) (failures out.new) }
 {
-    let outcome = print_and_count(rt.alloc(), action, input, capacity, out);
+    let outcome = print_output(rt.alloc(), action, input, capacity, out);
     count_status(rt, source, action, outcome)
 }
 
@@ -331,10 +330,11 @@ fn run_answer_on_streams(
     )
 }
 
-/// Runs the command line and returns the exit status: 0 success or help; 1 invalid input, no result, an erroneous
+/// Runs a command line over the standard streams and returns the exit status: 0 success or help; 1 invalid input, no result, an erroneous
 /// answer, a faulty line, or triples left out; 2 invalid arguments or options, or an output that would overwrite an
 /// input or an existing folder; 3 reading or writing failed; 4 out of memory. Cost: that of [`run`](crate::run).
-pub(crate) fn status_of(rt: &HostRuntime, words: io::Result<Vec<String>>) -> u8
+pub fn process_status(rt: &HostRuntime, words: io::Result<Vec<String>>) -> u8
+    ensures ends { result ≤ 4 }
     ensures given { IfOk words (λ words. ExitsWith (map string_bytes words.items) result) }
     ensures memory { IfErr words (λ error. error_kind error ≡ ErrorKind.OutOfMemory → result ≡ 4) }
     ensures other { IfErr words (λ error. error_kind error ≢ ErrorKind.OutOfMemory → (result ≡ 2) ⊎ (result ≡ 4)) }
@@ -374,12 +374,4 @@ pub(crate) fn status_of(rt: &HostRuntime, words: io::Result<Vec<String>>) -> u8
             status
         }
     }
-}
-
-/// Runs the request of the process's arguments over its streams, as [`status_of`] does, and returns the exit status.
-/// Cost: that of [`run`](crate::run). (No contract can name the arguments: std states only their type.)
-pub fn process_status(rt: &HostRuntime) -> u8
-    ensures { result ≤ 4 }
-{
-    status_of(rt, collect_arguments(rt.alloc(), env::args(rt)))
 }

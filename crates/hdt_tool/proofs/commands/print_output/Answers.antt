@@ -1,7 +1,119 @@
-use Rattle.hdt_tool.proofs.Outputs.{reads_printed}
+use Rattle.std.proofs.Common.{[], Err, refl}
+use Rattle.std.proofs.lemmas.Result.{err_from_is_err_and}
+use Rattle.hdt_wire.specs.Counted.{inner}
+use Rattle.hdt_dict.specs.Dictionary.{role_strings}
+use Rattle.hdt_tool.specs.Outcomes.{Prints, PrintsWithCount, ReadsWith}
+use Rattle.hdt_tool.specs.StringsText.{string_lines}
+use Rattle.hdt_tool.proofs.Outputs.{counts_non_terms, counts_nothing, nothing_built, prints_text}
+use Rattle.hdt_tool.proofs.Outputs.{reads_printed, writes_prefix}
+use Rattle.hdt_tool.proofs.Pieces.{all_lines, role_halts, role_reported, role_writes}
 use Rattle.hdt_tool.proofs.commands.print_output.Goals as goal
+
+pub returns-in-Strings-clause-ok : goal.returns-in-Strings-clause-ok
+returns-in-Strings-clause-ok g c =
+    let h = c.in_ok-print_file_strings-in-Strings.ensures.ok in
+    let lines = all_lines _ _ _ _ _ c.in_ok-bytes.ensures.ok c.deref.ensures.value h.graph h.encoded in
+    rw c.in-Strings.is (record {
+      text = string_lines 1 (role_strings h.graph.dictionary c.in-Strings.role);
+      prints = record { bytes = lines.bytes; read = lines.read; holds = (lines.holds, refl) };
+      written = h.holds;
+    })
+
+pub returns-in_err-print_file_strings-in-Strings-clause-write
+    : goal.returns-in_err-print_file_strings-in-Strings-clause-write
+returns-in_err-print_file_strings-in-Strings-clause-write g c =
+    let p = err_from_is_err_and c.from_residual-in_err-print_file_strings-in-Strings.result
+    c.from_residual-in_err-print_file_strings-in-Strings.ensures.1 in
+    rw (p.1, p.2, c.in-Strings.is)
+    (role_writes _ _ _ _ _ _ _ _ _ c.in_err-print_file_strings-in-Strings.field-0.0 _ c.in_ok-bytes.ensures.ok
+    c.deref.ensures.value c.in_err-print_file_strings-in-Strings.ensures.err)
+
+pub returns-in_err-print_file_strings-in-Strings-clause-reported
+    : goal.returns-in_err-print_file_strings-in-Strings-clause-reported
+returns-in_err-print_file_strings-in-Strings-clause-reported g c =
+    let p = err_from_is_err_and c.from_residual-in_err-print_file_strings-in-Strings.result
+    c.from_residual-in_err-print_file_strings-in-Strings.ensures.1 in
+    rw (p.1, p.2, c.in-Strings.is)
+    (role_reported _ _ _ _ _ _ _ _ _ c.in_err-print_file_strings-in-Strings.field-0.0 _ c.in_ok-bytes.ensures.ok
+    c.deref.ensures.value c.in_err-print_file_strings-in-Strings.ensures.err)
+
+pub returns-in_err-print_file_strings-in-Strings-clause-unwritten
+    : goal.returns-in_err-print_file_strings-in-Strings-clause-unwritten
+returns-in_err-print_file_strings-in-Strings-clause-unwritten g c =
+    let p = err_from_is_err_and c.from_residual-in_err-print_file_strings-in-Strings.result
+    c.from_residual-in_err-print_file_strings-in-Strings.ensures.1 in
+    rw (p.1, p.2, c.in-Strings.is)
+    (role_halts _ _ _ _ _ _ _ _ _ c.in_err-print_file_strings-in-Strings.field-0.0 _ c.in_ok-bytes.ensures.ok
+    c.deref.ensures.value c.in_err-print_file_strings-in-Strings.ensures.err)
+
+pub returns-in-SkipNonTerms-clause-ok : goal.returns-in-SkipNonTerms-clause-ok
+returns-in-SkipNonTerms-clause-ok g c =
+    let made = c.in_ok-text-in-SkipNonTerms in
+    record {
+      text = made.text.items;
+      prints = record {
+        bytes = c.in_ok-bytes.bytes.items;
+        read = c.in_ok-bytes.ensures.ok;
+        holds = counts_non_terms c.args.action.now c.in_ok-bytes.bytes.items made.text.items made.count
+            (rw c.deref-in-SkipNonTerms.ensures.value at made.ensures.ok);
+      };
+      written = rw c.deref-in-SkipNonTerms-2.ensures.value at c.in_ok-write_text-in-SkipNonTerms.ensures.ok;
+    }
+
+pub returns-in_err-write_text-in-SkipNonTerms-clause-write : goal.returns-in_err-write_text-in-SkipNonTerms-clause-write
+returns-in_err-write_text-in-SkipNonTerms-clause-write g c =
+    let left = g.R.Read.remaining in
+    let action = c.args.action.now in
+    let made = c.in_ok-text-in-SkipNonTerms in
+    let text = made.text.items in
+    let e = c.in_err-write_text-in-SkipNonTerms.field-0.0 in
+    let counted : ReadsWith (left (inner c.args.input.now)) (left (inner c.read_all.new.input))
+    (λ bytes. PrintsWithCount action bytes text made.count) = record {
+      bytes = c.in_ok-bytes.bytes.items;
+      read = c.in_ok-bytes.ensures.ok;
+      holds = counts_non_terms action c.in_ok-bytes.bytes.items text made.count
+          (rw c.deref-in-SkipNonTerms.ensures.value at made.ensures.ok);
+    } in
+    let makes = nothing_built action c.requires _ _ text [] (reads_printed action _ _ text made.count counted) in
+    let p = err_from_is_err_and c.from_residual-in_err-write_text-in-SkipNonTerms.result
+    c.from_residual-in_err-write_text-in-SkipNonTerms.ensures.1 in
+    rw (p.1, p.2) (writes_prefix (Err e) _ _ _ _ _ text makes.built _ _ makes.yields
+    (rw c.deref-in-SkipNonTerms-2.ensures.value at c.in_err-write_text-in-SkipNonTerms.ensures.failed))
+
+pub file_text-requires : goal.file_text-requires
+file_text-requires g c = prints_text c.args.action.now c.requires c.in_default.not-Strings c.in_default.not-SkipNonTerms
+    c.in_default.not-VerifyTerms
 
 pub returns-clause-ok : goal.returns-clause-ok
 returns-clause-ok g c =
-    let made = c.in_ok-print_and_count.ensures.ok in
-    (made.text, reads_printed c.args.action.now _ _ made.text _ made.prints, made.written)
+    let action = c.args.action.now in
+    let only = prints_text action c.requires c.in_default.not-Strings c.in_default.not-SkipNonTerms
+    c.in_default.not-VerifyTerms in
+    let made = c.in_ok-text-in_default in
+    record {
+      text = made.text.items;
+      prints = record {
+        bytes = c.in_ok-bytes.bytes.items;
+        read = c.in_ok-bytes.ensures.ok;
+        holds = counts_nothing action c.in_ok-bytes.bytes.items made.text.items only
+            (rw c.deref-in_default.ensures.value at made.ensures.ok);
+      };
+      written = rw c.deref-in_default-2.ensures.value at c.in_ok-write_text-in_default.ensures.ok;
+    }
+
+pub returns-in_err-write_text-in_default-clause-write : goal.returns-in_err-write_text-in_default-clause-write
+returns-in_err-write_text-in_default-clause-write g c =
+    let left = g.R.Read.remaining in
+    let text = c.in_ok-text-in_default.text.items in
+    let e = c.in_err-write_text-in_default.field-0.0 in
+    let printed : ReadsWith (left (inner c.args.input.now)) (left (inner c.read_all.new.input))
+    (λ bytes. Prints c.args.action.now bytes text) = record {
+      bytes = c.in_ok-bytes.bytes.items;
+      read = c.in_ok-bytes.ensures.ok;
+      holds = rw c.deref-in_default.ensures.value at c.in_ok-text-in_default.ensures.ok;
+    } in
+    let makes = nothing_built c.args.action.now c.requires _ _ text [] printed in
+    let p = err_from_is_err_and c.from_residual-in_err-write_text-in_default.result
+    c.from_residual-in_err-write_text-in_default.ensures.1 in
+    rw (p.1, p.2) (writes_prefix (Err e) _ _ _ _ _ text makes.built _ _ makes.yields
+    (rw c.deref-in_default-2.ensures.value at c.in_err-write_text-in_default.ensures.failed))

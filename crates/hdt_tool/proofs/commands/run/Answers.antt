@@ -7,7 +7,7 @@ use Rattle.std.specs.declared.vec.Vec.{Vec}
 use Rattle.hdt_wire.specs.Counted.{inner, failures}
 use Rattle.hdt_tool.specs.declared.fault.ToolFault.TheVariants.{BadOptions}
 use Rattle.hdt_tool.proofs.Outputs.{IsWriteFault, completes, if_build, no_options, not_bad_writing, nothing_built}
-use Rattle.hdt_tool.proofs.Outputs.{only_writing, read_only, restored, writes_prefix}
+use Rattle.hdt_tool.proofs.Outputs.{only_writing, read_only, reads_printed, restored, writes_prefix}
 use Rattle.hdt_tool.proofs.Rewriting.{not_error, same_error, still_bad}
 use Rattle.hdt_tool.proofs.commands.run.Goals as goal
 
@@ -108,12 +108,16 @@ returns-in_ok-line-in-Build-clause-unchanged g c =
 pub print_output-requires : goal.print_output-requires
 print_output-requires g c = read_only _ c.in_default.not-Build c.in_default.not-Rewrite
 
-pub returns-in_default-clause-ok : goal.returns-in_default-clause-ok
-returns-in_default-clause-ok g c =
-    let only = read_only _ c.in_default.not-Build c.in_default.not-Rewrite in
-    on_ok_weaker c.print_output.result
-    (λ h. record { text = h.0; makes = nothing_built _ only _ _ h.0 _ h.1; written = h.2 })
-    c.print_output.ensures.ok
+pub returns-clause-ok : goal.returns-clause-ok
+returns-clause-ok g c =
+    let action = c.args.request.now.action in
+    let only = read_only action c.in_default.not-Build c.in_default.not-Rewrite in
+    let made = c.in_ok-print_output.ensures.ok in
+    record {
+      text = made.text;
+      makes = nothing_built action only _ _ made.text _ (reads_printed action _ _ made.text _ made.prints);
+      written = made.written;
+    }
 
 pub returns-in_default-clause-bad : goal.returns-in_default-clause-bad
 returns-in_default-clause-bad g c = no_options _ _ (read_only _ c.in_default.not-Build c.in_default.not-Rewrite)

@@ -1,12 +1,23 @@
-use Rattle.std.proofs.lemmas.Result.{IfErr-weaker}
-use Rattle.hdt_file.specs.Graph.{graph_view}
-use Rattle.hdt_tool.proofs.InfoLaws.{only_graph, out_of_memory}
+use Rattle.std.proofs.Common.{◌↔◌, ℕ, List, Result, Err, ap, subst, sym}
+use Rattle.std.specs.Prelude.{IfOk, IsErrOf}
+use Rattle.hdt_build.specs.Built.{IsRewritten}
+use Rattle.hdt_build.specs.Layouts.{denoted_by}
+use Rattle.hdt_build.specs.Options.{IsBlockSize}
+use Rattle.hdt_build.specs.declared.fault.RewriteFault.TheVariants as rewriting
+use Rattle.hdt_tool.proofs.Rewriting.{size_written}
+use Rattle.hdt_tool.proofs.InfoLaws.{compared, bad_size}
 use Rattle.hdt_tool.proofs.info.is_canonical.Goals as goal
 
-pub is_rewritten_as-requires-clause-only : goal.is_rewritten_as-requires-clause-only
-is_rewritten_as-requires-clause-only c =
-    only_graph c.args.bytes.now (graph_view c.in_ok-graph.graph) c.in_ok-graph.ensures.only
+pub returns-in-Ok-clause-ok : goal.returns-in-Ok-clause-ok
+returns-in-Ok-clause-ok c = λ b graph encoded only made bad.
+    let size = size_written b (λ not. let told = bad.1 not in absurd cc) in
+    compared b c.args.bytes.now c.as_slice.result.now graph c.in-Ok.field-0-1 c.eq.result c.eq.ensures size
+    encoded only
+    (λ x y p q. c.one_canonical_file.ensures graph.header (denoted_by graph) (denoted_by graph) b x y
+    (λ t. (λ h. h, λ h. h)) p q)
+    (subst (λ (x : List ℕ). IsRewritten b graph x c.in-Ok.field-0-1)
+    (sym c.as_slice.ensures.value) (rw c.in-Ok.is at made))
 
-pub returns-clause-err : goal.returns-clause-err
-returns-clause-err c = λ json. IfErr-weaker c.is_rewritten_as.result _ _
-    (λ e is. out_of_memory json c.args.bytes.now e is) c.is_rewritten_as.ensures.err
+pub returns-in-Err-BadOptions-clause-ok : goal.returns-in-Err-BadOptions-clause-ok
+returns-in-Err-BadOptions-clause-ok c = λ b graph encoded only made bad.
+    bad_size b c.args.bytes.now (bad.0 c.in-Err-BadOptions.is)

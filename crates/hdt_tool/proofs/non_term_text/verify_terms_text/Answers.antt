@@ -8,15 +8,13 @@ use Rattle.hdt_tool.proofs.non_term_text.verify_terms_text.Goals as goal
 pub returns-in_err-found-clause-err : goal.returns-in_err-found-clause-err
 returns-in_err-found-clause-err c =
     let p = err_from_is_err_and c.from_residual-in_err-found.result c.from_residual-in_err-found.ensures.1 in
-    rw (p.1, p.2) (open_fault c.args.tight c.args.bytes.now c.in_err-found.field-0.0 c.one_tight_layout.ensures.earlier
-    c.in_err-found.ensures.err)
+    rw (p.1, p.2) (open_fault c.args.bytes.now c.in_err-found.field-0.0 c.in_err-found.ensures.err)
 
 pub returns-clause-ok : goal.returns-clause-ok
 returns-clause-ok c =
     let text = c.in_ok-text.text.items in
     let found = c.in_ok-found.found in
     let counted : c.len.result ≡ length found.non_terms.items = search rules in
-    verdict_printed c.args.tight c.args.bytes.now text found c.len.result c.in_ok-found.ensures.found
-    c.in_ok-check_tight.ensures.ok
+    verdict_printed c.args.bytes.now text found c.len.result c.in_ok-found.ensures.found
     (subst (λ (x : List NonTerm). text ≡ term_verdict_lines found.counts x) c.deref.ensures.value c.in_ok-text.ensures)
     counted

@@ -1,6 +1,6 @@
 use Rattle.std.proofs.Common.{map, inl, inr, string_bytes}
 use Rattle.hdt_tool.proofs.Statuses.{command_status, ends_with, was_given}
-use Rattle.hdt_tool.proofs.status.status_of.Goals as goal
+use Rattle.hdt_tool.proofs.status.process_status.Goals as goal
 
 pub returns-then-writes_over_its_input-clause-given : goal.returns-then-writes_over_its_input-clause-given
 returns-then-writes_over_its_input-clause-given c =
