@@ -1,7 +1,7 @@
 -- `info` decides whether a file is tight, and whether it is the file that `rewrite` makes of it, of which there is only
 -- one.
-use Rattle.std.proofs.Common.{◌≡◌, ◌↔◌, ◌∙◌, ℕ, Bool, true, false, List, Result, Ok, Err, refl, subst, sym}
-use Rattle.std.specs.Prelude.{IfOk, IsTrue}
+use Rattle.std.proofs.Common.{◌≡◌, ◌↔◌, ◌∙◌, ℕ, Bool, true, false, List, Result, Ok, Err, ap, refl, subst, sym}
+use Rattle.std.specs.Prelude.{IfOk, IsErrOf, IsTrue}
 use Rattle.std.specs.Str.{bytes_eq}
 use Rattle.std.proofs.lemmas.Slice.Eq.{bytes_eq-Decides}
 use Rattle.hdt_wire.specs.Checks.{ReadsUnlessOom}
@@ -17,12 +17,9 @@ use Rattle.hdt_build.specs.Canonical.{IsCanonical}
 use Rattle.hdt_build.specs.Layouts.{denoted_by}
 use Rattle.hdt_build.specs.Options.{IsBlockSize}
 use Rattle.hdt_build.specs.Built.{IsRewritten}
+use Rattle.hdt_build.specs.declared.fault.RewriteFault.{RewriteFault}
 use Rattle.hdt_build.specs.declared.options.Report.{Report}
 use Rattle.hdt_tool.specs.Info.{IsRewrittenAs, IsTightFile}
-use Rattle.hdt_tool.specs.Outcomes.{IsFaultOfBytes}
-use Rattle.hdt_tool.specs.declared.fault.ToolFault.{ToolFault}
-use Rattle.hdt_tool.specs.declared.fault.ToolFault.TheVariants.{OutOfMemory}
-use Rattle.hdt_tool.specs.declared.request.Action.TheVariants.{Info}
 
 -- The rewritten file has the same bytes.
 is_same : (b : ℕ) (bytes made : List ℕ) (graph : GraphParts) (report : Report) → IsBlockSize b → IsLayout bytes graph
@@ -57,6 +54,10 @@ compared b bytes made graph report same is size encoded only alone rewritten =
       λ h. is ∙ decides.1 (same_is b bytes made graph report only alone rewritten h),
     )
 
+pub fails : {T : Type 0} (outcome : Result T RewriteFault) (e fault : RewriteFault) → outcome ≡ Err e → e ≡ fault
+    → IsErrOf outcome fault
+fails {T} outcome e fault failed is = failed ∙ ap Err is
+
 -- A block size that `rewrite` does not take.
 pub bad_size : (b : ℕ) (bytes : List ℕ) → (IsBlockSize b → ⊥) → IsTrue false ↔ IsRewrittenAs b bytes
 bad_size b bytes bad = (λ t. absurd (cc), λ h. absurd (bad h.size))
@@ -66,19 +67,19 @@ pub tight : (bytes lens : List ℕ) (verified : Result (List ℕ) OpenFault) →
     → IfOk verified (λ lens. IsViewOf graph_counts (IsTightLayout bytes) lens) → IsTrue true ↔ IsTightFile bytes
 tight bytes lens verified is found =
     let view = subst (λ (r : Result (List ℕ) OpenFault). IfOk r (λ lens. IsViewOf graph_counts (IsTightLayout bytes) lens))
-        is found in
+    is found in
     (λ t. (view.value, view.is), λ h. refl)
 
-pub not_tight : (bytes : List ℕ) (verified : Result (List ℕ) OpenFault) (fault : Fault)
-    → verified ≡ Err (opening.Fault fault)
+pub not_tight : (bytes : List ℕ) (verified : Result (List ℕ) OpenFault) (e : OpenFault) (fault : Fault)
+    → verified ≡ Err e → e ≡ opening.Fault fault
     → ((graph : GraphParts) → IsTightLayout bytes graph
     → ReadsUnlessOom open_fault_of (λ (lens : List ℕ). lens) verified (Ok (graph_counts graph)))
     → IsTrue false ↔ IsTightFile bytes
-not_tight bytes verified fault is only = (
+not_tight bytes verified e fault failed is only = (
   λ t. absurd (cc),
   λ h. let k =
       subst (λ (r : Result (List ℕ) OpenFault). ReadsUnlessOom open_fault_of (λ (lens : List ℕ). lens) r
-      (Ok (graph_counts h.0))) is (only h.0 h.1) in absurd (cc),
+      (Ok (graph_counts h.0))) (failed ∙ ap Err is) (only h.0 h.1) in absurd (cc),
 )
 
 graph_is : (a b : GraphParts) → (let r : Result GraphParts Fault = Ok a in r) ≡ Ok b → a ≡ b
@@ -89,11 +90,6 @@ pub only_graph : (bytes : List ℕ) (graph : GraphParts)
     → ((other : GraphParts) → IsLayout bytes other → (let r : Result GraphParts Fault = Ok other in r) ≡ Ok graph)
     → (other : GraphParts) → IsLayout bytes other → other ≡ graph
 only_graph bytes graph only other h = graph_is other graph (only other h)
-
--- Memory that ran out is no error of the file.
-pub out_of_memory : (json : Bool) (bytes : List ℕ) (e : ToolFault) → e ≡ OutOfMemory
-    → IsFaultOfBytes (Info json) bytes e
-out_of_memory json bytes e is = subst (λ (t : ToolFault). IsFaultOfBytes (Info json) bytes t) (sym is) tt
 
 -- A block size that is not valid makes no file, whatever it is.
 of_size : (a b : ℕ) (bytes : List ℕ) → (IsBlockSize a → a ≡ b) → IsRewrittenAs a bytes → IsRewrittenAs b bytes

@@ -1,10 +1,13 @@
 -- The output of commands that count what has no form in N-Triples.
 use Rattle.std.proofs.Common.{◌≡◌, ℕ, Bool, true, false, List, [], ◌++◌, Option, length, sym, ap, ◌∙◌, subst}
-use Rattle.std.specs.Prelude.{Err, IfSome}
+use Rattle.std.specs.Prelude.{IfSome, Ok, Err, Result}
+use Rattle.hdt_wire.specs.Checks.{ReadsUnlessOom}
+use Rattle.hdt_wire.specs.Exact.{viewed}
 use Rattle.hdt_wire.specs.declared.fault.Fault.{Fault}
 use Rattle.hdt_triples.specs.TripleSequences.{Triple}
 use Rattle.hdt_file.specs.Denoted.{denoted}
 use Rattle.hdt_file.specs.File.{GraphParts, decode_graph}
+use Rattle.hdt_file.specs.Graph.{graph_counts}
 use Rattle.hdt_file.specs.NonTerms.{IsTermVerdict}
 use Rattle.hdt_file.specs.Writable.{SkipsNonTerms}
 use Rattle.hdt_file.specs.Text.{IsTextOf}
@@ -71,3 +74,15 @@ pub tight_fault : (bytes : List ℕ) (e : ToolFault)
 tight_fault bytes (File fault) earlier h = earlier bytes fault h
 tight_fault bytes OutOfMemory earlier h = tt
 tight_fault bytes e earlier h = absurd h
+
+not_viewed : {A B : Type 0} (view : A → B) (decoded : Result A Fault) (fault : Fault) → viewed view decoded ≡ Err fault
+    → decoded ≡ Err fault
+not_viewed {A} {B} view (Ok x) fault h = absurd cc
+not_viewed {A} {B} view (Err f) fault h = cc
+
+-- The first error of a file that is verified as tight.
+pub first_fault : (bytes : List ℕ) (e : OpenFault)
+    → ReadsUnlessOom open_fault_of (λ (lens : List ℕ). lens) (Err e) (viewed graph_counts (decode_tight_graph bytes))
+    → IsFaultOfBytes (VerifyTerms true) bytes (tool_fault_of e)
+first_fault bytes (opening.Fault fault) h = not_viewed graph_counts (decode_tight_graph bytes) fault h
+first_fault bytes opening.OutOfMemory h = tt

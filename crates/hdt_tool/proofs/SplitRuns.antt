@@ -36,3 +36,6 @@ pub stops_at_fault : (mode : Option BlankNodes) (n : ℕ) (prefix : List ℕ) (i
     → IsFaultOfInputAt mode None n input before after (stop.Input n fault)
 stops_at_fault mode n prefix input left before after fault e h =
     (refl, (left, subst (λ p. SplitsUntilFault p input left before after fault) e h))
+
+pub fault_of_input : (n k : ℕ) (one other : SplitFault) → stop.Input n one ≡ stop.Input k other → one ≡ other
+fault_of_input n k one other same = cc

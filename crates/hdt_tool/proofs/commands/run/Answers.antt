@@ -13,7 +13,8 @@ use Rattle.hdt_tool.proofs.commands.run.Goals as goal
 
 pub returns-in_err-line-in-Build-clause-bad : goal.returns-in_err-line-in-Build-clause-bad
 returns-in_err-line-in-Build-clause-bad g c =
-    let p = err_from_is_err_and c.from_residual.result c.from_residual.ensures.1 in
+    let p = err_from_is_err_and c.from_residual-in_err-line-in-Build.result
+    c.from_residual-in_err-line-in-Build.ensures.1 in
     let fault = c.in_err-line-in-Build.field-0.0 in
     rw (p.1, p.2) (still_bad {T = Vec ℕ Global} {U =
     Unit {0}} c.args.request.now.action (Err fault) (Err fault) (same_error fault BadOptions)
@@ -21,7 +22,8 @@ returns-in_err-line-in-Build-clause-bad g c =
 
 pub returns-in_err-line-in-Build-clause-unread : goal.returns-in_err-line-in-Build-clause-unread
 returns-in_err-line-in-Build-clause-unread g c =
-    let p = err_from_is_err_and c.from_residual.result c.from_residual.ensures.1 in
+    let p = err_from_is_err_and c.from_residual-in_err-line-in-Build.result
+    c.from_residual-in_err-line-in-Build.ensures.1 in
     let fault = c.in_err-line-in-Build.field-0.0 in
     rw (p.1, p.2) (if_build c.args.request.now.action _ _
     (λ options unread is. unread (same_error {T = Unit {0}} {U = Vec ℕ Global} fault BadOptions is))
@@ -108,19 +110,29 @@ returns-in_ok-line-in-Build-clause-unchanged g c =
 pub print_output-requires : goal.print_output-requires
 print_output-requires g c = read_only _ c.in_default.not-Build c.in_default.not-Rewrite
 
-pub returns-clause-ok : goal.returns-clause-ok
-returns-clause-ok g c =
+pub returns-in_ok-print_output-in_default-clause-ok : goal.returns-in_ok-print_output-in_default-clause-ok
+returns-in_ok-print_output-in_default-clause-ok g c =
     let action = c.args.request.now.action in
     let only = read_only action c.in_default.not-Build c.in_default.not-Rewrite in
-    let made = c.in_ok-print_output.ensures.ok in
+    let made = c.in_ok-print_output-in_default.ensures.ok in
     record {
       text = made.text;
       makes = nothing_built action only _ _ made.text _ (reads_printed action _ _ made.text _ made.prints);
       written = made.written;
     }
 
-pub returns-in_default-clause-bad : goal.returns-in_default-clause-bad
-returns-in_default-clause-bad g c = no_options _ _ (read_only _ c.in_default.not-Build c.in_default.not-Rewrite)
+pub returns-in_ok-print_output-in_default-clause-bad : goal.returns-in_ok-print_output-in_default-clause-bad
+returns-in_ok-print_output-in_default-clause-bad g c =
+    no_options _ _ (read_only _ c.in_default.not-Build c.in_default.not-Rewrite)
 
-pub returns-in_default-clause-unread : goal.returns-in_default-clause-unread
-returns-in_default-clause-unread g c = no_options _ _ (read_only _ c.in_default.not-Build c.in_default.not-Rewrite)
+pub returns-in_ok-print_output-in_default-clause-unread : goal.returns-in_ok-print_output-in_default-clause-unread
+returns-in_ok-print_output-in_default-clause-unread g c =
+    no_options _ _ (read_only _ c.in_default.not-Build c.in_default.not-Rewrite)
+
+pub returns-in_err-print_output-in_default-clause-bad : goal.returns-in_err-print_output-in_default-clause-bad
+returns-in_err-print_output-in_default-clause-bad g c =
+    no_options _ _ (read_only _ c.in_default.not-Build c.in_default.not-Rewrite)
+
+pub returns-in_err-print_output-in_default-clause-unread : goal.returns-in_err-print_output-in_default-clause-unread
+returns-in_err-print_output-in_default-clause-unread g c =
+    no_options _ _ (read_only _ c.in_default.not-Build c.in_default.not-Rewrite)

@@ -1,15 +1,13 @@
-use Rattle.std.proofs.Common.{◌↔◌, ◌∙◌, List, ℕ}
-use Rattle.std.proofs.lemmas.Result.{err_from_is_err_and}
 use Rattle.hdt_file.specs.Graph.{graph_view}
-use Rattle.hdt_tool.proofs.InfoLaws.{only_graph, out_of_memory}
+use Rattle.hdt_tool.proofs.InfoLaws.{only_graph}
 use Rattle.hdt_tool.proofs.info.file_info_text.Goals as goal
 
 pub returns-clause-ok : goal.returns-clause-ok
 returns-clause-ok c =
     let bytes = c.args.bytes.now in
     let graph = graph_view c.in_ok-graph.graph in
-    let same = c.in_ok-canonical.ensures.ok c.options.block_size graph c.in_ok-graph.ensures.found
-        (only_graph bytes graph c.in_ok-graph.ensures.only) c.rewrite_bytes.ensures.made c.rewrite_bytes.ensures.bad in
+    let same = c.in_ok-canonical.ensures.ok c.bounded_block_size.result graph c.in_ok-graph.ensures.found
+    (only_graph bytes graph c.in_ok-graph.ensures.only) c.rewrite_bytes.ensures.made c.rewrite_bytes.ensures.bad in
     let size = c.bounded_block_size.ensures bytes in
     record {
       info = c.in_ok-info.info;

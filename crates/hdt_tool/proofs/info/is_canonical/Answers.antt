@@ -1,11 +1,9 @@
-use Rattle.std.proofs.Common.{◌↔◌, ℕ, List, Result, Err, ap, subst, sym}
-use Rattle.std.specs.Prelude.{IfOk, IsErrOf}
+use Rattle.std.proofs.Common.{ℕ, List, subst, sym}
 use Rattle.hdt_build.specs.Built.{IsRewritten}
 use Rattle.hdt_build.specs.Layouts.{denoted_by}
-use Rattle.hdt_build.specs.Options.{IsBlockSize}
-use Rattle.hdt_build.specs.declared.fault.RewriteFault.TheVariants as rewriting
+use Rattle.hdt_build.specs.declared.fault.RewriteFault.TheVariants.{BadOptions}
 use Rattle.hdt_tool.proofs.Rewriting.{size_written}
-use Rattle.hdt_tool.proofs.InfoLaws.{compared, bad_size}
+use Rattle.hdt_tool.proofs.InfoLaws.{compared, bad_size, fails}
 use Rattle.hdt_tool.proofs.info.is_canonical.Goals as goal
 
 pub returns-in-Ok-clause-ok : goal.returns-in-Ok-clause-ok
@@ -20,4 +18,6 @@ returns-in-Ok-clause-ok c = λ b graph encoded only made bad.
 
 pub returns-in-Err-BadOptions-clause-ok : goal.returns-in-Err-BadOptions-clause-ok
 returns-in-Err-BadOptions-clause-ok c = λ b graph encoded only made bad.
-    bad_size b c.args.bytes.now (bad.0 c.in-Err-BadOptions.is)
+    bad_size b c.args.bytes.now (bad.0
+    (fails c.args.rewritten c.in-Err-BadOptions.field-0 BadOptions c.in-Err-BadOptions.is
+    (rw c.in-Err-BadOptions.is at c.in-Err-BadOptions.field-0-is)))

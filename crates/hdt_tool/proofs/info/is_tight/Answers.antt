@@ -6,4 +6,5 @@ returns-in-Ok-clause-ok c = λ bytes found only. tight bytes c.in-Ok.field-0 c.a
 
 pub returns-in-Err-Fault-clause-ok : goal.returns-in-Err-Fault-clause-ok
 returns-in-Err-Fault-clause-ok c = λ bytes found only.
-    not_tight bytes c.args.verified c.in-Err-Fault.field-0-0 c.in-Err-Fault.is only
+    not_tight bytes c.args.verified c.in-Err-Fault.field-0 c.in-Err-Fault.field-0-0 c.in-Err-Fault.is
+    (rw c.in-Err-Fault.is at c.in-Err-Fault.field-0-is) only

@@ -7,7 +7,7 @@ use Rattle.hdt_tool.proofs.non_term_text.verify_terms_text.Goals as goal
 
 pub returns-in_err-found-clause-err : goal.returns-in_err-found-clause-err
 returns-in_err-found-clause-err c =
-    let p = err_from_is_err_and c.from_residual-in_err-found.result c.from_residual-in_err-found.ensures.1 in
+    let p = err_from_is_err_and c.from_residual.result c.from_residual.ensures.1 in
     rw (p.1, p.2) (open_fault c.args.bytes.now c.in_err-found.field-0.0 c.in_err-found.ensures.err)
 
 pub returns-clause-ok : goal.returns-clause-ok

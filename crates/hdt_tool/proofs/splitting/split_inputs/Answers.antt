@@ -2,38 +2,40 @@ use Rattle.std.proofs.Common.{◌≡◌, ◌∙◌, ◌∷◌, ℕ, List, [], Op
 use Rattle.std.specs.Vec.Iter.{into_iter_items}
 use Rattle.std.proofs.lemmas.Result.{err_from_is_err_and}
 use Rattle.hdt_wire.specs.Counted.{inner, failures}
-use Rattle.hdt_terms.specs.Split.{FailsOnce}
+use Rattle.hdt_terms.specs.Split.{FailsOnce, SplitsInput}
+use Rattle.hdt_terms.specs.declared.split.SplitFault.TheVariants.{Write}
 use Rattle.hdt_tool.specs.SplitInputs.{SplitsInTurn, IsBlankNodesFault, IsFaultOfInputAt, StopsInTurn}
-use Rattle.hdt_tool.proofs.SplitRuns.{alone, mixed, none_left}
+use Rattle.hdt_tool.specs.declared.splitting.SplitInputsFault.TheVariants.{Input, OutOfMemory}
+use Rattle.hdt_tool.proofs.SplitRuns.{alone, fault_of_input, mixed, none_left, stops_at_fault}
 use Rattle.hdt_tool.proofs.splitting.split_inputs.Goals as goal
 
-pub returns-in_err-report-clause-stopped : goal.returns-in_err-report-clause-stopped
-returns-in_err-report-clause-stopped g c =
+pub returns-in-Err-clause-stopped : goal.returns-in-Err-clause-stopped
+returns-in-Err-clause-stopped g c =
     let mode = c.args.blank_nodes in
     let old = map (λ out. g.W.Write.contents (inner out)) c.args.outs.now in
     let before = map (λ out. g.W.Write.contents (inner out)) c.inputs.outs in
-    let after = map (λ out. g.W.Write.contents (inner out)) c.split_input.new.outs in
-    let fault = c.in_err-report.field-0.0 in
+    let after = map (λ out. g.W.Write.contents (inner out)) c.split_document.new.outs in
+    let fault = Input c.inputs.number c.in-Err.fault in
     let all : into_iter_items c.into_iter-input-iterator.result ≡ c.args.inputs.items = search rules in
     let here : into_iter_items c.inputs.input-iterator ≡ c.in-Some.input ∷ into_iter_items c.next.new.self =
     search rules in
     let read = ap (λ input. g.R.Read.remaining input) c.new-input.ensures.inner in
-    let p = err_from_is_err_and c.from_residual.result c.from_residual.ensures.1 in
-    rw (p.1, p.2)
-    (subst (λ items. StopsInTurn mode None 0 (map (λ input. g.R.Read.remaining input) items) old after fault) all
+    subst (λ items. StopsInTurn mode None 0 (map (λ input. g.R.Read.remaining input) items) old after fault) all
     (c.inputs.invariant.1 after fault
     (subst (λ items. StopsInTurn mode c.inputs.first c.inputs.number
     (map (λ input. g.R.Read.remaining input) items) before after fault) (sym here)
     (inl (subst (λ (i : Option (List ℕ)). IsFaultOfInputAt mode c.inputs.first c.inputs.number i before after fault)
     read
-    (alone mode c.inputs.first c.inputs.number _ before after fault c.in_err-report.ensures.stopped))))))
+    (alone mode c.inputs.first c.inputs.number _ before after fault
+    (stops_at_fault mode c.inputs.number c.deref.result.now _ _ before after c.in-Err.fault
+    (c.deref.ensures.value ∙ c.in_ok-prefix.ensures) c.in-Err.ensures.stopped))))))
 
 pub returns-in_err-first-clause-stopped : goal.returns-in_err-first-clause-stopped
 returns-in_err-first-clause-stopped g c =
     let mode = c.args.blank_nodes in
     let old = map (λ out. g.W.Write.contents (inner out)) c.args.outs.now in
     let before = map (λ out. g.W.Write.contents (inner out)) c.inputs.outs in
-    let after = map (λ out. g.W.Write.contents (inner out)) c.split_input.new.outs in
+    let after = map (λ out. g.W.Write.contents (inner out)) c.split_document.new.outs in
     let fault = c.in_err-first.field-0.0 in
     let all : into_iter_items c.into_iter-input-iterator.result ≡ c.args.inputs.items = search rules in
     let here : into_iter_items c.inputs.input-iterator ≡ c.in-Some.input ∷ into_iter_items c.next.new.self =
@@ -47,24 +49,24 @@ returns-in_err-first-clause-stopped g c =
     (map (λ input. g.R.Read.remaining input) items) before after fault) (sym here)
     (inl (subst (λ (i : Option (List ℕ)). IsFaultOfInputAt mode c.inputs.first c.inputs.number i before after fault)
     read
-    (mixed mode c.inputs.first c.inputs.number _ before after c.in_ok-report.report fault c.in_ok-report.ensures.ok
+    (mixed mode c.inputs.first c.inputs.number _ before after c.in-Ok.report fault (subst (λ (p : List ℕ). SplitsInput p (g.R.Read.remaining (inner c.new-input.result)) before after c.in-Ok.report)
+    (c.deref.ensures.value ∙ c.in_ok-prefix.ensures) c.in-Ok.ensures.ok)
     c.in_err-first.ensures.err.0 c.in_err-first.ensures.err.1))))))
 
-pub returns-in_err-report-clause-write : goal.returns-in_err-report-clause-write
-returns-in_err-report-clause-write g c =
-    let p = err_from_is_err_and c.from_residual.result c.from_residual.ensures.1 in
-    rw (p.1, p.2) (λ k part same. subst (λ before. FailsOnce part before (map failures c.split_input.new.outs))
-    c.inputs.invariant.4 (c.in_err-report.ensures.write k part same))
+pub returns-in-Err-clause-write : goal.returns-in-Err-clause-write
+returns-in-Err-clause-write g c = λ k part same.
+    subst (λ before. FailsOnce part before (map failures c.split_document.new.outs)) c.inputs.invariant.4
+    (c.in-Err.ensures.write part (fault_of_input c.inputs.number k c.in-Err.fault (Write part) same))
 
-pub returns-in_err-report-clause-others : goal.returns-in_err-report-clause-others
-returns-in_err-report-clause-others g c =
-    let p = err_from_is_err_and c.from_residual.result c.from_residual.ensures.1 in
-    rw (p.1, p.2) (λ other. c.in_err-report.ensures.others other ∙ c.inputs.invariant.4)
+pub returns-in-Err-clause-others : goal.returns-in-Err-clause-others
+returns-in-Err-clause-others g c = λ other.
+    c.in-Err.ensures.unfailed (λ part same. other c.inputs.number part (ap (Input c.inputs.number) same))
+    ∙ c.inputs.invariant.4
 
 pub returns-in_err-first-clause-others : goal.returns-in_err-first-clause-others
 returns-in_err-first-clause-others g c =
     let p = err_from_is_err_and c.from_residual-in_err-first.result c.from_residual-in_err-first.ensures.1 in
-    rw (p.1, p.2) (λ other. c.in_ok-report.ensures.unfailed ∙ c.inputs.invariant.4)
+    rw (p.1, p.2) (λ other. c.in-Ok.ensures.writers_well ∙ c.inputs.invariant.4)
 
 pub returns-in_err-first-clause-write : goal.returns-in_err-first-clause-write
 returns-in_err-first-clause-write g c =
@@ -84,3 +86,18 @@ returns-clause-ok g c =
     (c.inputs.invariant.0 after
     (subst (λ items. SplitsInTurn mode c.inputs.first c.inputs.number
     (map (λ input. g.R.Read.remaining input) items) after after) (sym ended) refl))
+
+pub returns-in_err-prefix-clause-stopped : goal.returns-in_err-prefix-clause-stopped
+returns-in_err-prefix-clause-stopped g c =
+    let mode = c.args.blank_nodes in
+    let old = map (λ out. g.W.Write.contents (inner out)) c.args.outs.now in
+    let before = map (λ out. g.W.Write.contents (inner out)) c.inputs.outs in
+    let all : into_iter_items c.into_iter-input-iterator.result ≡ c.args.inputs.items = search rules in
+    let here : into_iter_items c.inputs.input-iterator ≡ c.in-Some.input ∷ into_iter_items c.next.new.self =
+    search rules in
+    let p = err_from_is_err_and c.from_residual.result c.from_residual.ensures.1 in
+    rw (p.1, p.2)
+    (subst (λ items. StopsInTurn mode None 0 (map (λ input. g.R.Read.remaining input) items) old before OutOfMemory) all
+    (c.inputs.invariant.1 before OutOfMemory
+    (subst (λ items. StopsInTurn mode c.inputs.first c.inputs.number
+    (map (λ input. g.R.Read.remaining input) items) before before OutOfMemory) (sym here) (inl refl))))

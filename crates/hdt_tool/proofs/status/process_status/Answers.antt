@@ -34,16 +34,21 @@ returns-in-Split-clause-given c =
     c.run_split.result c.in-Ok.is
     c.parse_process_arguments.ensures.ok c.parse_process_arguments.ensures.refused (inl c.run_split.ensures)
 
-pub returns-in-Err-open_input : goal.returns-in-Err-open_input
-returns-in-Err-open_input c = record {
-  given = ends_with (λ words. map string_bytes words.items) c.args.words c.parse_process_arguments.result
-      c.in-Ok.invocation c.open_failed.result c.in-Ok.is c.parse_process_arguments.ensures.ok
-      c.parse_process_arguments.ensures.refused (inl c.open_failed.ensures.statuses);
-  memory = was_given (λ words. map string_bytes words.items) c.args.words c.parse_process_arguments.result
-      c.in-Ok.invocation _ c.in-Ok.is c.parse_process_arguments.ensures.ok;
-  other = was_given (λ words. map string_bytes words.items) c.args.words c.parse_process_arguments.result
-      c.in-Ok.invocation _ c.in-Ok.is c.parse_process_arguments.ensures.ok;
-}
+pub returns-in-Err-open_input-clause-given : goal.returns-in-Err-open_input-clause-given
+returns-in-Err-open_input-clause-given c =
+    ends_with (λ words. map string_bytes words.items) c.args.words c.parse_process_arguments.result
+    c.in-Ok.invocation c.open_failed.result c.in-Ok.is c.parse_process_arguments.ensures.ok
+    c.parse_process_arguments.ensures.refused (inl c.open_failed.ensures.statuses)
+
+pub returns-in-Err-open_input-clause-memory : goal.returns-in-Err-open_input-clause-memory
+returns-in-Err-open_input-clause-memory c =
+    was_given (λ words. map string_bytes words.items) c.args.words c.parse_process_arguments.result
+    c.in-Ok.invocation _ c.in-Ok.is c.parse_process_arguments.ensures.ok
+
+pub returns-in-Err-open_input-clause-other : goal.returns-in-Err-open_input-clause-other
+returns-in-Err-open_input-clause-other c =
+    was_given (λ words. map string_bytes words.items) c.args.words c.parse_process_arguments.result
+    c.in-Ok.invocation _ c.in-Ok.is c.parse_process_arguments.ensures.ok
 
 pub returns-clause-given : goal.returns-clause-given
 returns-clause-given c =
