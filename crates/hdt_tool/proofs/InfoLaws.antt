@@ -66,8 +66,8 @@ bad_size b bytes bad = (λ t. absurd (cc), λ h. absurd (bad h.size))
 pub tight : (bytes lens : List ℕ) (verified : Result (List ℕ) OpenFault) → verified ≡ Ok lens
     → IfOk verified (λ lens. IsViewOf graph_counts (IsTightLayout bytes) lens) → IsTrue true ↔ IsTightFile bytes
 tight bytes lens verified is found =
-    let view = subst (λ (r : Result (List ℕ) OpenFault). IfOk r (λ lens. IsViewOf graph_counts (IsTightLayout bytes) lens))
-    is found in
+    let view =
+    subst (λ (r : Result (List ℕ) OpenFault). IfOk r (IsViewOf graph_counts (IsTightLayout bytes))) is found in
     (λ t. (view.value, view.is), λ h. refl)
 
 pub not_tight : (bytes : List ℕ) (verified : Result (List ℕ) OpenFault) (e : OpenFault) (fault : Fault)

@@ -164,8 +164,8 @@ pub(crate) fn write_text<W: Write>(text: &[u8], out: &mut Counted<W>) -> Result<
 }
 
 /// Runs a command that writes no file, as [`run`] does: reads `input` to its end, into a buffer of this initial
-/// capacity, and writes the command's output. Returns what it counts: the triples that `--skip-non-terms` leaves out, or
-/// the strings that `verify --terms` prints; 0 for other commands. Only `strings` writes in pieces; `answer`, `lint` and
+/// capacity, and writes the command's output. Returns the number of triples that `--skip-non-terms` leaves out, or of
+/// strings that `verify --terms` prints; 0 for other commands. Only `strings` writes in pieces; `answer`, `lint` and
 /// `split` write nothing here. Memory and time: those of [`run`].
 ///
 /// # Errors

@@ -330,9 +330,10 @@ fn run_answer_on_streams(
     )
 }
 
-/// Runs a command line over the standard streams and returns the exit status: 0 success or help; 1 invalid input, no result, an erroneous
-/// answer, a faulty line, or triples left out; 2 invalid arguments or options, or an output that would overwrite an
-/// input or an existing folder; 3 reading or writing failed; 4 out of memory. Cost: that of [`run`](crate::run).
+/// Runs a command line over the standard streams and returns the exit status: 0 success or help; 1 invalid input, no
+/// result, an erroneous answer, a faulty line, or triples left out; 2 invalid arguments or options, or an output that
+/// would overwrite an input or an existing folder; 3 reading or writing failed; 4 out of memory. `words` are the
+/// arguments, or the system's error of reading them ([`collect_arguments`]). Cost: that of [`run`](crate::run).
 pub fn process_status(rt: &HostRuntime, words: io::Result<Vec<String>>) -> u8
     ensures ends { result ≤ 4 }
     ensures given { IfOk words (λ words. ExitsWith (map string_bytes words.items) result) }

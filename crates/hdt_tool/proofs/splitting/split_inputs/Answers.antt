@@ -49,7 +49,9 @@ returns-in_err-first-clause-stopped g c =
     (map (λ input. g.R.Read.remaining input) items) before after fault) (sym here)
     (inl (subst (λ (i : Option (List ℕ)). IsFaultOfInputAt mode c.inputs.first c.inputs.number i before after fault)
     read
-    (mixed mode c.inputs.first c.inputs.number _ before after c.in-Ok.report fault (subst (λ (p : List ℕ). SplitsInput p (g.R.Read.remaining (inner c.new-input.result)) before after c.in-Ok.report)
+    (mixed mode c.inputs.first c.inputs.number _ before after c.in-Ok.report fault
+    (subst
+    (λ (p : List ℕ). SplitsInput p (g.R.Read.remaining (inner c.new-input.result)) before after c.in-Ok.report)
     (c.deref.ensures.value ∙ c.in_ok-prefix.ensures) c.in-Ok.ensures.ok)
     c.in_err-first.ensures.err.0 c.in_err-first.ensures.err.1))))))
 
