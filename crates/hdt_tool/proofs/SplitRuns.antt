@@ -1,11 +1,12 @@
 -- The ends of a split of several documents.
-use Rattle.std.proofs.Common.{◌≡◌, ◌∷◌, ℕ, List, [], Option, None, Some, length, refl, subst, true}
+use Rattle.std.proofs.Common.{◌≡◌, ◌∷◌, ℕ, List, [], Option, None, Some, length, refl, rules, subst, true}
 use Rattle.hdt_terms.specs.Split.{SplitsInput, SplitsUntilFault}
 use Rattle.hdt_terms.specs.declared.split.SplitFault.{SplitFault}
 use Rattle.hdt_terms.specs.declared.split.SplitReport.{SplitReport}
 use Rattle.hdt_tool.specs.declared.request.BlankNodes.{BlankNodes}
 use Rattle.hdt_tool.specs.declared.splitting.SplitInputsFault.{SplitInputsFault}
 use Rattle.hdt_tool.specs.declared.splitting.SplitInputsFault.TheVariants as stop
+use Rattle.hdt_tool.specs.Paths.{printed_part}
 use Rattle.hdt_tool.specs.SplitInputs.{IsBlankNodesFault, IsFaultOfInputAt, input_prefix}
 
 -- An error of an input alone is one whatever the inputs before it have.
@@ -39,3 +40,10 @@ stops_at_fault mode n prefix input left before after fault e h =
 
 pub fault_of_input : (n k : ℕ) (one other : SplitFault) → stop.Input n one ≡ stop.Input k other → one ≡ other
 fault_of_input n k one other same = cc
+
+-- A part is printed if it has the wanted number.
+pub is_printed : {W : Type 0} (part n : ℕ) (out : W) → n ≡ part → Some out ≡ printed_part part out n
+is_printed {W} part n out same = search rules
+
+pub not_printed : {W : Type 0} (part n : ℕ) (out : W) → (n ≡ part → ⊥) → None ≡ printed_part part out n
+not_printed {W} part n out other = search rules

@@ -12,6 +12,7 @@ pub mod Faults
 pub mod Linting
 pub mod ErrorLines
 pub mod CommandLine
+pub mod Paths
 pub mod SplitInputs
 pub mod Status
 pub mod Inside

@@ -297,6 +297,20 @@ abbrev pub counted_line : Action → ℕ → List ℕ
 counted_line (VerifyTerms tight) n = codes "hdt: strings that are not terms: " ++ decimal n
 counted_line action n = skipped_line n
 
+-- An error that a command with OUT may end with: no look-up fails.
+abbrev pub IsFileMakingFault : ToolFault → Type 0
+IsFileMakingFault NoSuchTerm = ⊥
+IsFileMakingFault NoSuchNumber = ⊥
+IsFileMakingFault NoMatch = ⊥
+IsFileMakingFault (NotATerm role n) = ⊥
+IsFileMakingFault fault = Unit {0}
+
+-- Out of memory, or a write error.
+abbrev pub IsOutputFault : ToolFault → Type 0
+IsOutputFault OutOfMemory = Unit {0}
+IsOutputFault (Write n) = Unit {0}
+IsOutputFault fault = ⊥
+
 -- ---- errors of replacing a file
 
 -- Out of memory, or a write error after at most all of the bytes.

@@ -6,7 +6,7 @@ ghost use Rattle.hdt_wire.specs.Counted.{inner, failures};
 ghost use Rattle.hdt_build.specs.Options.{AreValidOptions};
 ghost use Rattle.hdt_tool.specs.Dialogue.{AnswersOverFile, AnswersOverFileUntilFault};
 ghost use Rattle.hdt_tool.specs.PrintedReports.{counts_line};
-ghost use Rattle.hdt_tool.specs.Outcomes.{ReadsAll, ReadsWith, Prints, IsFaultOfInput, IsFaultOfBytes, YieldsAppended};
+ghost use Rattle.hdt_tool.specs.Outcomes.{ReadsAll, IsFaultOfInput, IsFaultOfBytes, YieldsAppended};
 ghost use Rattle.hdt_tool.specs.Outcomes.{Completes, WritesOutputPrefix, WritesWithCount, InterruptsStrings, IfBuild};
 ghost use Rattle.hdt_tool.specs.Outcomes.{IsReadOnly, MakesFile, RewritesFile, FailsAfter};
 ghost use Rattle.hdt_tool.specs.declared.request.Action.TheVariants as Action;

@@ -1,5 +1,6 @@
 //! Opening files, and comparing paths by the file that they lead to.
-ghost use Rattle.std.specs.Prelude.{◌≡◌, ◌↔◌, ◌≤ℤ◌, pos, IfOk, IfSome, IsTrue};
+ghost use Rattle.std.specs.Prelude.{◌≡◌, ◌≢◌, ◌↔◌, ◌≤ℤ◌, pos, IfOk, IfSome, IsTrue, codes};
+ghost use Rattle.hdt_tool.specs.Paths.{IsStdinPath};
 
 use crate::progress::ProgressReader;
 use crate::session::Session;
@@ -18,12 +19,17 @@ pub(crate) const STDOUT_PATH: &str = "/proc/self/fd/1";
 pub(crate) const STDERR_PATH: &str = "/proc/self/fd/2";
 
 /// Whether a path names standard input. `-` does; a file of that name is `./-`.
-pub(crate) fn is_stdin_path(path: &str) -> bool {
+pub(crate) fn is_stdin_path(path: &str) -> bool
+    ensures { IsTrue result ↔ IsStdinPath path.now }
+{
     matches!(path, "-" | "/dev/stdin" | "/dev/fd/0" | "/proc/self/fd/0")
 }
 
 /// The path to write to: `-` is standard output; a file of that name is `./-`.
-pub(crate) fn output_path(path: &str) -> &str {
+pub(crate) fn output_path(path: &str) -> &str
+    ensures stdout { path.now ≡ codes "-" → result.now ≡ STDOUT_PATH.now }
+    ensures other { path.now ≢ codes "-" → result.now ≡ path.now }
+{
     if path == "-" { STDOUT_PATH } else { path }
 }
 

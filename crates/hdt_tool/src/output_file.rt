@@ -3,7 +3,7 @@ ghost use Rattle.std.specs.Prelude.{◌≡◌, ◌≢◌, ◌⊎◌, ℕ, Ok, Er
 ghost use Rattle.std.specs.Io.KnownBytes.{Appends};
 ghost use Rattle.std.specs.IoError.{error_kind};
 ghost use Rattle.hdt_wire.specs.Counted.{inner, failures};
-ghost use Rattle.hdt_tool.specs.Outcomes.{FailsAfter, MakesFile};
+ghost use Rattle.hdt_tool.specs.Outcomes.{FailsAfter, IsFileMakingFault, IsOutputFault, MakesFile};
 
 use crate::atomic_replace::{replace_file, replaceable_path};
 use crate::commands::{make_file, write_text};
@@ -19,6 +19,7 @@ fn check_created<F: Write>(file: io::Result<F>) -> Result<Counted<F>, ToolFault>
     ensures ok { IfOk result (λ counted. file ≡ Ok (inner counted)) }
     ensures memory { IfErr file (λ e. error_kind e ≡ ErrorKind.OutOfMemory → result ≡ Err ToolFault.OutOfMemory) }
     ensures other { IfErr file (λ e. error_kind e ≢ ErrorKind.OutOfMemory → result ≡ Err (ToolFault.Write 0)) }
+    ensures fault { IfErr result IsOutputFault }
 {
     let file = file.map_err(|error| file_fault(&error, ToolFault::Write(0)))?;
     Ok(Counted::new(file))
@@ -56,7 +57,9 @@ fn print_built(
     session: &Session<'_>,
     built: &[u8],
     line: &[u8],
-) -> Result<(), ToolFault> {
+) -> Result<(), ToolFault>
+    ensures { IfErr result IsOutputFault }
+{
     let mut out = Counted::new(session.watch(io::writer(rt)));
     let mut errors = Counted::new(session.watch(rt.stderr()));
     let line = if is_same_file(rt, STDOUT_PATH, STDERR_PATH) {
@@ -75,7 +78,9 @@ fn write_to_path(
     path: &str,
     built: &[u8],
     line: &[u8],
-) -> Result<(), ToolFault> {
+) -> Result<(), ToolFault>
+    ensures { IfErr result IsOutputFault }
+{
     let mut out = Counted::new(session.watch(io::writer(rt)));
     let replaced = session.note_error(replaceable_path(rt, rt.alloc(), path));
     if let Some(path) = replaced.map_err(|error| file_fault(&error, ToolFault::Write(0)))? {
@@ -96,6 +101,7 @@ pub(crate) fn make_file_at(
     path: &str,
 ) -> Result<(), ToolFault>
     requires { MakesFile request.now.action }
+    ensures { IfErr result IsFileMakingFault }
 {
     let mut built = Vec::new(rt.alloc());
     // The input is closed before OUT is opened, so one descriptor is enough.

@@ -1,5 +1,7 @@
 //! `split` over files and streams.
-ghost use Rattle.std.specs.Prelude.{◌≡◌, ◌≢◌, ◌⊎◌, ◌<◌, ◌^◌, IfOk, MatchResult, length};
+ghost use Rattle.std.specs.Prelude.{◌≡◌, ◌≢◌, ◌⊎◌, ◌<◌, ◌^◌, IfOk, MatchResult, length, map, get_or, string_bytes};
+ghost use Rattle.std.specs.List.{range_with_len};
+ghost use Rattle.hdt_tool.specs.Paths.{input_paths, printed_part, printed_to};
 ghost use Rattle.hdt_tool.specs.ErrorLines.{fault_status};
 ghost use Rattle.hdt_tool.specs.Status.{IsCommandStatus, split_fault_status};
 
@@ -100,7 +102,9 @@ impl<W: Write> Write for PrintedPart<W> {
 }
 
 /// The path of the input with this number, from 0.
-fn input_path<'a>(request: &'a Request, options: &'a SplitOptions, number: u64) -> &'a str {
+fn input_path<'a>(request: &'a Request, options: &'a SplitOptions, number: u64) -> &'a str
+    ensures { result.now ≡ get_or (input_paths request.now options.now) number (string_bytes request.now.file) }
+{
     if number == 0 {
         return request.file.as_str();
     }
@@ -116,7 +120,9 @@ fn late_inputs<'a>(
     session: &'a Session<'a>,
     request: &'a Request,
     options: &'a SplitOptions,
-) -> Result<Vec<LateInput<'a>>, AllocError> {
+) -> Result<Vec<LateInput<'a>>, AllocError>
+    ensures { IfOk result (λ inputs. map (λ input. input.path.now) inputs.items ≡ input_paths request.now options.now) }
+{
     let mut inputs = Vec::new(rt.alloc());
     inputs.push(LateInput {
         rt,
@@ -158,7 +164,9 @@ fn printed_parts<W: Write + Drop>(
     parts: u32,
     out: W,
 ) -> Result<Vec<Counted<PrintedPart<W>>>, AllocError>
-    ensures { IfOk result (λ outs. length outs.items ≡ parts) }
+    ensures len { IfOk result (λ outs. length outs.items ≡ parts) }
+    ensures part { IfOk result
+        (λ outs. map printed_to outs.items ≡ map (printed_part part out) (range_with_len 0 parts)) }
 {
     let mut outs = Vec::new(alloc);
     let mut out = Some(out);
@@ -266,10 +274,9 @@ fn split_status(
             source,
             ToolFault::Write(0),
         ),
-        SplitInputsFault::Input(_, SplitFault::OutOfMemory) => {
+        SplitInputsFault::Input(_, SplitFault::OutOfMemory) | SplitInputsFault::OutOfMemory => {
             print_fault(rt, source, ToolFault::OutOfMemory)
         }
-        SplitInputsFault::OutOfMemory => print_fault(rt, source, ToolFault::OutOfMemory),
         SplitInputsFault::BlankNodes(one, other) => print_blank_nodes_fault(
             rt,
             input_path(request, options, one),
