@@ -9,13 +9,14 @@
 #   make wheel      make a Python wheel with the library inside, in out/
 #   make deb        make a Debian package, in out/
 #   make rust       build and test the Rust crate, in rust/ (needs cargo)
+#   make jar        build the Java package, for Apache Jena, in out/java/ (needs a JDK and Debian's jars)
 PREFIX = /usr/local
 DESTDIR =
 PYTHON = /usr/bin/python3
 
 export PREFIX DESTDIR
 
-.PHONY: build test prove dist install uninstall wheel deb rust clean
+.PHONY: build test prove dist install uninstall wheel deb rust jar clean
 
 build:
 	@$(PYTHON) -B -m tools.build
@@ -43,6 +44,9 @@ deb:
 
 rust:
 	@folder=$$(tools/current) && HDT_LIB_DIR="$(CURDIR)/$$folder" cargo test -q --offline --manifest-path rust/Cargo.toml
+
+jar:
+	@java/build
 
 clean:
 	rm -rf out crates/*/out rust/target

@@ -5,15 +5,23 @@
  * prints, aborts, exits, waits or starts a thread, and the library has no global state.
  *
  * Ownership.
- * - The bytes that you pass are yours. A call reads them while it runs; only hdt_open keeps their address: keep them in place and
- *   unchanged until hdt_close returns. If the bytes are those of a mapped file that is truncated, the next access ends the process
- *   (SIGBUS). So replace a file in use by rename, or read it into memory.
- * - An hdt_graph and an hdt_bytes are your storage. Initialize each with HDT_GRAPH_INIT or HDT_BYTES_INIT, or with zero bytes.
- *   Don't copy them or write their fields, and use each in one call at a time (other threads may use it under a lock). What they
- *   point to belongs to the library until hdt_close or hdt_free. A built file may be opened where it is; then close the graph before
- *   you free or reuse the hdt_bytes.
- * - Bytes and patterns are only read: calls may share them at the same time.
+ * - The bytes that you pass are yours. A call reads them while it runs; only hdt_open keeps their address: keep them in
+ *   place and unchanged until hdt_close has returned for each handle of the graph (hdt_share makes more of them). If
+ *   the bytes are those of a mapped file that is truncated, the next access ends the process (SIGBUS). So replace a
+ *   file in use by rename, or read it into memory.
+ * - An hdt_graph, which is a handle of a graph, and an hdt_bytes are your storage. Initialize each with HDT_GRAPH_INIT
+ *   or HDT_BYTES_INIT, or with zero bytes. Don't copy them or write their fields. What they point to belongs to the
+ *   library until hdt_close or hdt_free. A built file may be opened where it is; then close every handle of its graph
+ *   before you free or reuse the hdt_bytes.
  * - The arrays that results are written to (out, room) are yours. A call changes nothing in them but what its result says.
+ *
+ * Threads.
+ * - A handle serves one call at a time, as does an hdt_bytes. To search a graph with several threads at once, open it
+ *   once, give each thread a handle of its own with hdt_share, and keep the handles apart (hdt_thread_graph). No lock
+ *   is needed then.
+ * - A handle or an hdt_bytes may go from thread to thread: by the start of a thread, by its join, under a lock, or by
+ *   an atomic variable in sequentially consistent order. Any thread may close it.
+ * - Bytes and patterns are only read: calls may share them at the same time.
  *
  * What you must ensure, since nothing checks it: no pointer is null, even for zero bytes or in a part of a pattern that is not a
  * string (use any address: data() of an empty C++ vector may be null, and so may `at` of an empty hdt_bytes); arrays have the room that
@@ -21,7 +29,7 @@
  * `out`; no call is made in a signal handler, or in the forked child of a process with threads.
  *
  * What is checked: the bytes of files, texts and strings, whatever they are; graphs that are not open (HDT_CLOSED, HDT_IS_CLOSED)
- * or, in hdt_open, already open (HDT_IS_OPEN); roles above 2 and IDs that no string has (HDT_ABSENT); block sizes, base IRIs and numbers
+ * or, where a call opens one, already open (HDT_IS_OPEN); roles above 2 and IDs that no string has (HDT_ABSENT); block sizes, base IRIs and numbers
  * of parts (HDT_BAD_OPTIONS); running out of memory, which leaves a graph as it was. A part of a pattern with an unknown kind, or with an ID
  * that no string has, matches nothing.
  */
@@ -33,10 +41,10 @@
 extern "C" {
 #endif
 
-/* The version of this header, 1.1. A greater minor version has more calls; existing calls don't change as long as the
+/* The version of this header, 1.3. A greater minor version has more calls; existing calls don't change as long as the
  * library is libhdt.so.1. */
 #define HDT_VERSION_MAJOR 1
-#define HDT_VERSION_MINOR 1
+#define HDT_VERSION_MINOR 3
 
 /* Reasons: 0 for success; 1 to 34 for the first error of a file (docs/FORMAT.md); 1 to 9 for the first error of a text
  * (docs/NTRIPLES.md); and these: */
@@ -44,11 +52,12 @@ enum {
     HDT_DONE = 0,
     HDT_NOT_A_TERM = 250,   /* calls that make a text: a string of the graph is not a term of N-Triples in its role;
                              * hdt_term: no term has the string */
-    HDT_NO_TRIPLES = 251,   /* hdt_build: the text has no triples, so no file is built */
-    HDT_BAD_OPTIONS = 252,  /* hdt_build, hdt_rewrite: the block size isn't 1 to 65535, or the base is not an absolute IRI;
+    HDT_NO_TRIPLES = 251,   /* hdt_build: the text has no triples, so no file is built; hdt_merge: there are no graphs */
+    HDT_BAD_OPTIONS = 252,  /* hdt_build, hdt_merge, hdt_rewrite: the block size isn't 1 to 65535, or the base is not an
+                             * absolute IRI;
                              * hdt_split: the number of parts isn't 1 to 65536 */
-    HDT_IS_CLOSED = 253,    /* hdt_text, hdt_pattern_text, hdt_page_text: the graph isn't open */
-    HDT_IS_OPEN = 254,      /* hdt_open: the graph is open already, and is unchanged */
+    HDT_IS_CLOSED = 253,    /* hdt_merge, hdt_share, hdt_text, hdt_pattern_text, hdt_page_text: a graph isn't open */
+    HDT_IS_OPEN = 254,      /* hdt_open, hdt_share: the handle that is to be opened is open already, and is unchanged */
     HDT_OUT_OF_MEMORY = 255 /* out of memory: the input may be valid or not; the call may be made again */
 };
 
@@ -115,12 +124,21 @@ typedef struct {
 } hdt_text_result;
 typedef hdt_text_result hdt_telling; /* its name in earlier copies of this header */
 
-/* A graph: state is 1 if it is open, else 0. */
+/* A handle of a graph: state is 1 if it is open, else 0. */
 typedef struct {
     uint64_t state;
     void *at;
 } hdt_graph;
 #define HDT_GRAPH_INIT {0, NULL}
+
+/* A handle for one of several threads: pass `&handle.graph` to the calls. Each call writes its handle, so threads whose
+ * handles lie in one cache line of 64 bytes slow each other down, cheap calls several times. Handles of this type never
+ * do, wherever they are: in an array, in allocated memory or in another struct. */
+typedef union {
+    hdt_graph graph;
+    uint8_t apart[128]; /* room that isn't used */
+} hdt_thread_graph;
+#define HDT_THREAD_GRAPH_INIT {HDT_GRAPH_INIT}
 
 /* What a part of a pattern gives. */
 enum { HDT_ANY = 0, HDT_ID = 1, HDT_STRING = 2 };
@@ -191,8 +209,16 @@ void hdt_verify_tight(const uint8_t *bytes, size_t len, hdt_verdict *verdict);
  * HDT_IS_OPEN. Time and memory are linear in the file: the call builds indexes. */
 void hdt_open(const uint8_t *bytes, size_t len, hdt_graph *graph, hdt_verdict *verdict);
 
-/* Closes a graph and frees its memory; it no longer reads the bytes of the file. Does nothing if the graph isn't open. */
+/* Closes a handle. With its last handle a graph is freed, and the bytes of the file are no longer read. Does nothing if
+ * the handle isn't open. */
 void hdt_close(hdt_graph *graph);
+
+/* Opens `other`, a closed handle, as one more handle of the graph that `graph` has. Every call answers the same with
+ * either, and different threads may use them at the same time. Handles are closed in any order, in any thread: the
+ * graph is freed with the last one, and until then the bytes of the file stay in place and unchanged. Returns HDT_DONE;
+ * or HDT_IS_OPEN (`other` is open already), HDT_IS_CLOSED (`graph` isn't open) or HDT_OUT_OF_MEMORY; then both are
+ * unchanged. Constant time; a handle takes one allocation of 32 bytes and copies nothing of the graph. */
+uint32_t hdt_share(hdt_graph *graph, hdt_graph *other);
 
 /* The number of triples. HDT_CLOSED. Constant time. */
 uint64_t hdt_len(hdt_graph *graph);
@@ -302,6 +328,19 @@ void hdt_split(const uint8_t *text, size_t len, uint32_t parts, const uint8_t *p
  * the verdict is that of hdt_verify or, for a valid file, HDT_BAD_OPTIONS or HDT_OUT_OF_MEMORY. Linear time, except for sorting the
  * triples if the order of the IDs changes. */
 void hdt_rewrite(const uint8_t *bytes, size_t len, uint32_t block_size, hdt_bytes *out, hdt_verdict *verdict);
+
+/* Merges the graphs of an array of `count` open handles: makes the canonical file of all their triples, each once. The
+ * order of the handles makes no difference, and a blank node label in two files is one node, as in one document.
+ * Strings that no triple uses are left out. The options are those of hdt_build, and the file has none of the old
+ * headers. To merge a graph whose handle is elsewhere, or is another thread's, open a handle of the array by hdt_share.
+ * With HDT_DONE out has the file, and the report its counts; else out has nothing. HDT_IS_CLOSED if a handle isn't open,
+ * before anything is merged; HDT_NO_TRIPLES only if `count` is 0; HDT_BAD_OPTIONS, which is found last;
+ * HDT_OUT_OF_MEMORY. The graphs stay as they are. Time is linear in the graphs, with their strings decoded, except for
+ * sorting. Memory: the distinct strings, decoded, with some 50 bytes each; 24 bytes for each triple of each graph; 8
+ * bytes for each string of one graph at a time; and the file. All of it is freed but out. The strings of a hostile file
+ * of n bytes can take up to n * n / 4 bytes: limit the memory of the process for files of strangers. */
+void hdt_merge(hdt_graph *graphs, size_t count, const uint8_t *base, size_t base_len, uint32_t block_size, hdt_bytes *out,
+               hdt_report *report);
 
 /* The term with a dictionary string, as hdt_string and hdt_strings give it: its kind, and which bytes of the string are
  * its text and its language tag or datatype. Nothing in them is escaped. To write it as N-Triples, escape `\`, `"`, LF and CR

@@ -71,6 +71,8 @@ static int same_verdict(const hdt_verdict *a, const hdt_verdict *b) {
 
 static int has_nothing(const hdt_bytes *bytes) { return bytes->len == 0 && bytes->state == 0; }
 
+static int is_zeroed(const hdt_graph *graph) { return graph->state == 0 && graph->at == NULL; }
+
 /* ---- terms */
 
 static int no_parts(const hdt_term_parts *parts) { return parts->kind == HDT_NO_TERM && parts->at == 0 && parts->len == 0 && parts->suffix_at == 0 && parts->suffix_len == 0; }
@@ -176,6 +178,7 @@ static void names(void) {
     uint32_t i, k;
     current = "names";
     CHECK(hdt_version() == HDT_VERSION_MAJOR * 65536 + HDT_VERSION_MINOR);
+    CHECK(sizeof(hdt_graph) == 16 && sizeof(hdt_thread_graph) == 128); /* compiled programs have the first */
     name_of(hdt_reason_name, HDT_FILE_TRUNCATED, "Truncated");
     name_of(hdt_reason_name, HDT_FILE_CHECK16, "Check16");
     name_of(hdt_reason_name, HDT_FILE_PREDICATES_NOT_ASCENDING, "PredicatesNotAscending");
@@ -650,6 +653,96 @@ static void remake(hdt_graph *graph, const guarded *file, const hdt_verdict *ver
     CHECK(live == before);
 }
 
+/* hdt_merge with the base and block size of the other calls. */
+static void merge(hdt_graph *graphs, size_t count, hdt_bytes *out, hdt_report *report) {
+    hdt_merge(graphs, count, base, sizeof base - 1, 16, out, report);
+}
+
+/* Whether the file of this text, and of nothing else, has been made. */
+static int is_built_of(const hdt_bytes *made, const hdt_report *told, const uint8_t *lines, size_t len) {
+    hdt_bytes wanted = HDT_BYTES_INIT;
+    hdt_report report;
+    int same;
+    hdt_build(lines, len, base, sizeof base - 1, 16, &wanted, &report);
+    same = report.reason == told->reason && told->line == 0 && told->column == 0 && memcmp(report.counts, told->counts, sizeof report.counts) == 0;
+    same = same && made->state == 1 && made->len == wanted.len && memcmp(made->at, wanted.at, wanted.len) == 0;
+    hdt_free(&wanted);
+    return same;
+}
+
+/* What is refused of a merge: no handles, a closed one at each place, and options. The handles and their graphs stay. */
+static void refused_merges(hdt_graph *two, hdt_bytes *out) {
+    static const uint32_t bad[] = {0, 65536, UINT32_MAX};
+    static const hdt_report none = {0, 0, 0, {0}};
+    hdt_report told;
+    size_t i;
+    CHECK(hdt_len(&two[0]) < HDT_CLOSED);
+    merge(two, 0, out, &told); /* frees what out had */
+    CHECK(told.reason == HDT_NO_TRIPLES && told.line == 0 && memcmp(told.counts, none.counts, sizeof told.counts) == 0 && has_nothing(out));
+    for (i = 0; i < 3; i++) {
+        merge(two, 2, out, &told);
+        CHECK(told.reason == HDT_DONE && out->state == 1);
+        hdt_merge(two, 2, base, sizeof base - 1, bad[i], out, &told);
+        CHECK(told.reason == HDT_BAD_OPTIONS && told.counts[0] == 0 && has_nothing(out));
+    }
+    hdt_merge(two, 2, (const uint8_t *)"rel", 3, 16, out, &told);
+    CHECK(told.reason == HDT_BAD_OPTIONS && told.counts[0] == 0 && has_nothing(out));
+    for (i = 0; i < 2; i++) {
+        hdt_graph one_closed[2] = {HDT_GRAPH_INIT, HDT_GRAPH_INIT};
+        CHECK(hdt_share(&two[0], &one_closed[i]) == HDT_DONE);
+        merge(two, 2, out, &told);
+        merge(one_closed, 2, out, &told);
+        CHECK(told.reason == HDT_IS_CLOSED && told.counts[0] == 0 && has_nothing(out));
+        hdt_merge(one_closed, 2, base, sizeof base - 1, 0, out, &told); /* it comes before the options */
+        CHECK(told.reason == HDT_IS_CLOSED && is_zeroed(&one_closed[1 - i]) && hdt_len(&one_closed[i]) == hdt_len(&two[0]));
+        hdt_close(&one_closed[i]);
+    }
+}
+
+/* The graph merged with itself, and with another one, in both orders, is built of its text and that of the other. */
+static void merges(hdt_graph *graph, const hdt_verdict *verdict) {
+    static const char line[] = "<u:merged> <u:p> _:merged .\n";
+    hdt_graph two[2] = {HDT_GRAPH_INIT, HDT_GRAPH_INIT}, was[2];
+    hdt_bytes out = HDT_BYTES_INIT, text = HDT_BYTES_INIT, other = HDT_BYTES_INIT;
+    hdt_report told;
+    hdt_verdict seen_of;
+    hdt_text_result outcome;
+    uint8_t *both;
+    size_t order;
+    long before = live;
+    hdt_text(graph, GIVEN(&any), &text, &outcome);
+    both = malloc(text.len + sizeof line);
+    memcpy(both, text.at ? (const char *)text.at : line, text.len);
+    memcpy(both + text.len, line, sizeof line - 1);
+    hdt_build((const uint8_t *)line, sizeof line - 1, base, sizeof base - 1, 2, &other, &told);
+    merge(graph, 1, &out, &told);
+    CHECK(told.reason == HDT_DONE && (outcome.reason != HDT_DONE || is_built_of(&out, &told, both, text.len)));
+    hdt_verify_tight(out.at, out.len, &seen_of);
+    CHECK(seen_of.reason == HDT_DONE && seen_of.counts[0] == verdict->counts[0] && memcmp(seen_of.counts, told.counts, sizeof told.counts) == 0);
+    for (order = 0; order < 3; order++) { /* the other one is last, first, or the same graph */
+        hdt_graph *its = &two[order == 1], *others = &two[order != 1];
+        CHECK(hdt_share(graph, its) == HDT_DONE);
+        if (order == 2) {
+            CHECK(hdt_share(graph, others) == HDT_DONE);
+        } else {
+            hdt_open(other.at, other.len, others, &seen_of);
+        }
+        memcpy(was, two, sizeof was);
+        merge(two, 2, &out, &told);
+        CHECK(told.reason == HDT_DONE && told.counts[0] == verdict->counts[0] + (order < 2) && memcmp(was, two, sizeof was) == 0);
+        CHECK(outcome.reason != HDT_DONE || is_built_of(&out, &told, both, text.len + (order < 2 ? sizeof line - 1 : 0)));
+        CHECK(hdt_len(its) == verdict->counts[0] && alike(graph, its));
+        refused_merges(two, &out);
+        hdt_close(&two[0]);
+        hdt_close(&two[1]);
+    }
+    free(both);
+    hdt_free(&out);
+    hdt_free(&text);
+    hdt_free(&other);
+    CHECK(live == before);
+}
+
 /* Every call on a closed graph. */
 static void closed(hdt_graph *graph) {
     uint64_t out[1][3] = {{7, 7, 7}}, number = 1, end = 7;
@@ -658,7 +751,9 @@ static void closed(hdt_graph *graph) {
     hdt_report report;
     hdt_bytes made = HDT_BYTES_INIT;
     hdt_ranges ranges = {{7, 7}, {7, 7}};
+    hdt_graph other = HDT_GRAPH_INIT;
     long before = live;
+    CHECK(hdt_share(graph, &other) == HDT_IS_CLOSED && is_zeroed(&other) && live == before);
     CHECK(hdt_prefix(graph, 0, &room, 1, &ranges) == HDT_CLOSED && ranges.first[0] == 7 && ranges.second[1] == 7);
     CHECK(graph->state == 0);
     CHECK(hdt_len(graph) == HDT_CLOSED && hdt_count(graph, 0) == HDT_CLOSED && hdt_count(graph, 3) == HDT_CLOSED);
@@ -682,6 +777,9 @@ static void closed(hdt_graph *graph) {
     number = 7;
     hdt_page_text(graph, &any, 0, 1, &made, &number, &outcome);
     CHECK(outcome.reason == HDT_IS_CLOSED && outcome.role == 0 && outcome.number == 0 && has_nothing(&made) && number == HDT_ABSENT && live == before);
+    hdt_build((const uint8_t *)"<u:s> <u:p> <u:o> .", 19, base, sizeof base - 1, 16, &made, &report);
+    merge(graph, 1, &made, &report);
+    CHECK(report.reason == HDT_IS_CLOSED && report.counts[0] == 0 && has_nothing(&made) && live == before);
     hdt_close(graph);
     CHECK(graph->state == 0);
 }
@@ -698,6 +796,71 @@ static void opened_again(hdt_graph *graph, const guarded *file, const hdt_verdic
     }
 }
 
+/* ---- handles that share a graph */
+
+/* Which handle of four each other one is made of: all of the first, each of the one before, and a tree. */
+static const size_t made_of[3][4] = {{0, 0, 0, 0}, {0, 0, 1, 2}, {0, 0, 1, 1}};
+
+/* Closes four handles in one of the 24 orders. After each, those that are left have the graph of `same`, and one allocation
+ * less is held; with the last one everything is freed. */
+static void close_in_order(hdt_graph *handles, size_t order, hdt_graph *same, long held, long before) {
+    size_t left_over[4] = {0, 1, 2, 3}, count, i;
+    for (count = 4; count > 0; order /= count, count--) {
+        size_t at = order % count;
+        hdt_graph *graph = &handles[left_over[at]];
+        hdt_close(graph);
+        CHECK(is_zeroed(graph) && hdt_len(graph) == HDT_CLOSED);
+        memmove(left_over + at, left_over + at + 1, (count - 1 - at) * sizeof *left_over);
+        for (i = 0; i + 1 < count; i++) {
+            CHECK(alike(&handles[left_over[i]], same));
+        }
+        CHECK(live == (count > 1 ? held - (long)(5 - count) : before));
+        hdt_close(graph);
+    }
+}
+
+/* Four handles of one graph, made and closed in so many of the 24 orders; `same` is another graph of the file. */
+static void any_order(const guarded *file, hdt_graph *same, size_t orders) {
+    size_t order, way, i;
+    for (order = 0; order < orders; order++) {
+        for (way = 0; way < 3; way++) {
+            hdt_graph handles[4] = {HDT_GRAPH_INIT, HDT_GRAPH_INIT, HDT_GRAPH_INIT, HDT_GRAPH_INIT};
+            hdt_verdict verdict;
+            long before = live, opened;
+            hdt_open(file->at, file->len, &handles[0], &verdict);
+            opened = live;
+            for (i = 1; i < 4; i++) {
+                hdt_graph from = handles[made_of[way][i]];
+                CHECK(hdt_share(&handles[made_of[way][i]], &handles[i]) == HDT_DONE && handles[i].state == 1);
+                CHECK(memcmp(&from, &handles[made_of[way][i]], sizeof from) == 0 && live == opened + (long)i);
+            }
+            close_in_order(handles, order, same, live, before);
+        }
+    }
+}
+
+/* A handle that is open already is refused, whatever the first one is; and a graph goes from handle to handle. */
+static void shares(hdt_graph *graph, const guarded *file, size_t orders) {
+    hdt_graph other = HDT_GRAPH_INIT, third = HDT_GRAPH_INIT, was;
+    hdt_verdict verdict;
+    long before = live;
+    int i;
+    any_order(file, graph, orders);
+    hdt_open(file->at, file->len, &other, &verdict);
+    was = other;
+    CHECK(hdt_share(&third, &other) == HDT_IS_OPEN && is_zeroed(&third) && memcmp(&was, &other, sizeof was) == 0);
+    CHECK(hdt_share(graph, &other) == HDT_IS_OPEN && memcmp(&was, &other, sizeof was) == 0 && alike(graph, &other));
+    for (i = 0; i < 100; i++) {
+        CHECK(hdt_share(&other, &third) == HDT_DONE);
+        hdt_close(&other);
+        CHECK(hdt_share(&third, &other) == HDT_DONE);
+        hdt_close(&third);
+    }
+    CHECK(alike(graph, &other));
+    hdt_close(&other);
+    CHECK(live == before);
+}
+
 /* ---- each growth refused */
 
 typedef struct {
@@ -705,7 +868,7 @@ typedef struct {
     hdt_graph *graph; /* open */
     hdt_pattern given;
     hdt_verdict ample;
-    hdt_bytes document, built, rewritten; /* with ample memory */
+    hdt_bytes document, built, rewritten, merged; /* with ample memory */
 } job;
 
 enum { TOLD = 0, AMPLE = 1, WRONG = 2 };
@@ -735,6 +898,17 @@ static int call_open(const job *it) {
         return state == 0 && told.place == 0 && told.counts[0] == 0 ? TOLD : WRONG;
     }
     return state == (told.reason == HDT_DONE) && same_verdict(&told, &it->ample) ? AMPLE : WRONG;
+}
+
+static int call_share(const job *it) {
+    hdt_graph other = HDT_GRAPH_INIT, was = *it->graph;
+    uint32_t reason = hdt_share(it->graph, &other);
+    int same = memcmp(&was, it->graph, sizeof was) == 0, right = same && hdt_len(&other) == it->ample.counts[0];
+    if (reason == HDT_OUT_OF_MEMORY) {
+        return same && is_zeroed(&other) ? TOLD : WRONG;
+    }
+    hdt_close(&other);
+    return reason == HDT_DONE && right ? AMPLE : WRONG;
 }
 
 static int call_string(const job *it) {
@@ -856,6 +1030,23 @@ static int call_rewrite(const job *it) {
     return answer;
 }
 
+static int call_merge(const job *it) {
+    hdt_graph two[2] = {HDT_GRAPH_INIT, HDT_GRAPH_INIT}, was[2];
+    hdt_bytes made = HDT_BYTES_INIT;
+    hdt_report told = {HDT_OUT_OF_MEMORY, 0, 0, {0}};
+    int answer = TOLD;
+    if (hdt_share(it->graph, &two[0]) == HDT_DONE && hdt_share(it->graph, &two[1]) == HDT_DONE) {
+        memcpy(was, two, sizeof was);
+        merge(two, 2, &made, &told);
+        answer = told.reason == HDT_OUT_OF_MEMORY ? (has_nothing(&made) && told.counts[0] == 0 ? TOLD : WRONG) : told.reason == HDT_DONE ? as_made(&made, &it->merged) : WRONG;
+        answer = memcmp(was, two, sizeof was) == 0 && hdt_len(&two[1]) == it->ample.counts[0] ? answer : WRONG;
+    }
+    hdt_close(&two[0]);
+    hdt_close(&two[1]);
+    hdt_free(&made);
+    return answer;
+}
+
 static long refusals_told; /* of memory that was refused */
 
 static void refuse_each(const char *what, int (*call)(const job *), const job *it) {
@@ -886,7 +1077,7 @@ static void refuse(const guarded *file, const hdt_verdict *verdict) {
     hdt_report report;
     hdt_text_result outcome;
     uint8_t string[4096];
-    job it = {file, &graph, any, *verdict, HDT_BYTES_INIT, HDT_BYTES_INIT, HDT_BYTES_INIT};
+    job it = {file, &graph, any, *verdict, HDT_BYTES_INIT, HDT_BYTES_INIT, HDT_BYTES_INIT, HDT_BYTES_INIT};
     refuse_each("verify", call_verify, &it);
     refuse_each("verify tight", call_verify_tight, &it);
     refuse_each("term", call_term, &it);
@@ -903,6 +1094,7 @@ static void refuse(const guarded *file, const hdt_verdict *verdict) {
         refuse_each("pattern find", call_pattern_find, &it);
         refuse_each("page", call_page, &it);
     }
+    refuse_each("share", call_share, &it);
     refuse_each("string", call_string, &it);
     refuse_each("strings", call_strings, &it);
     refuse_each("header", call_header, &it);
@@ -917,9 +1109,12 @@ static void refuse(const guarded *file, const hdt_verdict *verdict) {
     }
     hdt_rewrite(file->at, file->len, 16, &it.rewritten, &told);
     refuse_each("rewrite", call_rewrite, &it);
+    merge(&graph, 1, &it.merged, &report);
+    refuse_each("merge", call_merge, &it);
     hdt_free(&it.document);
     hdt_free(&it.built);
     hdt_free(&it.rewritten);
+    hdt_free(&it.merged);
     CHECK(hdt_len(&graph) == verdict->counts[0]);
     hdt_close(&graph);
 }
@@ -1016,10 +1211,11 @@ static void damage(const guarded *file) {
     free(changed);
 }
 
-/* ---- threads: a graph each, and one behind a lock */
+/* ---- threads: a graph each, one behind a lock, and a handle each of one graph */
 
 static const guarded *common;
 static hdt_graph shared = HDT_GRAPH_INIT;
+static hdt_thread_graph own[4]; /* zeroed */
 static pthread_mutex_t lock = PTHREAD_MUTEX_INITIALIZER;
 
 static long asked(hdt_graph *graph, int locked, uint64_t seed) {
@@ -1058,7 +1254,20 @@ static void *alone(void *seed) {
 
 static void *together(void *seed) { return (void *)asked(&shared, 1, (uint64_t)(size_t)seed); }
 
+/* With a handle that this thread's own one is shared into, while the other threads search theirs and close them. */
+static void *with_own_handle(void *seed) {
+    hdt_graph *graph = &own[(size_t)seed - 1].graph;
+    hdt_thread_graph more = HDT_THREAD_GRAPH_INIT;
+    long wrong = asked(graph, 0, (uint64_t)(size_t)seed);
+    wrong += hdt_share(graph, &more.graph) != HDT_DONE;
+    hdt_close(graph);
+    wrong += asked(&more.graph, 0, (uint64_t)(size_t)seed) + (more.graph.state != 1);
+    hdt_close(&more.graph);
+    return (void *)wrong;
+}
+
 static void threads(const guarded *file) {
+    static void *(*const kinds[])(void *) = {alone, together, with_own_handle};
     pthread_t thread[4];
     hdt_verdict verdict;
     void *wrong;
@@ -1066,16 +1275,19 @@ static void threads(const guarded *file) {
     long before = live;
     common = file;
     hdt_open(file->at, file->len, &shared, &verdict);
-    for (kind = 0; kind < 2; kind++) {
+    for (kind = 0; kind < 3; kind++) {
         for (i = 0; i < 4; i++) {
-            CHECK(pthread_create(&thread[i], NULL, kind ? together : alone, (void *)(i + 1)) == 0);
+            CHECK(kind < 2 || hdt_share(&shared, &own[i].graph) == HDT_DONE);
+            CHECK(pthread_create(&thread[i], NULL, kinds[kind], (void *)(i + 1)) == 0);
+        }
+        if (kind == 2) {
+            hdt_close(&shared); /* while the others are in use */
         }
         for (i = 0; i < 4; i++) {
             pthread_join(thread[i], &wrong);
-            CHECK(wrong == NULL);
+            CHECK(wrong == NULL && is_zeroed(&own[i].graph));
         }
     }
-    hdt_close(&shared);
     CHECK(live <= before + 4); /* (what the C library keeps of threads) */
 }
 
@@ -1137,7 +1349,35 @@ static void all_of(const document *it, const uint8_t *name, size_t name_len, uin
     end_case();
 }
 
-enum { LONG = 100000 };
+enum { LONG = 100000, HANDLES = (1 << 20) + 100 };
+
+/* More than 2^20 handles of one graph, each made of the one before and closed in that order. */
+static void many_handles(void) {
+    hdt_graph *handles = calloc(HANDLES, sizeof *handles);
+    hdt_bytes made = HDT_BYTES_INIT;
+    hdt_verdict verdict;
+    hdt_report report;
+    long before = live, opened, wrong = 0;
+    size_t i;
+    current = "handles";
+    hdt_build((const uint8_t *)"<u:s> <u:p> <u:o> .", 19, base, sizeof base - 1, 16, &made, &report);
+    hdt_open(made.at, made.len, &handles[0], &verdict);
+    CHECK(verdict.reason == HDT_DONE);
+    opened = live;
+    for (i = 1; i < HANDLES; i++) {
+        wrong += hdt_share(&handles[i - 1], &handles[i]) != HDT_DONE;
+    }
+    CHECK(wrong == 0 && live == opened + HANDLES - 1);
+    for (i = 0; i < HANDLES; i++) {
+        wrong += hdt_len(&handles[i]) != 1;
+        hdt_close(&handles[i]);
+        wrong += !is_zeroed(&handles[i]);
+    }
+    hdt_free(&made);
+    CHECK(wrong == 0 && live == before);
+    free(handles);
+    end_case();
+}
 
 static void large(void) {
     document it = {NULL, 0, 0};
@@ -1291,7 +1531,9 @@ static void test(const guarded *file) {
         header(&graph, file);
         searches(&graph);
         opened_again(&graph, file, &verdict);
+        shares(&graph, file, file->len < 1000 ? 24 : 1);
         remake(&graph, file, &verdict);
+        merges(&graph, &verdict);
         threads(file);
     }
     hdt_close(&graph);
@@ -1325,6 +1567,7 @@ int main(int argc, char **argv) {
         names();
     }
     if (!each && !small) {
+        many_handles();
         large();
     }
     for (i = 1; i < 256; i++) {

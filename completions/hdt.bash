@@ -16,7 +16,7 @@ _hdt() {
     compopt +o default
     COMPREPLY=()
     if ((${#words[@]} == 1)); then
-        mapfile -t COMPREPLY < <(compgen -W "head verify info strings string number find answer dump count build rewrite lint split explain help --help --version" -- "$word")
+        mapfile -t COMPREPLY < <(compgen -W "head verify info strings string number find answer dump count build rewrite merge lint split explain help --help --version" -- "$word")
         return
     fi
     # The options of the command, and how each of its arguments is completed.
@@ -31,17 +31,18 @@ _hdt() {
     answer) options="--verbose --no-progress --raw --numbers --count --skip-non-terms --most --longest-request --help" arguments=".hdt" ;;
     dump) options="--verbose --no-progress --skip-non-terms --help" arguments=".hdt" ;;
     count) options="--verbose --no-progress --top --raw --help" arguments=".hdt subject|predicate|object" ;;
-    build) options="--verbose --no-progress --base --block-size --progress --help" arguments=".nt .hdt" ;;
+    build) options="--verbose --no-progress --base --block-size --longest-line --progress --help" arguments=".nt .hdt" ;;
     rewrite) options="--verbose --no-progress --block-size --progress --help" arguments=".hdt .hdt" ;;
-    lint) options="--keep --most --verbose --help" arguments=".nt" ;;
-    split) options="--parts --of --blank-nodes --verbose --help" arguments=".nt .nt" ;;
+    merge) options="--verbose --no-progress --base --block-size --progress --help" arguments=".hdt .hdt" ;;
+    lint) options="--keep --most --longest-line --verbose --help" arguments=".nt" ;;
+    split) options="--parts --of --blank-nodes --longest-line --verbose --help" arguments=".nt .nt" ;;
     explain) options="--help" arguments="|" ;;
-    help) options="" arguments="head|verify|info|strings|string|number|find|answer|dump|count|build|rewrite|lint|split|explain|help" ;;
+    help) options="" arguments="head|verify|info|strings|string|number|find|answer|dump|count|build|rewrite|merge|lint|split|explain|help" ;;
     esac
     for i in "${words[@]:2}"; do
         case $skip$i in
         =*) skip="" ;;
-        --prefix | --most | --longest-request | --top | --base | --block-size | --parts | --of | --blank-nodes) skip="=" ;;
+        --prefix | --most | --longest-request | --top | --base | --block-size | --longest-line | --parts | --of | --blank-nodes) skip="=" ;;
         -?*) ;;
         *) count=$((count + 1)) ;;
         esac

@@ -1,4 +1,4 @@
-"""Builds the wheel: the package with the library that belongs to the checkout, for one platform."""
+"""Builds the wheel: the package with the library and the program that belong to the checkout, for one platform."""
 
 from __future__ import annotations
 
@@ -20,11 +20,14 @@ def built() -> Path:
 
 
 class BuildWithLibrary(build_py):
-    """Copies the library into the package."""
+    """Copies the library and the program into the package."""
 
     def run(self) -> None:
         super().run()
-        shutil.copy(built() / "libhdt.so", Path(self.build_lib) / "hdt/libhdt.so")
+        package = Path(self.build_lib) / "hdt"
+        shutil.copy(built() / "libhdt.so", package / "libhdt.so")
+        (package / "bin").mkdir(exist_ok=True)
+        shutil.copy(built() / "hdt", package / "bin/hdt")
 
 
 class PlatformWheel(bdist_wheel):  # type: ignore[misc]

@@ -2,6 +2,7 @@
 
 from __future__ import annotations
 
+import os
 import tempfile
 from collections.abc import Iterator
 from pathlib import Path
@@ -11,6 +12,7 @@ from hypothesis import HealthCheck, settings
 
 from support import built
 from support.documents import LONG_LINE
+from support.large import Files
 from support.probe import Probe
 
 # Files are long draws, and slow on a busy machine: neither is an error of a test.
@@ -58,6 +60,13 @@ def large_document(tmp_path_factory: pytest.TempPathFactory) -> Path:
     path = tmp_path_factory.mktemp("document") / "document.nt"
     path.write_bytes(LONG_LINE * 60_000)
     return path
+
+
+@pytest.fixture(scope="session")
+def large_files(tmp_path_factory: pytest.TempPathFactory) -> Files:
+    """The large files of all tests, which the processes of one run share."""
+    base = tmp_path_factory.getbasetemp()
+    return Files((base.parent if "PYTEST_XDIST_WORKER" in os.environ else base) / "large")
 
 
 @pytest.fixture

@@ -20,7 +20,7 @@ from support.documents import (
     same_lines, shuffled,
 )
 from support.probe import Answer, Argument, Probe, ok
-from support.program import Result, Word, hdt, run
+from support.program import READING_FAILED, WRITING_FAILED, Result, Word, hdt, run
 from support.terms import (
     IRIS, STEPS, TEXTS, Case, Request, answered, documents, document_texts, error_answer, fault, shortened,
 )
@@ -313,7 +313,6 @@ def failed(status: int, message: str) -> Result:
 
 
 BAD_OPTIONS, NO_TRIPLES = failed(2, "bad options"), failed(1, "no triples")
-UNREAD, UNWRITTEN = failed(3, "reading failed"), failed(3, "writing failed")
 BAD_LINE = failed(1, "line 2 column 13: 4 RelativeIri")
 
 # Documents of which nothing is built, and why.
@@ -359,12 +358,12 @@ REFUSED = [
     pytest.param(["--base", "", "good.nt", "out.hdt"], BAD_OPTIONS, id="an empty base"),
     pytest.param(["--base", "rel", "good.nt", "out.hdt"], BAD_OPTIONS, id="a relative base"),
     pytest.param(["--base", "", "bad.nt", "out.hdt"], BAD_OPTIONS, id="bad options before a bad line"),
-    pytest.param(["missing.nt", "out.hdt"], UNREAD, id="no input"),
-    pytest.param(["--base", "", "missing.nt", "out.hdt"], UNREAD, id="no input before bad options"),
-    pytest.param([".", "out.hdt"], UNREAD, id="an input that is a folder"),
-    pytest.param(["good.nt", "."], UNWRITTEN, id="an output that is a folder"),
+    pytest.param(["missing.nt", "out.hdt"], READING_FAILED, id="no input"),
+    pytest.param(["--base", "", "missing.nt", "out.hdt"], READING_FAILED, id="no input before bad options"),
+    pytest.param([".", "out.hdt"], READING_FAILED, id="an input that is a folder"),
+    pytest.param(["good.nt", "."], WRITING_FAILED, id="an output that is a folder"),
     pytest.param(["bad.nt", "."], BAD_LINE, id="a bad line before an output that is a folder"),
-    pytest.param(["good.nt", "/dev/full"], UNWRITTEN, id="a full output"),
+    pytest.param(["good.nt", "/dev/full"], WRITING_FAILED, id="a full output"),
 ]
 
 
@@ -388,7 +387,7 @@ def test_usage(folder: Path, words: list[str]) -> None:
 def test_line_that_cannot_be_printed(folder: Path) -> None:
     """The file is written before the line that reports it."""
     shell = 'exec "$1" build good.nt out.hdt >/dev/full'
-    assert run(["sh", "-c", shell, "sh", PROGRAM], cwd=folder) == UNWRITTEN
+    assert run(["sh", "-c", shell, "sh", PROGRAM], cwd=folder) == WRITING_FAILED
     assert difference((folder / "out.hdt").read_bytes(), canonical_file(THREE)) == ""
 
 

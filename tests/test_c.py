@@ -46,8 +46,11 @@ def test_cpp_links_each_call(tmp_path: Path) -> None:
     calls = tmp_path / "calls.cpp"
     addresses = ", ".join(f"(void *){name}" for name in sorted(declared()))
     calls.write_text(f'#include "{HEADER}"\nvoid *calls[] = {{{addresses}}};\n'
-                     "int main() { return calls[0] == nullptr; }\n")
-    succeeds(CXX, "-std=c++11", "-Wall", "-o", tmp_path / "calls", calls, STATIC_LIBRARY)
+                     "static_assert(sizeof(hdt_graph) == 16 && sizeof(hdt_thread_graph) == 128, \"the sizes\");\n"
+                     "int main() {\n"
+                     "    hdt_thread_graph own = HDT_THREAD_GRAPH_INIT;\n"
+                     "    return calls[0] == nullptr || own.graph.state != 0;\n}\n")
+    succeeds(CXX, "-std=c++11", *WARNINGS, "-o", tmp_path / "calls", calls, STATIC_LIBRARY)
     succeeds(tmp_path / "calls")
 
 
@@ -148,10 +151,10 @@ def test_every_call_on_files(group: str, sanitized: Path, tmp_path: Path) -> Non
 
 
 def test_large_input(sanitized: Path) -> None:
-    """Texts of 70,000 subjects, of 66,000 predicates and with terms of 100,000 bytes, through every call."""
+    """2^20 handles; texts of 70,000 subjects, of 66,000 predicates, with terms of 100,000 bytes, through every call."""
     done = run([sanitized], seconds=SECONDS)
     assert failures_of(done) == []
-    assert passed_cases(done) == 6
+    assert passed_cases(done) == 7
 
 
 @pytest.mark.parametrize("name", c_files.damageable())
@@ -185,6 +188,8 @@ WRONG = {
     "hdt_open": Wrong("void", "const uint8_t *b, size_t n, hdt_graph *g, hdt_verdict *v",
                       "RIGHT(b, n, g, v); if (v->reason == 11) v->place++;"),
     "hdt_close": Wrong("void", "hdt_graph *g", "g->state = 0; g->at = NULL;"),
+    "hdt_share": Wrong("uint32_t", "hdt_graph *g, hdt_graph *o",
+                       "uint32_t r = RIGHT(g, o); if (r == HDT_DONE) { hdt_close(o); *o = *g; } return r;"),
     "hdt_len": Wrong("uint64_t", "hdt_graph *g", "return g->state ? RIGHT(g) : 0;"),
     "hdt_count": Wrong("uint64_t", "hdt_graph *g, uint32_t r", "return RIGHT(g, r > 2 ? 2 : r);"),
     "hdt_number": Wrong("uint64_t", "hdt_graph *g, uint32_t r, const uint8_t *s, size_t n",
@@ -209,6 +214,9 @@ WRONG = {
     "hdt_split": Wrong("void", "const uint8_t *x, size_t n, uint32_t parts, const uint8_t *p, size_t pn, "
                                "hdt_bytes *out, uint64_t *ends, size_t room, hdt_split_report *r",
                        "RIGHT(x, n, parts, p, pn, out, ends, room, r); if (room > 1) ends[1] = out->len;"),
+    "hdt_merge": Wrong("void", "hdt_graph *g, size_t n, const uint8_t *b, size_t bn, uint32_t k, hdt_bytes *out, "
+                               "hdt_report *r",
+                       "RIGHT(g, n > 1 && g[n - 1].state == 1 ? n - 1 : n, b, bn, k, out, r);"),
     "hdt_rewrite": Wrong("void", "const uint8_t *b, size_t n, uint32_t k, hdt_bytes *out, hdt_verdict *v",
                          "if (k > 65535) k = 65535; RIGHT(b, n, k, out, v);"),
     "hdt_free": Wrong("void", "hdt_bytes *b", "memset(b, 0, sizeof *b);"),
@@ -256,9 +264,54 @@ def object_file(tmp_path_factory: pytest.TempPathFactory) -> Path:
     return compiled
 
 
-def wrong_library(folder: Path, name: str) -> Path:
+# Wrong bodies of hdt_share besides.
+OPENS = "uint32_t r = RIGHT(g, o); if (r != HDT_DONE) return r; hdt_close(o); hdt_report built; hdt_verdict opened; "
+WRONG_SHARES = {
+    "leaves the other handle closed": "uint32_t r = RIGHT(g, o); if (r == HDT_DONE) hdt_close(o); return r;",
+    "closes the first handle": "uint32_t r = RIGHT(g, o); if (r == HDT_DONE) hdt_close(g); return r;",
+    "shares another graph": OPENS + (
+        "static hdt_bytes file; static const uint8_t text[] = \"<u:x> <u:y> <u:z> .\"; "
+        "if (!file.state) hdt_build(text, sizeof text - 1, text + 1, 3, 16, &file, &built); "
+        "hdt_open(file.at, file.len, o, &opened); return opened.reason;"),
+    "copies the graph": OPENS + (
+        "hdt_bytes text = HDT_BYTES_INIT, file = HDT_BYTES_INIT; hdt_text_result outcome; "
+        "hdt_pattern any = HDT_PATTERN_INIT; hdt_pattern_text(g, &any, &text, &outcome); "
+        "hdt_build(text.at, text.len, (const uint8_t *)\"u:b\", 3, 16, &file, &built); "
+        "hdt_open(file.at, file.len, o, &opened); return opened.reason;"),
+    "opens an open handle again": "if (o->state == 1) hdt_close(o); return RIGHT(g, o);",
+    "forgets that memory ran out": "uint32_t r = RIGHT(g, o); return r == HDT_OUT_OF_MEMORY ? HDT_DONE : r;",
+    "asks for the closed graph first": "if (g->state != 1) return HDT_IS_CLOSED; return RIGHT(g, o);",
+    "closes the first handle without memory":
+        "uint32_t r = RIGHT(g, o); if (r == HDT_OUT_OF_MEMORY) hdt_close(g); return r;",
+}
+
+
+# Wrong bodies of hdt_merge besides.
+MERGE = "RIGHT(g, n, b, bn, k, out, r);"
+WRONG_MERGES = {
+    "merges only the first graph": "RIGHT(g, n > 1 && g[1].state == 1 ? 1 : n, b, bn, k, out, r);",
+    "takes a closed handle for none": "while (n > 1 && g[n - 1].state != 1) n--; " + MERGE,
+    "closes the handles": MERGE + " for (size_t i = 0; i < n; i++) hdt_close(&g[i]);",
+    "closes them if the options are bad":
+        MERGE + " if (r->reason == HDT_BAD_OPTIONS) for (size_t i = 0; i < n; i++) hdt_close(&g[i]);",
+    "has another block size": "RIGHT(g, n, b, bn, k == 16 ? 15 : k, out, r);",
+    "has another base": "RIGHT(g, n, (const uint8_t *)\"u:b\", 3, k, out, r);",
+    "takes any block size": "RIGHT(g, n, b, bn, k == 0 || k > 65535 ? 16 : k, out, r);",
+    "keeps what out had on an error":
+        "hdt_bytes made = HDT_BYTES_INIT; RIGHT(g, n, b, bn, k, &made, r); "
+        "if (r->reason == HDT_DONE) { hdt_free(out); *out = made; }",
+    "forgets that memory ran out": MERGE + " if (r->reason == HDT_OUT_OF_MEMORY) r->reason = HDT_DONE;",
+    "counts the triples twice": MERGE + " if (n > 1) r->counts[0] *= 2;",
+    "reports no handles as closed": MERGE + " if (n == 0) r->reason = HDT_IS_CLOSED;",
+    "asks for the options first":
+        "if (k) { RIGHT(g, n, b, bn, k, out, r); return; } "
+        "hdt_free(out); memset(r, 0, sizeof *r); r->reason = HDT_BAD_OPTIONS;",
+}
+
+
+def wrong_library(folder: Path, name: str, wrong: Wrong) -> Path:
     """A static library whose call of this name is wrong."""
-    result, parameters, body = WRONG[name]
+    result, parameters, body = wrong
     right, source, archive = f"right_{name}", folder / "wrong.c", folder / "wrong.a"
     source.write_text(f'#include "{HEADER}"\n#include <string.h>\n{result} {right}({parameters});\n'
                       f"{result} {name}({parameters}) {{ {body.replace('RIGHT', right)} }}\n")
@@ -272,6 +325,11 @@ def wrong_library(folder: Path, name: str) -> Path:
 def small_run(program: Path) -> Result:
     """How c/test.c ends over two samples and nothing large."""
     return run([program, "--small", SAMPLES / "v1.hdt", SAMPLES / "three.hdt"], seconds=SECONDS)
+
+
+def refused(done: Result) -> None:
+    """Check that c/test.c has failed, or was ended by a signal."""
+    assert done.status < 0 or (done.status != 0 and b"FAILED" in done.out), done
 
 
 def test_right_library_is_accepted(object_file: Path, tmp_path: Path) -> None:
@@ -288,5 +346,23 @@ def test_each_call_has_a_wrong_one() -> None:
 @pytest.mark.parametrize("name", WRONG)
 def test_wrong_library_is_refused(name: str, object_file: Path, tmp_path: Path) -> None:
     """c/test.c fails over a library with one wrong call, or is ended by a signal for a read past an end."""
-    done = small_run(compile_test(tmp_path / "test", object_file, archive=wrong_library(tmp_path, name)))
-    assert done.status < 0 or (done.status != 0 and b"FAILED" in done.out), done
+    archive = wrong_library(tmp_path, name, WRONG[name])
+    refused(small_run(compile_test(tmp_path / "test", object_file, archive=archive)))
+
+
+@needs_objcopy
+@pytest.mark.parametrize("name", WRONG_SHARES)
+def test_wrong_share_is_refused(name: str, object_file: Path, tmp_path: Path) -> None:
+    """c/test.c fails over a library whose hdt_share is wrong in another way."""
+    wrong = WRONG["hdt_share"]._replace(body=WRONG_SHARES[name])
+    archive = wrong_library(tmp_path, "hdt_share", wrong)
+    refused(small_run(compile_test(tmp_path / "test", object_file, archive=archive)))
+
+
+@needs_objcopy
+@pytest.mark.parametrize("name", WRONG_MERGES)
+def test_wrong_merge_is_refused(name: str, object_file: Path, tmp_path: Path) -> None:
+    """c/test.c fails over a library whose hdt_merge is wrong in another way."""
+    wrong = WRONG["hdt_merge"]._replace(body=WRONG_MERGES[name])
+    archive = wrong_library(tmp_path, "hdt_merge", wrong)
+    refused(small_run(compile_test(tmp_path / "test", object_file, archive=archive)))

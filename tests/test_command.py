@@ -16,7 +16,7 @@ from reference import hdt as reference
 from support.built import PROGRAM, SAMPLES, TOP
 from support.heads import HEAD_END, THREE, V1, V1_HEAD
 from support.probe import Argument, Probe, Request
-from support.program import (BAD_OPTIONS, NO_SUCH_NUMBER, WRITING_FAILED, Result, Word, brief, done,
+from support.program import (BAD_OPTIONS, NO_SUCH_NUMBER, Result, Word, brief, done,
                              failed, fault, hdt, hdt_from, hdt_into, piped, run)
 
 # ---- head
@@ -234,7 +234,7 @@ def test_version(words: tuple[str, ...]) -> None:
 @pytest.mark.parametrize("words", [*HELP, *VERSION], ids=map(" ".join, [*HELP, *VERSION]))
 def test_help_into_a_full_disk(words: tuple[str, ...]) -> None:
     """Help that cannot be written is a failed write."""
-    assert hdt_into("/dev/full", *words) == WRITING_FAILED
+    assert hdt_into("/dev/full", *words) == failed(3, "writing failed")
 
 
 STATUSES = """Exit status:
@@ -242,7 +242,7 @@ STATUSES = """Exit status:
   1  invalid input, with the first error and its position on standard error; no triples to build
      from; no such term or ID; a string that has no form in N-Triples; an invalid request of
      `answer`; a faulty line for `lint`
-  2  usage error, or `build` or `lint` would write to its input
+  2  usage error, or the command would write to a file that it reads
   3  reading or writing failed; a closed pipe is a failed write
   4  out of memory
 """
@@ -308,10 +308,17 @@ USAGES: list[tuple[list[Word], bytes]] = [
     (["dump", "--numbers", "a.hdt"],
      b"unexpected argument '--numbers' found\n\n  tip: to pass '--numbers' as a value, use '-- --numbers'\n\n"
      b"Usage: hdt dump [OPTIONS] <FILE>"),
-    (["vierge", "a.hdt"], b"unrecognized subcommand 'vierge'\n\nUsage: hdt <COMMAND>"),
+    (["merge", "a.hdt"], b"OUT is missing"),
+    (["merge", "a.hdt", "b.hdt", "--longest-line", "9"],
+     b"unexpected argument '--longest-line' found\n\n  tip: to pass '--longest-line' as a value, use "
+     b"'-- --longest-line'\n\nUsage: hdt merge [OPTIONS] <FILE>... <OUT>"),
+    (["merge"], LACKS + b"<FILE>\n\nUsage: hdt merge [OPTIONS] <FILE>... <OUT>"),
+    (["vierge", "a.hdt"],
+     b"unrecognized subcommand 'vierge'\n\n  tip: a similar subcommand exists: 'merge'\n\nUsage: hdt <COMMAND>"),
     (["head", "a.hdt", "b.hdt"], b"unexpected argument 'b.hdt' found\n\nUsage: hdt head [OPTIONS] <FILE>"),
     ([], b"'hdt' requires a subcommand but one was not provided\n  [subcommands: head, verify, info, strings, string, "
-         b"number, find, answer, dump, count, build, rewrite, lint, split, explain, help]\n\nUsage: hdt <COMMAND>"),
+         b"number, find, answer, dump, count, build, rewrite, merge, lint, split, explain, help]\n\n"
+         b"Usage: hdt <COMMAND>"),
     (["head", b"\xff"], b"an argument is not UTF-8"),
 ]
 
@@ -475,7 +482,7 @@ def test_pipe_without_reader(words: list[Word]) -> None:
     with open(writing, "wb") as pipe:
         seen = subprocess.run([os.fsencode(word) for word in (PROGRAM, *words)], stdout=pipe, stderr=subprocess.PIPE,
                               timeout=60)
-    assert Result(seen.returncode, b"", seen.stderr) == WRITING_FAILED
+    assert Result(seen.returncode, b"", seen.stderr.partition(b"  standard output")[0]) == failed(3, "writing failed")
 
 
 # ---- the lines of errors

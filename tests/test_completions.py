@@ -17,7 +17,9 @@ from support.program import hdt, run
 from support.terminal import Terminal
 from tools import completions
 
-COMMANDS = "head verify info strings string number find answer dump count build rewrite lint split explain help".split()
+COMMANDS = (
+    "head verify info strings string number find answer dump count build rewrite merge lint split explain help".split()
+)
 SHELLS = ["bash", "zsh", "fish"]
 # The program that reads each file: a warning is a line on standard error.
 READERS = {
@@ -61,6 +63,9 @@ TYPED = {
     "hdt build --base gr": "hdt build --base gr",
     "hdt build --base http://a/ do": "hdt build --base http://a/ document.nt ",
     "hdt build --block-size=gr": "hdt build --block-size=gr",
+    "hdt me": "hdt merge ",
+    "hdt merge gr": "hdt merge graph.hdt ",
+    "hdt merge graph.hdt my": "hdt merge graph.hdt my\\ graph.hdt ",
     "hdt lint --ke": "hdt lint --keep ",
     "hdt lint do": "hdt lint document.nt ",
     "hdt lint --most do": "hdt lint --most do",
@@ -76,6 +81,7 @@ OFFERED: dict[str, list[str]] = {
     "hdt string x.hdt o": ["object"],
     "hdt build --b": ["--base", "--block-size"],
     "hdt rewrite --p": ["--progress"],
+    "hdt merge --": ["--base", "--block-size", "--help", "--no-progress", "--progress", "--verbose"],
     "hdt dump ": ["build", "graph.hdt", "my graph.hdt", "sub"],
     "hdt dump no": ["notes.txt"],
     "hdt strings graph.hdt ": ["object", "predicate", "subject"],
@@ -85,7 +91,7 @@ OFFERED: dict[str, list[str]] = {
     "hdt info --j": ["--json"],
     "hdt i": ["info"],
     "hdt l": ["lint"],
-    "hdt lint --": ["--help", "--keep", "--most", "--verbose"],
+    "hdt lint --": ["--help", "--keep", "--longest-line", "--most", "--verbose"],
 }
 
 # An interactive zsh that prints what it offers between two marks, and ends then.

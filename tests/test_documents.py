@@ -1,7 +1,8 @@
 """The documents: programs and commands run as they are written, links lead somewhere, words are spelled as in English.
 
-The blocks of docs/RUST.md are run by test_rust, those of docs/RATTLE.md compared by `tools.promises`, and the servers
-of README and docs/GUIDE.md run by test_fragments_servers.
+The blocks of docs/JAVA.md are run by test_java, those in Rust of docs/RUST.md and docs/SERVERS.md by test_rust and
+test_servers, those of docs/RATTLE.md compared by `tools.promises`, and the servers of README and docs/GUIDE.md run by
+test_fragments_servers.
 """
 
 from __future__ import annotations
@@ -11,35 +12,39 @@ import re
 import shutil
 import sys
 from pathlib import Path
-from typing import NamedTuple
 
 import pytest
 
 from support.built import PROGRAM, STATIC_LIBRARY, TOP
 from support.c_library import CC, HEADER, WARNINGS, succeeds
 from support.clone import copied
+from support.code_blocks import Block, blocks, documents, man_page_examples
 from support.program import Word, run
 from support.python_package import ENVIRONMENT
+from support.tools import tool
 from tools import contracts, promises
 
 # The blocks that each document has, by language: a document with fewer fails, so that none is silently left untested.
 BLOCKS = {
     "CONTRIBUTING.md": {"sh": 1},
     "README.md": {"c": 1, "python": 1, "sh": 3, "text": 1},
-    "docs/C.md": {"c": 1, "sh": 1},
-    "docs/GUIDE.md": {"python": 3, "sh": 5, "text": 7},
+    "docs/C.md": {"c": 2, "sh": 1},
+    "docs/GUIDE.md": {"python": 4, "sh": 6, "text": 7},
+    "docs/JAVA.md": {"java": 1, "text": 2, "turtle": 1},
+    "docs/MIGRATE.md": {"python": 2, "sh": 1},
     "docs/PROBES.md": {"sh": 1},
-    "docs/PYTHON.md": {"python": 6},
+    "docs/PYTHON.md": {"python": 8},
     "docs/RATTLE.md": {"rust": 5, "text": 3},
-    "docs/RUST.md": {"rs": 1, "toml": 1},
+    "docs/RUST.md": {"rs": 3, "toml": 1},
+    "docs/SERVERS.md": {"c": 1, "python": 1, "rs": 1},
 }
 # At least so many commands do the documents have in their text, besides these blocks.
 COMMANDS = 54
 # Words that are not in the dictionary of British English. Names with capitals or digits are not looked up.
 WORDS = set("""
-Dask Jena Tickmarl allocator cgroup checksums cpp datatype endian enum glibc gunicorn hdt inode lossy mpi nginx ns
-nullable numpy ontologies prefetching prover py pytest rdflib seq serdi setuptools syntaxes toolchain txt umask
-unescaped untrusted utils xored
+allocator cardinalities cardinality cgroup checksums cpp Dask datatype endian enum Fuseki gcc glibc gunicorn gzip hdt
+inode Jena lossy mpi nginx ns nullable numpy ontologies parser prefetching prover py pytest rdflib seq serdi setgid
+setuid setuptools syntaxes Tickmarl toolchain txt umask unescaped untrusted utils xored
 """.split())
 # At least so many examples in Rust do the comments of the sources have.
 EXAMPLES = 36
@@ -54,26 +59,6 @@ PRINTED = {
 # A name that a reader gives to a program of a document, and a graph of the reader's.
 PROGRAM_NAMES = {"c": "first.c", "python": "first.py"}
 GRAPH = b'<http://example.org/a> <http://example.org/p> "x" .\n<http://example.org/b> <http://example.org/p> "y" .\n'
-
-
-class Block(NamedTuple):
-    """A fenced block of a document: its language, its text, and the text between it and the next block."""
-
-    language: str
-    text: str
-    after: str
-
-
-def documents() -> list[str]:
-    """The documents' names."""
-    paths = (path for folder in ("", "docs/", "tests/") for path in sorted(TOP.glob(f"{folder}*.md")))
-    return [str(path.relative_to(TOP)) for path in paths]
-
-
-def blocks(document: str, *languages: str) -> list[Block]:
-    """The blocks of a document in these languages, or all."""
-    found = re.findall(r"^```(\w*)\n(.*?)^```$(.*?)(?=^```|\Z)", (TOP / document).read_text(), re.M | re.S)
-    return [Block(*block) for block in found if not languages or block[0] in languages]
 
 
 def named(*languages: str) -> list[tuple[str, int]]:
@@ -247,9 +232,8 @@ def test_labels_of_the_guide(clone: Path) -> None:
 
 def test_examples_of_the_man_page(clone: Path) -> None:
     """The commands in the section EXAMPLES of man/hdt.1 run one after another."""
-    found = re.search(r"^\.SH EXAMPLES\n\.nf\n(.*?)^\.fi$", (TOP / "man/hdt.1").read_text(), re.M | re.S)
-    assert found and found[1].count("\n") >= 4
-    text = found[1].replace("\\-", "-").replace("\\(aq", "'").replace("\\en", "\\n")
+    text = man_page_examples()
+    assert text.count("\n") >= 4
     (clone / "dirty.nt").write_bytes(GRAPH)
     status, out = shell(f"PATH={clone}:$PATH\n{text}", clone)
     assert (status, out.splitlines()[2:]) == (0, ["ok 2 0 2 1 2", GRAPH.decode().splitlines()[0], "1", ""])
@@ -393,6 +377,14 @@ def test_proofs_name_all_parts() -> None:
     found = len(functions), sum(it[2].count("`") // 2 for it in functions), len(DEFINED.findall(PROOFS))
     assert all(have >= least for have, least in zip(found, NAMED)), found
     assert len(re.findall(r"\]\([^)]*\.(?:rt|antt)\)", PROOFS)) == found[0] + found[2]
+
+
+def test_lines_of_definitions() -> None:
+    """PROOFS says how many lines `tools.definitions` counts."""
+    status, out, _ = tool("definitions")
+    total = out.decode().splitlines()[-1].split(" | ")
+    assert (status, total[0]) == (0, "| together")
+    assert f"counts the {total[2]} lines" in PROOFS
 
 
 def test_files_of_the_architecture() -> None:

@@ -12,14 +12,15 @@ import socket
 import subprocess
 import tempfile
 import time
+from collections.abc import Iterator
 from pathlib import Path
 from typing import NamedTuple
 
 import pytest
 
 from support.built import PROGRAM, SAMPLES
-from support.files import MAKERS, READING_FAILED, THREE, UNFINISHED, WRITING_FAILED, as_root, mounts, names, shell
-from support.program import Result, Word, hdt, run
+from support.files import MAKERS, THREE, UNFINISHED, as_root, mounts, names, shell
+from support.program import READING_FAILED, WRITING_FAILED, Result, Word, hdt, run
 
 ONE_FILE = Result(2, b"", b"error: IN and OUT are the same file\n\nFor more information, try '--help'.\n")
 # Paths of the standard output.
@@ -296,11 +297,11 @@ def test_a_file_like_the_standard_output(command: str, made: dict[str, Made], on
 
 
 def test_rewriting_what_is_appended_to(made: dict[str, Made], tmp_path: Path) -> None:
-    """IN, OUT and the standard output may be one file, which is appended to."""
+    """IN and OUT may be one file, but not if the standard output is this file, too, which would be appended to."""
     own = tmp_path / "own.hdt"
     own.write_bytes(made["rewrite"].file)
     answer = shell('"$0" rewrite own.hdt own.hdt >> own.hdt', cwd=tmp_path)
-    assert (answer.status, answer.out, own.read_bytes()) == (0, b"", made["rewrite"].file * 2)
+    assert (answer.status, answer.out, own.read_bytes()) == (2, b"", made["rewrite"].file)
 
 
 # ---- a limit on the size of files
@@ -440,7 +441,7 @@ def test_a_full_file_system(command: str, filling: Path, tmp_path: Path) -> None
     source = filling / ("in.nt" if command == "build" else "in.hdt")
     script = f'{mount}; out="$1/out.hdt"; printf before > "$out"; "$0" "$2" "$3" "$out"; echo $?; ls "$1"; cat "$out"'
     answer = run([*namespace, "sh", "-c", script, PROGRAM, tmp_path, command, source])
-    assert answer == Result(0, b"3\nout.hdt\nbefore", b"hdt: writing failed\n")
+    assert answer == Result(0, b"3\nout.hdt\nbefore", WRITING_FAILED.err)
 
 
 # Two file systems in which the files `in` and `out` have the same number.
@@ -501,6 +502,44 @@ def test_a_document_is_not_built_over(script: str, own: Path) -> None:
     """A build over its own input is a wrong command line, before the input is read, whose fault would be told else."""
     assert shell(script, cwd=own) == ONE_FILE
     assert ((own / "own.nt").read_bytes(), names(own)) == (b"no triple\n", ["hard.nt", "own.nt", "soft.nt"])
+
+
+@pytest.fixture
+def block_device(tmp_path: Path) -> Iterator[Path]:
+    """A block device with a document. Skips the test if none may be made here."""
+    image = tmp_path / "image"
+    image.write_bytes(THREE.read_bytes().ljust(1 << 20, b"\n"))
+    if not shutil.which("losetup"):
+        pytest.skip("there is no losetup")
+    made = run(["losetup", "--find", "--show", image])
+    if made.status != 0:
+        pytest.skip("no loop device may be made here")
+    device = Path(os.fsdecode(made.out.strip()))
+    yield device
+    assert run(["losetup", "--detach", device]).status == 0
+
+
+@as_root
+@pytest.mark.parametrize("script", [
+    '"$0" build "$1" "$1"',
+    '"$0" build "$1" link',
+    '"$0" build link "$1"',
+    '"$0" build - "$1" < "$1"',
+    '"$0" build /dev/stdin link < link',
+    '"$0" build "$1" - >> "$1"',
+    '"$0" build "$1" /dev/stdout 1<> link',
+])
+def test_a_document_on_a_block_device_is_not_built_over(script: str, block_device: Path, made: dict[str, Made],
+                                                        tmp_path: Path) -> None:
+    """A block device keeps bytes: a build over the document on it is a wrong command line, and changes nothing."""
+    (tmp_path / "link").symlink_to(block_device)
+    before = block_device.read_bytes()
+    assert shell(script, block_device, cwd=tmp_path) == ONE_FILE
+    assert block_device.read_bytes() == before
+    assert hdt("build", block_device, tmp_path / "out.hdt") == Result(0, made["build"].line, b"")
+    assert (tmp_path / "out.hdt").read_bytes() == made["build"].file
+    assert hdt("build", THREE, block_device) == Result(0, made["build"].line, b"")
+    assert block_device.is_block_device() and block_device.read_bytes().startswith(made["build"].file)
 
 
 def test_a_build_from_a_device_into_it() -> None:
@@ -592,7 +631,7 @@ def test_streams_that_do_not_wait(tmp_path: Path) -> None:
     assert hdt("build", tmp_path / "many.nt", tmp_path / "many.hdt").status == 0
     fcntl.fcntl(writer, fcntl.F_SETFL, os.O_NONBLOCK)
     ended = subprocess.run([PROGRAM, "dump", tmp_path / "many.hdt"], stdout=writer, stderr=subprocess.PIPE, timeout=60)
-    assert (ended.returncode, ended.stderr) == (3, b"hdt: writing failed\n")
+    assert (ended.returncode, ended.stderr) == (3, WRITING_FAILED.err)
     os.close(reader)
     os.close(writer)
 
@@ -626,11 +665,11 @@ def wanted_of(name: str, closed_ones: set[int], descriptors: int | None) -> Resu
     opens = name not in ("version", "stdin")
     out, err, status = TOUCHING[name][1], b"", 0
     if opens and descriptors == 3 or 0 in closed_ones and name in ("answer", "stdin"):
-        out, err, status = b"", b"hdt: reading failed\n", 3
+        out, err, status = b"", READING_FAILED.err, 3
     elif name == "stdin":
         out, err, status = b"", b"hdt: fault 4 NotHdt at 0\n", 1
     elif 1 in closed_ones:
-        out, err, status = b"", b"hdt: writing failed\n", 3
+        out, err, status = b"", b"hdt: writing failed\n" if name == "version" else WRITING_FAILED.err, 3
     return Result(status, out, b"" if 2 in closed_ones else err)
 
 

@@ -2,6 +2,7 @@
 
 from __future__ import annotations
 
+import importlib
 import json
 import re
 import sys
@@ -143,6 +144,26 @@ def test_far_pages_take_one_walk(tmp_path: Path) -> None:
             assert max(skipped) <= 1_000
 
 
+def test_what_is_kept_has_bounds(tmp_path: Path) -> None:
+    """Counts and positions of the last patterns are kept, and what is written of predicates, but not of objects."""
+    text = "".join(f"<u:s{n:03}> <u:p{p}> <u:o> .\n" for n in range(120) for p in range(9))
+    reader, writers = (importlib.import_module(f"hdt.fragments._{name}") for name in ("reader", "writers"))
+    with mock.patch.multiple(reader, _KEPT=5, _KEPT_POSITIONS=3):
+        site = Site(fragments.Application({"datasets": {"odd": str(build(tmp_path, text))}, "page_size": 7}))
+    kept = site.application.datasets["odd"].loaded().reader
+    for page in (3, 2, 17, 9):
+        for p in range(9):
+            answer = site.ask(url(predicate=f"u:p{p}", page=page), Accept="text/turtle")
+            wanted = "".join(f"<u:s{n:03}> <u:p{p}> <u:o> .\n" for n in range(7 * page - 7, 7 * page))
+            assert wanted in answer.text
+            assert len(kept._positions._values) == min(p + 1 if page == 3 else 9, 3)
+            assert len(kept._counted._values) == min(p + 1 if page == 3 else 9, 5)
+    writers._known.cache_clear()
+    for page in range(1, 18):
+        assert site.ask(url(predicate="u:p1", page=page), Accept="text/turtle").status == 200
+    assert 0 < writers._known.cache_info().currsize < 20
+
+
 @pytest.mark.parametrize("media", [*FORMATS, "text/html"])
 @pytest.mark.parametrize("given", [{}, {"predicate": N}, {"predicate": P}, {"subject": "http://odd.example/s1"}],
                          ids=["all", "numbers", "odd terms", "a subject"])
@@ -259,7 +280,7 @@ def test_objects(site: Site, text: str, count: Optional[int]) -> None:
     ("http://odd.example/a+b", 1), ("http://odd.example/a?q=1&r=2#frag", 1), ("http://odd.example/J%C3%A4ger", 1),
     ("http://odd.example/J\u00e4ger", 1), ("<http://odd.example/s2>", 1), ("_:b.2-x", 1), (GENID + "b.2-x", 1),
     (GENID + "%C3%A9t%C3%A9", 1), (GENID + "\u00e9t\u00e9", 1), ("_:\u00e9t\u00e9", 1), ("javascript:alert(1)", 1),
-    ("<<http://odd.example/s2>>", 1), ("<<u:a>>", 0), ("<<>>", 0), ("<>", 0),
+    ("<<http://odd.example/s2>>", 1), ("<<u:a>>", 0), ("<<>>", 0), ("<>", 0), ("<?>", 0),
     ('"x"', 0), ("_:", 0), (GENID, 0), (BASE + ".well-known/genid/other/b1", 0),
 ])
 def test_subjects(site: Site, text: str, count: int) -> None:
@@ -472,6 +493,9 @@ def test_configuration_files(odd: Path, tmp_path: Path) -> None:
     ({"base": "ftp://a/"}, "base"), ({"base": "http://a/?x"}, "base"), ({"dereference": {"x/": "a"}}, "no dataset"),
     ({"datasets": {"a": {"file": "x", "license": "CC0"}}}, "license"), ({"hosts": [1]}, "hosts"),
     ({"datasets": {"a": "x"}, "dereference": {"/": "a"}}, "no dataset"), ({"prefixes": {"a": 1}}, "prefixes"),
+    ({"forwarded": True}, 'forwarded needs .* hosts = \\["data.example.org"\\]; or set base'),
+    ({"hosts": [""]}, "hosts"),
+    ({"hosts": ["http://a"]}, "hosts"), ({"forwarded": True, "hosts": []}, "forwarded"), ({"hosts": "a"}, "hosts"),
     ({"skolem": "a b"}, "skolem"), ({"page_size": 10_001}, "page_size"), ({"gzip": 1}, "gzip"),
 ])
 def test_wrong_configurations(config: dict[str, Any], why: str) -> None:

@@ -3,12 +3,16 @@
 from __future__ import annotations
 
 import gzip
+import importlib
 import logging
+import os
 import random
 import re
 import time
+from email.utils import formatdate
 from pathlib import Path
 from typing import Any, Optional
+from unittest import mock
 
 import pytest
 
@@ -29,12 +33,15 @@ def site(odd: Path) -> Site:
 
 # ---- caches
 
+LATER = "Fri, 01 Jan 2100 00:00:00 GMT"
+
 
 @pytest.mark.parametrize("header, value, status", [
     ("If_None_Match", "{tag}", 304), ("If_None_Match", "W/{tag}", 304), ("If_None_Match", '"x", {tag}', 304),
     ("If_None_Match", "*", 304), ("If_None_Match", '"other"', 200), ("If_Modified_Since", "{when}", 304),
     ("If_Modified_Since", "Mon, 01 Jan 2001 00:00:00 GMT", 200), ("If_Modified_Since", "nonsense", 200),
-    ("If_Modified_Since", "Mon, 01 Jan 99999999999 00:00:00 GMT", 200),
+    ("If_Modified_Since", "Mon, 01 Jan 99999999999 00:00:00 GMT", 200), ("If_None_Match", " * ", 304),
+    ("If_None_Match", '"x", *', 200), ("If_None_Match", ",", 200), ("If_Modified_Since", LATER, 304),
 ])
 def test_not_modified(site: Site, header: str, value: str, status: int) -> None:
     """A client that has the answer gets 304, with the headers of a cache and no body."""
@@ -46,6 +53,67 @@ def test_not_modified(site: Site, header: str, value: str, status: int) -> None:
         assert answer.body == b"" and "content-length" not in answer.headers
     for name in ("etag", "last-modified", "cache-control", "vary", "access-control-allow-origin"):
         assert answer.headers[name] == first.headers[name]
+
+
+@pytest.mark.parametrize("conditions", [
+    {"If_None_Match": "*"}, {"If_Modified_Since": LATER}, {"If_None_Match": "*", "If_Modified_Since": LATER},
+    {"If_None_Match": '"x"', "If_Modified_Since": LATER}], ids=["any", "later", "both", "tag"])
+def test_conditions_on_what_is_not_there(odd: Path, conditions: dict[str, str]) -> None:
+    """A page that does not exist has not stayed the same: it is 404, as without conditions."""
+    site = Site(fragments.Application({"datasets": {"odd": {"file": str(odd), "download": True}, "none": "none.hdt"}}))
+    for method in ("GET", "HEAD"):
+        for target, status in ((url(page=9), 404), (url(page=4, predicate="http://odd.example/n"), 404), ("/x", 404),
+                               (url(page=2, subject="u:none"), 404), ("/none", 503), ("/none/void", 503),
+                               ("/none/data.hdt", 404), ("/odd/x", 404), (url(page=0), 400), (url(format="x"), 400)):
+            plain = site.ask(target, method)
+            assert plain.status == status
+            assert site.ask(target, method, **conditions) == plain
+        known = 200 if "x" in conditions.get("If_None_Match", "") else 304
+        for target in ("/odd", "/odd/void", url(subject="u:none"), url(page=3), "/odd/data.hdt"):
+            assert site.ask(target, method, **conditions).status == known
+
+
+def test_nothing_is_searched_for_a_known_tag(odd: Path, monkeypatch: pytest.MonkeyPatch) -> None:
+    """Who has the tag of an answer gets 304 before anything is looked up; a tag of another page is none."""
+    site = Site(fragments.Application({"datasets": {"odd": str(odd)}}))
+    targets = [url(page=3), url(predicate="http://odd.example/n"), "/odd/void"]
+    tags = [site.ask(target).headers["etag"] for target in targets]
+    assert [site.ask(url(page=9), If_None_Match=tag).status for tag in tags] == [404] * 3
+    monkeypatch.setattr(site.application.datasets["odd"].loaded().reader, "count", None)
+    assert [site.ask(target, If_None_Match=tag).status for target, tag in zip(targets, tags)] == [304] * 3
+
+
+def test_time_of_an_answer(odd: Path, tmp_path: Path, monkeypatch: pytest.MonkeyPatch) -> None:
+    """Last-Modified is the later of the file and the configuration, whenever the server was started.
+
+    A client that knows no tags gets a page again if either is another one, or this package.
+    """
+    config = {"datasets": {"odd": {"file": str(odd), "download": True}}}
+    now, there = int(time.time()), odd.stat()
+    application = importlib.import_module("hdt.fragments._application")
+    monkeypatch.setattr(application, "_INSTALLED", 0.0)
+
+    def modified(changed: Optional[float], target: str = "/odd") -> str:
+        return Site(fragments.Application(config, changed)).ask(target).headers["last-modified"]
+
+    of_file = formatdate(int(max(there.st_mtime, there.st_ctime)), usegmt=True)
+    targets = "/odd", "/odd/void", "/odd/data.hdt"
+    assert {modified(changed, target) for changed in (0.0, 1e9) for target in targets} == {of_file}
+    monkeypatch.setattr(time, "time", lambda: now + 1_000.0)
+    assert modified(1e9) == of_file and modified(now + 600.0) == formatdate(now + 600, usegmt=True)
+    assert modified(None) == modified(now + 9_999.0) == formatdate(now + 1_000, usegmt=True)  # (never one to come)
+    since = {"If_Modified_Since": modified(now + 600.0)}
+    for changed, status in ((1e9, 304), (now + 600.0, 304), (now + 601.0, 200), (None, 200)):
+        for target in targets:
+            assert Site(fragments.Application(config, changed)).ask(target, **since).status == status
+    monkeypatch.setattr(application, "_INSTALLED", now + 700.0)
+    assert Site(fragments.Application(config, 1e9)).ask("/odd", **since).status == 200
+    (tmp_path / "c.json").write_text("{}")
+    (tmp_path / "link").symlink_to("c.json")
+    os.utime(tmp_path / "c.json", (1e9, 1e9))
+    os.utime(tmp_path / "link", (2e9, 2e9), follow_symlinks=False)
+    assert application.changed_at(tmp_path / "link") == 2e9
+    assert application.changed_at(tmp_path / "c.json") == (tmp_path / "c.json").stat().st_ctime >= now
 
 
 def test_tags_differ(odd: Path, site: Site) -> None:
@@ -74,6 +142,11 @@ def test_gzip(site: Site) -> None:
     for accept in ("", "gzip;q=0", "br", "identity", "*;q=0", "gzip;q=0.0, *"):
         assert "content-encoding" not in site.ask("/odd", Accept_Encoding=accept).headers
     assert "content-encoding" not in site.ask("/none", Accept_Encoding="gzip").headers
+    off = Site(fragments.Application({**vars(site.application.config), "gzip": False, "datasets": {
+        name: source.file for name, source in site.application.config.datasets.items()}}))
+    for target in ("/odd", "/odd/void", "/"):
+        answer = off.ask(target, Accept_Encoding="gzip")
+        assert "content-encoding" not in answer.headers and answer.body == off.ask(target).body
 
 
 # ---- methods
@@ -144,6 +217,19 @@ def test_hosts(odd: Path) -> None:
                 ("a.example", "A.example:80", "b.example:81", "b.example", "c.example", "a.example.evil")}
     assert statuses == {"a.example": 200, "A.example:80": 200, "b.example:81": 200, "b.example": 421, "c.example": 421,
                         "a.example.evil": 421}
+    other = Site(fragments.Application({"datasets": {"odd": str(odd)}, "hosts": ["A.Example", "[::1]"]}))
+    assert [other.ask("/odd", Host=host).status for host in ("a.example", "[::1]", "[::1]:8080", "[::2]:1")] == [
+        200, 200, 200, 421]
+
+
+WRONG_FORWARDED = [
+    *(("Proto", it) for it in ("javascript", "", "HTTPS", "http:", "https\n", "file", "https,ftp")),
+    *(("Host", it) for it in ("evil.example", "a b", "", "public.example/", "public.example\n", "x@public.example",
+                              "public.example:x", "public.example,", "public.example:80:80")),
+    *(("Prefix", it) for it in ("/<x>", "x", "//evil.example", "/a//b", "/..", "/../x", "/a/..", "/a/../b", "/.",
+                                "/./a", "/a/.", "/a\nb", "/a\x00", "/%2e%2e", "/a?b", "/a#b", "/a b", "/\\evil",
+                                "/\u00e9", "http://evil.example", "/a,//evil", "/a;b", "/a//")),
+]
 
 
 def test_base_and_proxies(odd: Path) -> None:
@@ -156,14 +242,24 @@ def test_base_and_proxies(odd: Path) -> None:
         return found[1] if found else str(answer.status)
 
     proxy = {"X_Forwarded_Proto": "https", "X_Forwarded_Host": "public.example", "X_Forwarded_Prefix": "/lod/"}
+    behind = {"forwarded": True, "hosts": ["public.example", "localhost"]}
     assert template({}) == BASE + "odd"
     assert template({}, **proxy) == BASE + "odd"
-    assert template({"forwarded": True}, **proxy) == "https://public.example/lod/odd"
-    assert template({"forwarded": True}, **{**proxy, "X_Forwarded_Host": "a, b"}) == "https://a/lod/odd"
+    assert template(behind, **proxy) == "https://public.example/lod/odd"
+    assert template(behind) == BASE + "odd"
+    assert template({**behind, "base": "https://a.example/x"}, **proxy) == "https://a.example/x/odd"
     assert template({"base": "https://a.example/x"}, Host="evil<>") == "https://a.example/x/odd"
     assert template({}, {"SCRIPT_NAME": "/data"}) == BASE + "data/odd"
-    for wrong in ({"X_Forwarded_Proto": "javascript"}, {"X_Forwarded_Host": "a b"}, {"X_Forwarded_Prefix": "/<x>"}):
-        assert template({"forwarded": True}, **wrong) == "400"
+    assert template(behind, {"SCRIPT_NAME": "/data"}, **{**proxy, "X_Forwarded_Prefix": ""}) == (
+        "https://public.example/data/odd")
+    # the nearest proxy's values are the last ones, and those before may be the client's
+    assert template(behind, X_Forwarded_Host="evil.example, public.example", X_Forwarded_Proto="javascript,https ",
+                    X_Forwarded_Prefix="/evil, /lod") == "https://public.example/lod/odd"
+    assert template(behind, X_Forwarded_Host="public.example, evil.example") == "421"
+    for name, wrong in WRONG_FORWARDED:
+        assert template(behind, **{**proxy, f"X_Forwarded_{name}": wrong}) in ("400", "421"), (name, wrong)
+    for prefix in ("/a", "/a/", "/a.b/~c-d_e", "/..a", "/a..", "/...", "/"):
+        assert template(behind, X_Forwarded_Prefix=prefix) == f"{BASE}{prefix.strip('/')}/odd".replace("0//", "0/")
 
 
 # ---- hostile requests
@@ -222,6 +318,34 @@ def test_one_line_a_request(site: Site, caplog: pytest.LogCaptureFixture) -> Non
     assert re.fullmatch(r"GET '/odd\?x=\\n\\x1b\[31m' 200 \d+ [\d.]+ ms", caplog.messages[0])
 
 
+CONTROLS = "".join(map(chr, [*range(32), *range(127, 161), 173]))
+
+
+class Untold(Exception):
+    """An error that is shown as its text."""
+
+    def __repr__(self) -> str:
+        return f"Untold: {self}"
+
+
+def test_log_of_anything(site: Site, caplog: pytest.LogCaptureFixture, monkeypatch: pytest.MonkeyPatch) -> None:
+    """No part of a request comes to the log, and to a terminal, as it is, nor does the text of an error."""
+    names = ["REQUEST_METHOD", "PATH_INFO", "QUERY_STRING", "HTTP_HOST", "HTTP_ACCEPT", "HTTP_ACCEPT_ENCODING",
+             "HTTP_IF_NONE_MATCH", "HTTP_IF_MODIFIED_SINCE", "HTTP_RANGE", "HTTP_IF_RANGE", "HTTP_X_FORWARDED_HOST"]
+    with caplog.at_level(logging.INFO, "hdt.fragments"):
+        for name in names:
+            environ = {"REQUEST_METHOD": "GET", "PATH_INFO": "/odd", "HTTP_HOST": "a", "wsgi.url_scheme": "http"}
+            b"".join(site.application({**environ, name: "GET" + CONTROLS}, lambda *_: None))
+        assert len(caplog.messages) == len(names) and all(map(str.isprintable, caplog.messages))
+        assert caplog.messages[0].startswith("GET\\x00\\x01\\x02")
+        caplog.clear()
+        monkeypatch.setattr(site.application, "_answer", mock.Mock(side_effect=Untold(f"{CONTROLS}\u2028\u202e" * 100)))
+        assert site.ask("/odd").status == 500
+        assert "Untold" in caplog.messages[0] and "in _answered" in caplog.messages[0]
+        assert all(line.isprintable() and len(line) < 4_000 for line in caplog.messages[0].split("\n"))
+        assert not set(caplog.messages[0]) & set(CONTROLS) - {"\n"}
+
+
 # ---- the file itself
 
 
@@ -248,7 +372,11 @@ def test_download(site: Site, odd: Path) -> None:
     for headers in ({"Range": "bytes=0-1,3-4"}, {"Range": "lines=0-1"}, {"Range": "bytes=4-2"}, {"Range": "bytes=-"},
                     {"Range": "bytes=0-9", "If_Range": '"other"'}):
         assert site.ask("/odd/data.hdt", **headers)[::2] == (200, data)
-    assert site.ask("/odd/data.hdt", Range="bytes=0-9", If_Range=tag).status == 206
+    for since in (tag, whole.headers["last-modified"]):
+        part = site.ask("/odd/data.hdt", Range="bytes=0-9", If_Range=since)
+        assert (part.status, part.body) == (206, data[:10])
+    earlier = "Mon, 01 Jan 2001 00:00:00 GMT"
+    assert site.ask("/odd/data.hdt", Range="bytes=0-9", If_Range=earlier)[::2] == (200, data)
     assert site.ask("/odd/data.hdt", If_None_Match=tag).status == 304
     past = site.ask("/odd/data.hdt", Range=f"bytes={len(data)}-")
     assert (past.status, past.headers["content-range"]) == (416, f"bytes */{len(data)}")

@@ -13,20 +13,37 @@ import threading
 from collections.abc import Iterable, Iterator
 from html.parser import HTMLParser
 from pathlib import Path
-from typing import Any, Callable, Optional
+from typing import Any, Callable, NamedTuple, Optional
 from urllib.parse import quote, unquote
 from wsgiref.simple_server import make_server
 
 import pytest
 
 from reference import hdt as reference
-from support.fragments import BASE, MANY, ODD, Handler, Server, Site, build, fragments, style, url
+from support.fragments import BASE, MANY, ODD, Handler, Server, Site, build, fragments, hdt, style, terms, url
 
 EVIL = "\"'><script>alert(1)</script><img src=x onerror=alert(1)>"
 ELEMENTS = set("""html head meta title link style body header nav main section footer h1 h2 p a b ul li form label input
     button datalist option div span table caption thead tbody tr th td details summary code""".split())
 VOID_ELEMENTS = {"meta", "link", "input", "option", "br"}
-S1 = "http://odd.example/s1"
+S1, N, P = "http://odd.example/s1", "http://odd.example/n", "http://odd.example/p"
+GENID = BASE + ".well-known/genid/odd/"
+
+
+class Cell(NamedTuple):
+    """A cell of the body of a table: its attributes, links and texts."""
+
+    given: dict[str, str]
+    links: list[str]
+    texts: list[str]
+
+    @property
+    def term(self) -> str:
+        """The dictionary string that it shows, by its first link; of a long literal, a quote and the text of it."""
+        if any(re.fullmatch(r"\([0-9,]+ characters\)", text) for text in self.texts):
+            return '"' + self.texts[0].rstrip("…")
+        value = unquote(self.links[0].partition("=")[2])
+        return "_:" + unquote(value[len(GENID):]) if value.startswith(GENID) else value
 
 
 class Page(HTMLParser):
@@ -37,6 +54,7 @@ class Page(HTMLParser):
         self.open: list[str] = []
         self.elements: list[tuple[str, dict[str, str]]] = []
         self.text = ""
+        self.tables: list[list[list[Cell]]] = []
         self.feed(text)
         self.close()
         assert self.open == [], self.open
@@ -44,9 +62,18 @@ class Page(HTMLParser):
     def handle_starttag(self, tag: str, attrs: list[tuple[str, Optional[str]]]) -> None:
         """An element begins."""
         assert len({name for name, _ in attrs}) == len(attrs)
-        self.elements.append((tag, {name: value or "" for name, value in attrs}))
+        given = {name: value or "" for name, value in attrs}
+        self.elements.append((tag, given))
         if tag not in VOID_ELEMENTS:
             self.open.append(tag)
+        if tag == "table":
+            self.tables.append([])
+        if tag == "tr" and "tbody" in self.open:
+            self.tables[-1].append([])
+        if tag in ("td", "th") and "tbody" in self.open:
+            self.tables[-1][-1].append(Cell(given, [], []))
+        if tag == "a" and "tbody" in self.open:
+            self.tables[-1][-1][-1].links.append(given["href"])
 
     def handle_endtag(self, tag: str) -> None:
         """An element ends."""
@@ -56,6 +83,8 @@ class Page(HTMLParser):
         """Text."""
         if "style" not in self.open:
             self.text += data
+        if "tbody" in self.open:
+            self.tables[-1][-1][-1].texts.append(data)
 
     def all(self, tag: str, **wanted: str) -> list[dict[str, str]]:
         """The attributes of all elements of a kind that have these."""
@@ -202,11 +231,87 @@ def test_rows_of_one_subject(site: Site) -> None:
     assert heads == ["p", "o"]
 
 
-def test_page_of_a_subject(site: Site) -> None:
-    """It has the triples of the subject and those that point to it."""
-    text = page(site, url(subject="_:b1")).text
-    assert "2 triples match" in text and "1 triple points to it" in text
-    assert "point" not in page(site, url(subject=S1)).text
+def shown(table: list[list[Cell]]) -> list[tuple[str, ...]]:
+    """The terms of the rows of a table, in which the subject is in the first row of its own only."""
+    found, subject, left = [], list[str](), 0
+    for row in table:
+        strings = [cell.term for cell in row]
+        if row[0].given["class"] == "s":
+            assert left == 0
+            left, subject = int(row[0].given.get("rowspan", 1)), [strings.pop(0)]
+        left -= 1
+        found.append((*subject, *strings))
+    return found
+
+
+def short(triple: tuple[str, ...]) -> tuple[str, ...]:
+    """Terms of which long literals are cut, as a page shows them."""
+    return tuple(it[:161] if it.startswith('"') and len(terms.parts(it)[0]) > 300 else it for it in triple)
+
+
+@pytest.mark.parametrize("given", [
+    {}, {"predicate": P}, {"predicate": N}, {"subject": S1}, {"subject": "http://odd.example/many"},
+    {"subject": "_:b1"}, {"object": '"plain"'}, {"predicate": "http://odd.example/knows"},
+    {"predicate": P, "object": "mailto:a@b.example"}, {"subject": S1, "predicate": P},
+    {"subject": "http://odd.example/longer"}, {"object": "_:b.2-x"},
+], ids=lambda given: " ".join(given) or "all")
+def test_rows_of_pages(site: Site, file: Path, given: dict[str, str]) -> None:
+    """The tables of all pages of a fragment have its triples, each once, in their order, as the headings say."""
+    pattern = [given.get(role) for role in ("subject", "predicate", "object")]
+    with hdt.open(file) as graph:
+        wanted = list(graph.find(*pattern))
+        pointing = list(graph.find(o=given["subject"])) if given.keys() == {"subject"} else []
+    wanted_rows = [short(triple[1:] if given.keys() == {"subject"} else triple) for triple in wanted]
+    found: list[tuple[str, ...]] = []
+    for number in range(1, -(-len(wanted) // 100) + 1):
+        it = page(site, url(**given, page=number))
+        rows = shown(it.tables[0])
+        assert f"{len(wanted):,} triple" in it.text
+        assert f"Triples {len(found) + 1:,} to {len(found) + len(rows):,} of {len(wanted):,}" in it.text
+        assert [shown(table) for table in it.tables[1:]] == [[triple[:2] for triple in pointing]] * bool(pointing)
+        found += rows
+    assert [short(row) for row in found] == wanted_rows and len(wanted) > 0
+
+
+@pytest.mark.parametrize("count", [0, 1, 2, 10, 11, 25])
+def test_page_of_a_subject(tmp_path: Path, count: int) -> None:
+    """It has the triples of the subject and the first of those that point to it, with a link to all."""
+    lines = "".join(f"<u:s{n:02}> <u:p> <u:it> .\n" for n in range(count))
+    site = Site(fragments.Application({"datasets": {"odd": str(build(tmp_path, lines + '<u:it> <u:p> "x" .\n'))}}))
+    it = page(site, url(subject="u:it"))
+    assert "1 triple matches" in it.text and shown(it.tables[0]) == [("u:p", '"x"')]
+    assert [shown(table) for table in it.tables[1:]] == [
+        [(f"u:s{n:02}", "u:p") for n in range(min(count, 10))]] * (count > 0)
+    assert (f'{count} triple{" points" if count == 1 else "s point"} to it' in it.text) == (count > 0)
+    assert ("The first 10" in it.text) == (f"All {count}" in it.text) == (count > 10)
+    if count > 10:
+        assert len(it.all("a", href=BASE + "odd?object=u:it")) > 0
+        assert site.nquads("/odd?object=u:it").total == count
+
+
+def test_rows_of_predicates(site: Site, file: Path) -> None:
+    """The description, and the overview of a dataset, have each predicate with its count, the most used first."""
+    with hdt.open(file) as graph:
+        wanted = sorted(((name, count) for name, count in graph.predicates()), key=lambda it: (-it[1], it[0]))
+    table = page(site, "/odd/void").tables[0]
+    assert [(name.term, int("".join(count.texts).replace(",", ""))) for name, count in table] == wanted
+    text = site.ask("/odd", Accept="text/html").text
+    listed = re.findall(r'<li><span class="p"><a href="[^"]*predicate=([^"]*)"[^>]*>.*?</span> ([0-9,]+)</li>', text)
+    assert [(unquote(name), int(count.replace(",", ""))) for name, count in listed] == wanted
+
+
+def test_rows_of_datasets(site: Site, file: Path) -> None:
+    """The list has each dataset with its link, text and counts; one that can't be opened says so."""
+    counts = hdt.verify(file)
+    text = site.ask("/", Accept="text/html").text
+    cards = re.findall(r'<li class="box"><h2><a href="([^"]*)">(.*?)</a></h2><p class="soft">(.*?)</p>(.*?)</li>'
+                       "(?=<li cl|</ul></main>)", text)
+    assert [link for link, *_ in cards] == [BASE + "odd", BASE + "none"]
+    assert re.findall(r"<b>([0-9,]+)</b> (\w+)", cards[0][3]) == [
+        (f"{count:,}", name) for count, name in (
+            (counts.triples, "triples"), (counts.shared + counts.subjects, "subjects"),
+            (counts.predicates, "predicates"), (counts.shared + counts.objects, "objects"))]
+    assert "can't be opened now" in cards[1][3] and "<b>" not in cards[1][3]
 
 
 def test_literals(site: Site) -> None:

@@ -2,18 +2,22 @@
 
 from __future__ import annotations
 
+import importlib
 import os
 import random
 import re
 import shutil
+import signal
 import socket
 import subprocess
 import sys
 import threading
 import time
-from email.utils import formatdate
+from concurrent.futures import ThreadPoolExecutor
+from email.utils import formatdate, parsedate_to_datetime
 from pathlib import Path
 from typing import Any, Optional
+from unittest import mock
 
 import pytest
 
@@ -92,6 +96,91 @@ def test_replaced_by_an_old_file(odd: Path, tmp_path: Path, monkeypatch: pytest.
     beside.rename(file)
     later(monkeypatch)
     assert site.ask("/swap", If_Modified_Since=when).status == 200
+
+
+def test_replaced_unnoticeably(tmp_path: Path, monkeypatch: pytest.MonkeyPatch) -> None:
+    """A file that is written over, with its size and time as before, is another one; so is one that a link leads to.
+
+    Each is later than the one before, for clients that know no tags.
+    """
+    monkeypatch.setattr("hdt.fragments._dataset._SECONDS", -1)
+    datas = [build(tmp_path, f"<u:{c}> <u:p> <u:b> .\n", c).read_bytes() for c in "acd"]
+    file = tmp_path / "swap.hdt"
+    (tmp_path / "link").symlink_to("swap.hdt")
+    file.write_bytes(datas[0])
+    site = Site(fragments.Application({"datasets": {"swap": {"file": str(tmp_path / "link"), "download": True}}}))
+    there, seen, changed = file.stat(), list[Answer](), 0
+    for data in datas:
+        file.write_bytes(data)
+        now = file.stat()
+        while now.st_ctime_ns == changed or now.st_mtime_ns != there.st_mtime_ns:  # (the clock of files is slow)
+            os.utime(file, ns=(there.st_atime_ns, there.st_mtime_ns))
+            now = file.stat()
+        changed = now.st_ctime_ns
+        assert (now.st_ino, now.st_size, now.st_mtime_ns) == (there.st_ino, there.st_size, there.st_mtime_ns)
+        answer = site.nquads("/swap")
+        assert site.ask("/swap/data.hdt").body == data
+        for before in seen:
+            assert answer.headers["etag"] != before.headers["etag"]
+            assert parsedate_to_datetime(answer.headers["last-modified"]) >= parsedate_to_datetime(
+                before.headers["last-modified"])
+            assert data_line(answer) != data_line(before)
+        seen.append(answer)
+    modified = site.application.datasets["swap"].loaded().modified
+    (tmp_path / "other").symlink_to("a.hdt")
+    (tmp_path / "other").rename(tmp_path / "link")
+    assert data_line(site.nquads("/swap")) == data_line(seen[0])
+    assert site.application.datasets["swap"].loaded().modified >= modified + 1
+
+
+def data_line(answer: Answer) -> str:
+    """The line of a triple of a file of one."""
+    return next(line for line in answer.text.split("\n") if "<u:p>" in line)
+
+
+def test_written_to_while_it_is_opened(
+    odd: Path, tmp_path: Path, monkeypatch: pytest.MonkeyPatch, caplog: pytest.LogCaptureFixture,
+) -> None:
+    """What is served is one file, whole, under its own tag: one that is written to is opened again, a few times."""
+    module = importlib.import_module("hdt.fragments._dataset")
+    one = build(tmp_path, "<u:a> <u:p> <u:b> .\n", "one").read_bytes()
+    file, opened = tmp_path / "swap.hdt", module._opened
+    left: int = 0
+    file.write_bytes(odd.read_bytes())
+
+    def late(*given: Any) -> Any:
+        nonlocal left
+        found = opened(*given)
+        if left:
+            left -= 1
+            file.write_bytes(one if file.read_bytes() != one else odd.read_bytes())
+        return found
+
+    monkeypatch.setattr(module, "_SECONDS", -1)
+    monkeypatch.setattr(module, "_opened", late)
+    for times, status in ((1, 200), (2, 200), (3, 503), (9, 503)):
+        file.write_bytes(odd.read_bytes())
+        left = times
+        site = Site(fragments.Application({"datasets": {"swap": {"file": str(file), "download": True}}}))
+        left, answer = 0, site.nquads("/swap") if status == 200 else None
+        assert (answer is None) == ("it is being written to" in "".join(caplog.messages))
+        again = site.nquads("/swap")
+        assert again.total == (1 if file.read_bytes() == one else ODD.count("\n"))
+        assert answer is None or (answer.body, answer.headers["etag"]) == (again.body, again.headers["etag"])
+        assert site.ask("/swap/data.hdt").body == file.read_bytes()
+
+
+def test_memory_that_is_lacking_once(odd: Path, monkeypatch: pytest.MonkeyPatch) -> None:
+    """A file that could not be opened for want of memory, or of descriptors, is tried again; a wrong one is not."""
+    module = importlib.import_module("hdt.fragments._dataset")
+    whole = module.Reader
+    monkeypatch.setattr(module, "_SECONDS", -1)
+    for error, status in ((MemoryError(), 200), (OSError(24, "Too many open files"), 200), (ValueError("x"), 503)):
+        monkeypatch.setattr(module, "Reader", mock.Mock(side_effect=error))
+        site = Site(fragments.Application({"datasets": {"odd": str(odd)}}))
+        assert [site.ask("/odd").status for _ in range(2)] == [503, 503]
+        monkeypatch.setattr(module, "Reader", whole)
+        assert site.ask("/odd").status == status
 
 
 def test_checked_once_a_second(odd: Path, tmp_path: Path, monkeypatch: pytest.MonkeyPatch) -> None:
@@ -174,8 +263,8 @@ def test_servers(odd: Path, tmp_path: Path, gunicorn: bool) -> None:
 
         def totals() -> set[int]:
             time.sleep(1.2)
-            for _ in range(8):
-                server.nquads("/swap")
+            with ThreadPoolExecutor(16) as clients:  # (so many that each process of the server gets some)
+                list(clients.map(server.nquads, ["/swap"] * 48))
             return {server.nquads("/swap").total for _ in range(8)}
 
         put(build(tmp_path, "<u:a> <u:p> <u:b> .\n", "three").read_bytes(), file)
@@ -205,6 +294,36 @@ def test_no_body_behind_head(odd: Path, tmp_path: Path, gunicorn: bool) -> None:
         assert re.match(rb"HTTP/1\.[01] 200 ", got) and got.endswith(b"\r\n\r\n")
 
 
+RAW = [
+    b"GET /odd HTTP/1.0\r\n", b"G\x1b[31mET /odd HTTP/1.0\r\n", b"G\x9b31mET /odd HTTP/1.0\r\n",
+    b"GET /\x1b]0;title\x07 HTTP/1.0\r\n", b"GET /odd?\x1b[2J\x9b2J HTTP/1.0\r\n", b"\x1b[31m\r\n", b"\xe2\x80\xae\r\n",
+    b"GET /odd \x1b[31m\r\n", b"GET /odd HTTP/\x1b[31m\r\n", b"\x1b[31m /odd\r\n", b"GET\x0b/odd\x0cHTTP/1.0\r\n",
+    b"GET /odd HTTP/1.0\r\nHost: \x1b[31m\r\n", b"GET /odd HTTP/1.0\r\n\x1b[31m: x\r\n", b"GET " + b"\x1b" * 70_000,
+    b"GET /odd HTTP/1.0\r\nAccept: \x9b\x1b\r\n", b"POST /odd HTTP/1.0\r\nContent-Length: \x1b[31m\r\n",
+    b"GET /odd HTTP/1.0\r\nConnection: \x1b\r\nContent-Type: \x1b[31m\r\n", b"GET //\x1b[31m/odd HTTP/1.0\r\n",
+]
+
+
+@pytest.mark.parametrize("gunicorn", [False, pytest.param(True, marks=needs_gunicorn)], ids=["wsgiref", "gunicorn"])
+def test_log_of_raw_requests(odd: Path, tmp_path: Path, gunicorn: bool) -> None:
+    """Whatever bytes a client sends, a terminal that shows the log gets none of its control sequences."""
+    shutil.copy(odd, tmp_path / "odd.hdt")
+    with served(tmp_path, {"datasets": {"odd": "odd.hdt"}}, gunicorn) as server:
+        host, port = server.url[len("http://"):].split(":")
+        for raw in RAW:
+            with socket.create_connection((host, int(port)), timeout=PATIENCE) as stream:
+                try:
+                    stream.sendall(raw + b"\r\n")
+                    while stream.recv(65536):
+                        pass
+                except ConnectionError:
+                    pass
+        assert server.nquads("/odd").status == 200
+        log = server.log.read_bytes().decode()
+    assert [line for line in log.split("\n") if not line.isprintable()] == []
+    assert log.count(" GET '/odd' 200 ") >= 3 and (gunicorn or "G\\x1b[31mET '/odd' 405 " in log)
+
+
 NGINX = "/usr/sbin/nginx"
 NGINX_CONFIGURATION = """
 daemon off; pid {folder}/pid; error_log {folder}/error.log; worker_processes 1;
@@ -228,7 +347,7 @@ http {{
 def test_behind_nginx(odd: Path, tmp_path: Path) -> None:
     """Behind a proxy, below a path, URLs are those that clients see, on each page; ranges and long queries pass."""
     shutil.copy(odd, tmp_path / "odd.hdt")
-    config = {"datasets": {"odd": {"file": "odd.hdt", "download": True}}, "forwarded": True}
+    config = {"datasets": {"odd": {"file": "odd.hdt", "download": True}}, "forwarded": True, "hosts": ["127.0.0.1"]}
     with socket.socket() as free:
         free.bind(("127.0.0.1", 0))
         port = free.getsockname()[1]
@@ -244,6 +363,9 @@ def test_behind_nginx(odd: Path, tmp_path: Path) -> None:
             assert behind.nquads(following[1][len(behind.url):]).total == first.total
             assert behind.ask("/lod/odd/data.hdt", Range="bytes=5-9").body == odd.read_bytes()[5:10]
             assert behind.nquads("/lod/odd?object=%22" + "x" * 6900).total == 0
+            evil = {f"X_Forwarded_{name}": "evil.example" for name in ("Host", "Proto", "Prefix")}
+            assert "evil" not in behind.ask("/lod/odd", Accept="application/n-quads", **evil).text
+            assert behind.ask("/lod/odd", Host="evil.example").status == 421
         finally:
             proxy.terminate()
             proxy.wait(PATIENCE)
@@ -297,11 +419,14 @@ def test_servers_of_the_guide(server: str, tmp_path: Path) -> None:
                for it in words[:2 if server == "nginx" else 1]]
     try:
         Served.at(f"http://127.0.0.1:{port}")
-        answer = Served.at(url_of).nquads("/three?page=1")
+        evil = {f"X_Forwarded_{name}": "/evil" for name in ("Host", "Proto", "Prefix")}
+        answer = Served.at(url_of).ask("/three?page=1", Accept="application/n-quads", **evil)
         assert (answer.status, answer.total) == (200, 3) and f"<{url_of}/three" in answer.text
+        assert "evil" not in answer.text
     finally:
         for process in reversed(running):
-            process.terminate()
+            is_gunicorn = process is running[0] and server != "trial"
+            process.send_signal(signal.SIGQUIT if is_gunicorn else signal.SIGTERM)  # (which waits for nobody)
             process.wait(PATIENCE)
 
 
@@ -328,9 +453,12 @@ def test_command(odd: Path, tmp_path: Path) -> None:
     assert said("odd") == (2, "hdt.fragments: 'odd' is not NAME=FILE")
     assert said("a/b=x")[0] == 2 and said("--config", "none.json")[0] == 2
     (tmp_path / "wrong.conf").write_text('title = "TOML"\n')
+    (tmp_path / "c.json").write_text('{"datasets": {"odd": "odd.hdt"}, "forwarded": true}')
     status, line = said("--config", "wrong.conf")
     assert status == 2
     assert line.startswith("hdt.fragments: wrong.conf: not JSON (the name of a TOML file ends with .toml): ")
+    status, line = said("--config", "c.json")
+    assert status == 2 and line.startswith("hdt.fragments: c.json: forwarded needs the hosts that are served")
     assert said("--port", "70000", f"odd={odd}")[0] == 2
     with socket.create_server(("127.0.0.1", 0)) as taken:
         port = taken.getsockname()[1]

@@ -2,6 +2,7 @@
 
 from __future__ import annotations
 
+import gzip
 import importlib.util
 import os
 import re
@@ -341,11 +342,12 @@ def test_wheel_has_a_platform(wheel: Path) -> None:
 
 
 def test_wheel_has_the_library(wheel: Path) -> None:
-    """The wheel has the package, its types and the library."""
+    """The wheel has the package, its types, the library and the program."""
     names = [f"/{name}" for name in zipfile.ZipFile(wheel).namelist()]
     wanted = ["/hdt/__init__.py", "/hdt/_faults.py", "/hdt/_library.py", "/hdt/py.typed", "/hdt/libhdt.so",
+              "/hdt/bin/hdt", "/hdt/__main__.py",
               "/hdt/fragments/__init__.py", "/hdt/fragments/_application.py", "/hdt/rdflib/__init__.py",
-              "/hdt/rdflib/_store.py", "/hdt/parts/__init__.py", "/hdt/parts/_build.py"]
+              "/hdt/rdflib/_store.py", "/hdt/parts/__init__.py", "/hdt/parts/_build.py", "/hdt/sparql/__init__.py"]
     assert [name for name in wanted if sum(it.endswith(name) for it in names) != 1] == []
 
 
@@ -368,6 +370,32 @@ def test_folder_is_installed_by_pip(tree: Path, tmp_path: Path) -> None:
     """`pip install ./python` gives a package that works; it takes the setuptools that are there: no network is used."""
     python = installed_by_pip(tmp_path, "--no-build-isolation", "./python", tree=tree, venv=["--system-site-packages"])
     assert succeeds(python, "-W", "error", "-c", PYTHON_PROGRAM, env=ALONE, cwd=tmp_path) == PRINTED
+    check_scripts(python, tmp_path)
+
+
+def check_scripts(python: Path, folder: Path) -> None:
+    """The scripts `hdt` and `tickmarl-hdt`, and the module, of an installed package work, in an empty PATH."""
+    scripts: list[list[Word]] = [[python.parent / "tickmarl-hdt"], [python, "-m", "hdt"]]
+    (folder / "other/hdt").mkdir(parents=True)
+    (folder / "other/hdt/__init__.py").write_text("raise ImportError('another package')\n")
+    (folder / "a.nt").write_text("<u:a> <u:p> _:b .\n")
+    (folder / "b.nt.gz").write_bytes(gzip.compress(b"<u:a> <u:p> _:b .\n"))
+    alone = {**ALONE, "PATH": ""}
+    commands: list[list[Word]] = [[python.parent / "hdt"], *scripts]
+    for words in commands:
+        assert run([*words, "--version"], env=alone, cwd=folder) == hdt("--version")
+        assert run([*words, "verify", SAMPLES / "three.hdt"], env=alone, cwd=folder) == (0, b"ok 3 2 0 2 1\n", b"")
+    beside = {**alone, "PYTHONPATH": str(folder / "other")}
+    for words, environment in ((scripts[0], alone), (scripts[1], alone), (scripts[0], beside)):
+        done = run([*words, "build", "a.nt", "b.nt.gz", "out.hdt"], env=environment, cwd=folder)
+        assert (done.status, done.out[:16], done.err) == (0, b"built 2 0 1 1 2 ", b"")
+    done = run([*scripts[0], "build", "a.ttl", "out.hdt"], env=alone, cwd=folder)
+    assert (done.status, done.err) == (3, b"hdt: [Errno 2] No such file or directory: 'a.ttl'\n")
+
+
+def test_scripts_of_the_wheel(wheel: Path, tree: Path, tmp_path: Path) -> None:
+    """In a fresh environment the wheel gives the commands."""
+    check_scripts(installed_by_pip(tmp_path, wheel, tree=tree), tmp_path)
 
 
 @pytest.mark.skipif(not importlib.util.find_spec("rdflib"), reason="there is no rdflib")

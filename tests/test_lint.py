@@ -2,6 +2,7 @@
 
 from __future__ import annotations
 
+import fcntl
 import os
 import subprocess
 from collections.abc import Callable, Iterator
@@ -18,6 +19,7 @@ from support.built import PROGRAM, SAMPLES
 from support.documents import canonical_file, counts
 from support.program import (NO_TRIPLES, READING_FAILED, WRITING_FAILED, Result, Word, brief, closed, done, fed, hdt,
                              hdt_from, piped, run)
+from support.refusing import message
 from support.timing import is_linear, measure, timed
 
 SAME_FILE = Result(2, b"", b"error: IN and standard output are the same file\n\nFor more information, try '--help'.\n")
@@ -73,13 +75,13 @@ def wanted(it: Linted) -> tuple[Result, Result]:
 
 
 def check(document: bytes, path: Path, most: int | None = None) -> Linted:
-    """Compare the results for a document, which is written to the path."""
+    """Compare the results for a document, which is written to the path, but for a hint after them."""
     path.write_bytes(document)
     options: list[Word] = [] if most is None else ["--most", str(most)]
     it = linted(document, most)
     reported, kept = wanted(it)
-    assert brief(hdt("lint", path, *options)) == brief(reported)
-    assert brief(hdt("lint", "--keep", *options, path)) == brief(kept)
+    assert brief(message(hdt("lint", path, *options))) == brief(reported)
+    assert brief(message(hdt("lint", "--keep", *options, path))) == brief(kept)
     return it
 
 
@@ -256,6 +258,24 @@ def test_no_input(tmp_path: Path) -> None:
         assert closed(0, *words, "-") == READING_FAILED
     missing = hdt("lint", tmp_path / "missing.nt", "--verbose")
     assert missing.err.startswith(READING_FAILED.err) and b"missing.nt: No such file" in missing.err
+
+
+@pytest.mark.parametrize("count", [1, 1_000, 20_000])
+@pytest.mark.parametrize("keep", [False, True])
+def test_input_that_fails_midway(keep: bool, count: int) -> None:
+    """What belongs to the lines before is printed before the message, be it little or more than 64 KiB."""
+    document = b"".join(b"<u:a%d> <u:p> <u:b> .\n<u:a> x\n" % n for n in range(count))
+    reader, writer = os.pipe()
+    fcntl.fcntl(writer, fcntl.F_SETPIPE_SZ, 1 << 20)
+    assert os.write(writer, document + b"<u:a> x") == len(document) + 7
+    os.set_blocking(reader, False)  # (then reading fails where a program would have to wait)
+    ended = subprocess.run([PROGRAM, "lint", *(["--keep"] if keep else []), "-"], stdin=reader, capture_output=True,
+                           timeout=60)
+    os.close(reader)
+    os.close(writer)
+    before = wanted(linted(document))[keep]
+    result = Result(3, before.out, before.err + READING_FAILED.err + b"  -: Resource temporarily unavailable\n")
+    assert brief(Result(ended.returncode, ended.stdout, ended.stderr)) == brief(result)
 
 
 def test_same_file(tmp_path: Path) -> None:

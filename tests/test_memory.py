@@ -32,8 +32,8 @@ def limited(room: int, *words: Word) -> Result:
 
 @pytest.fixture(scope="module")
 def least() -> int:
-    """The least address space in which the program starts."""
-    return ROOMS[bisect_left(ROOMS, True, key=lambda room: limited(room, "--help").status == 0)]
+    """The least address space in which the program starts, and two steps more: it depends on the random addresses."""
+    return ROOMS[bisect_left(ROOMS, True, key=lambda room: limited(room, "--help").status == 0) + 2]
 
 
 def many_triples() -> list[Strings]:
@@ -168,6 +168,34 @@ def test_room_of_a_long_answer_is_given_back(meter: Meter, objects: Path) -> Non
     one, other, both = (meter.run([PROGRAM, "answer", objects], stdin=it) for it in (answer, request, answer + request))
     assert brief(both.result) == brief(done(one.result.out + other.result.out))
     assert both.most <= max(one.most, other.most) + FIXED
+
+
+# Commands that write as they read a document, `in.nt`.
+WRITING: dict[str, list[Word]] = {
+    "lint": ["lint", "in.nt"],
+    "lint --keep": ["lint", "--keep", "in.nt"],
+    "split": ["split", "good.nt", "parts", "--parts", "1"],
+    "split into 16 parts": ["split", "good.nt", "parts", "--parts", "16"],
+    "split, printed": ["split", "good.nt", "--of", "0/1"],
+    "split, one of three printed": ["split", "good.nt", "--of", "1/3"],
+    "split, two inputs": ["split", "good.nt", "good.nt", "--of", "0/1"],
+}
+
+
+@pytest.mark.parametrize("name", WRITING)
+def test_output_is_written_as_it_comes(name: str, meter: Meter, tmp_path: Path) -> None:
+    """A document of four times the size, and its output, take no more memory."""
+    most = []
+    for count in (40_000, 160_000):
+        folder = tmp_path / str(count)
+        folder.mkdir()
+        good = [b'<u:%d> <u:p> "%d" . #%s\n' % (n % 977, n, b"#" * 80) for n in range(count)]
+        (folder / "good.nt").write_bytes(b"".join(good))
+        (folder / "in.nt").write_bytes(b"".join(line + b"x\n" for line in good))
+        measured = meter.run([PROGRAM, *WRITING[name]], cwd=folder)
+        assert measured.result.status == ("lint" in name)
+        most.append(measured.most)
+    assert most[1] <= most[0] + FIXED
 
 
 def test_directories_take_8_bytes_for_512_marks(meter: Meter, tmp_path: Path) -> None:

@@ -481,9 +481,9 @@ def test_large_texts(probe: Probe, length: int, step: int) -> None:
     assert seen[:3] + seen[4:] == ["1", b"a".hex(), "2", "3", b"c".hex(), "end"]
 
 
-@pytest.mark.parametrize("length, most", [(1_000, 2), (100_000, 3), (1_000_000, 6)])
+@pytest.mark.parametrize("length, most", [(1_000, 2), (100_000, 3), (1_000_000, 16)])
 def test_reads_of_a_long_line(probe: Probe, length: int, most: int) -> None:
-    """A long line takes few reads, as each asks for what the buffer has room for, and that doubles where it is full."""
+    """A long line takes few reads: each asks for what the buffer has room for, which grows by an eighth and 64 KiB."""
     literal = b'"' + b"b" * length + b'"'
     assert probe.on(b"<u:s> <u:p> " + literal + b" .", "line_strings", ALL, ALL, "-")[3] == literal.hex()
     assert int(probe.ask("reads")[1]) <= most

@@ -6,11 +6,14 @@ import gzip
 import json
 import os
 import random
+import shutil
 import subprocess
 import sys
 import threading
 import time
+import tracemalloc
 import zlib
+from collections.abc import Callable
 from concurrent.futures import ThreadPoolExecutor
 from pathlib import Path
 from typing import Any, Optional
@@ -124,7 +127,7 @@ def resident(path: Path) -> int:
 
 def test_memory_of_a_text(tmp_path: Path) -> None:
     """While a text is read, its pages are given back, and it has no name."""
-    path = tmp_path / "text"
+    path, threads = tmp_path / "text", threading.active_count()
     path.write_bytes(bytes(2**24))
     with builds._Mapped(str(path)) as data:
         assert not path.exists() and os.listdir(tmp_path) == []
@@ -133,7 +136,7 @@ def test_memory_of_a_text(tmp_path: Path) -> None:
             deadline = time.monotonic() + 20
             while resident(path) > 2**20:
                 assert time.monotonic() < deadline
-    assert threading.active_count() == 1 and resident(path) == 0
+    assert threading.active_count() == threads and resident(path) == 0
 
 
 def test_published_parts() -> None:
@@ -163,6 +166,75 @@ def test_long_lines(tmp_path: Path) -> None:
     paths = inputs(tmp_path, [line, LINES[0], line, LINES[1]], 2, packed=[1])
     with small(100, 64):
         assert parts.build(paths, tmp_path / "out", 2, blank_nodes="one").triples == 3
+
+
+def first_fault(text: bytes, longest: int) -> Optional[tuple[int, int, int]]:
+    """The first error of a text whose lines may have so many bytes: its reason, line and column."""
+    for number, line in reference_lines(text):
+        if len(line) > longest:
+            return 9, number, longest + 1
+        if error := read_document(line)[1]:
+            return int(error.reason), number, error.column
+    return None
+
+
+LINE_PIECES = [b"a", b"\n", b"\r", b"\r\n", b"#", b"<x:a><x:a><x:a>.", b"# \xc3\xa9", b"\xff", b"   "]
+
+
+@given(st.lists(st.sampled_from(LINE_PIECES), max_size=12).map(b"".join) | document_texts(), st.integers(0, 20),
+       st.integers(1, 30), st.integers(1, 12), st.booleans())
+@example(b"abc\rdefg", 5, 10**6, 4, False)
+@example(b"#\n#bc\r#efg\r\n#x", 4, 3, 5, True)
+@example(b"<x:a><x:a><x:a>.\nxxxx\n" + b"#" * 21, 20, 10**6, 10**6, False)
+def test_longest_line(
+    tmp_path_factory: pytest.TempPathFactory, text: bytes, longest: int, size: int, block: int, packed: bool,
+) -> None:
+    """The first line that is too long, or wrong, is the error, at its line; one of that length is none."""
+    path = Path(tmp_path_factory.getbasetemp(), "longest.nt" + ".gz" * packed)
+    path.write_bytes(gzip.compress(text) if packed else text)
+    folder, wanted = tmp_path_factory.getbasetemp() / "longest", first_fault(text, longest)
+    with small(size, block):
+        if wanted is None:
+            found = b"".join(block for it in ranges.ranges([str(path)]) for block in ranges.blocks(it, longest))
+            assert found == text
+            return
+        with pytest.raises(parts.InputFault) as fault:
+            parts.build([path], folder, 2, longest_line=longest)
+    assert (fault.value.reason, fault.value.line, fault.value.column) == wanted and not folder.exists()
+
+
+def test_longest_line_of_each_input(tmp_path: Path) -> None:
+    """Lines up to it are built, by tasks too; the path of the input with a longer one is in the error."""
+    longest = max(len(line.encode()) for line in LINES)
+    paths = inputs(tmp_path, LINES, 3, packed=[1])
+    with small(300, 64), ThreadPoolExecutor(2) as executor:
+        made = parts.build(paths, tmp_path / "out", 2, executor, "one", longest_line=longest)
+        assert named(made) == named(parts.build(paths, tmp_path / "all", 2, blank_nodes="one"))
+        for given_executor in (executor, None):
+            with pytest.raises(parts.InputFault, match=f"in.[.]nt.*: line .* column {longest}: 9 TooLong"):
+                parts.build(paths, tmp_path / "none", 2, given_executor, "one", longest_line=longest - 1)
+    assert nothing_but(tmp_path, "out", "all")
+
+
+@pytest.mark.parametrize("packed", [True, False])
+def test_memory_of_a_line_without_an_end(tmp_path: Path, packed: bool) -> None:
+    """A line that is too long takes no memory; another one takes its length while it is read, with an eighth."""
+    path, length = tmp_path / ("in.nt" + ".gz" * packed), 2**26
+    with gzip.open(path, "wb", 1) if packed else path.open("wb") as file:
+        file.write(LINES[0].encode() + b"\n")
+        for _ in range(length // 2**20):
+            file.write(b"x" * 2**20)
+    tracemalloc.start()
+    try:
+        with pytest.raises(parts.InputFault, match="line 2 column 1000001: 9 TooLong"):
+            parts.build([path], tmp_path / "out", 2, longest_line=1_000_000)
+        assert tracemalloc.get_traced_memory()[1] < 6 * 2**20
+        tracemalloc.reset_peak()
+        read = sum(len(block) for it in ranges.ranges([str(path)]) for block in ranges.blocks(it))
+        assert read == len(LINES[0].encode()) + 1 + length
+        assert tracemalloc.get_traced_memory()[1] < 1.125 * length + 6 * 2**20
+    finally:
+        tracemalloc.stop()
 
 
 # ---- the folder
@@ -231,6 +303,77 @@ def test_folder_that_is_there(tmp_path: Path) -> None:
     assert nothing_but(tmp_path, "out") and not list((tmp_path / "out").iterdir())
 
 
+def test_two_builds_into_one_folder(tmp_path: Path) -> None:
+    """The one that is late finds it there, and leaves nothing; so it does if anything else is there by then."""
+    paths = inputs(tmp_path, LINES, 1)
+
+    def late(make: Callable[[], Any]) -> None:
+        """Build, while the folder is made by another program."""
+        before = os.rename
+
+        def rename(old: str, new: str) -> None:
+            if new == str(tmp_path / "out"):
+                make()
+            before(old, new)
+
+        with mock.patch("os.rename", rename), pytest.raises(FileExistsError) as error:
+            parts.build(paths, tmp_path / "out", 3)
+        assert error.value.filename == str(tmp_path / "out")
+        assert nothing_but(tmp_path, "out")
+
+    def built() -> None:
+        parts.build(paths, tmp_path / "other", 2)
+        (tmp_path / "other").rename(tmp_path / "out")
+
+    late(built)
+    assert len(parts.open(tmp_path / "out").manifest.parts) == 2
+    shutil.rmtree(tmp_path / "out")
+    others: list[Callable[[], Any]] = [(tmp_path / "out").touch, lambda: (tmp_path / "out").symlink_to("none")]
+    for make in others:
+        late(make)
+        (tmp_path / "out").unlink()
+
+
+def test_link_in_place_of_the_folder(tmp_path: Path) -> None:
+    """A link has the name of the folder, wherever it leads; no work is done before that is seen."""
+    (tmp_path / "out").symlink_to("none")
+    with pytest.raises(FileExistsError):
+        parts.build([tmp_path / "in.nt"], tmp_path / "out", 2)
+    assert nothing_but(tmp_path, "out")
+
+
+@pytest.mark.parametrize("size", [20, 30_000])
+def test_order_of_calls(tmp_path: Path, size: int) -> None:
+    """What is named is on the disk before its name is: files, then their folder, then the name of that."""
+    calls: list[tuple[str, ...]] = []
+    rename = os.rename
+
+    def noted_sync(descriptor: int) -> None:
+        path = os.readlink(f"/proc/self/fd/{descriptor}")
+        calls.append(("sync", path, str(os.fstat(descriptor).st_size)) if os.path.isfile(path) else ("sync", path))
+
+    def noted_rename(old: str, new: str) -> None:
+        calls.append(("rename", old, new))
+        rename(old, new)
+
+    paths = inputs(tmp_path, [f'<u:{n % 9}> <u:p> "{n:060}" .' for n in range(size)], 1)
+    with mock.patch("os.fsync", noted_sync), mock.patch("os.rename", noted_rename):
+        made = parts.build(paths, tmp_path / "out", 2)
+    calls = [call for call in calls if "hdt-unfinished" not in call[1]]  # (by which the base is checked)
+    beside = next(Path(call[1]).parent for call in calls if call[0] == "rename" and call[2] == str(tmp_path / "out"))
+    assert beside.parent == tmp_path and not beside.exists()
+    scratch = [call[1] for call in calls if call[0] == "sync"][:2]
+    sizes = [str((tmp_path / "out" / name).stat().st_size) for name in ("part-00000.hdt", "part-00001.hdt",
+                                                                        "manifest.json")]
+    files = [str(beside / "made" / part.file) for part in made.parts]
+    assert calls == [
+        *(("sync", path, size_of) for path, size_of in zip(scratch, sizes)),
+        *(("rename", path, file) for path, file in zip(scratch, files)),
+        ("sync", str(beside / "made/manifest.json"), sizes[2]), ("sync", str(beside / "made")),
+        ("rename", str(beside / "made"), str(tmp_path / "out")), ("sync", str(tmp_path)),
+    ]
+
+
 def test_builder_that_is_killed(tmp_path: Path) -> None:
     """There is no folder after that, and what is there instead is in no one's way."""
     paths = inputs(tmp_path, LINES, 1)
@@ -279,7 +422,7 @@ def test_errors_are_those_of_one_build(
     if expected:
         error: Any = found.value
         assert (error.path, error.reason, error.line, error.column) == expected[:4]
-        assert str(error) == f"{expected[0]}: {expected[4]}"
+        assert str(error) == expected[4].replace(str(folder / "in.nt"), expected[0])
     assert nothing_but(folder)
 
 
@@ -311,7 +454,10 @@ def test_options(tmp_path: Path) -> None:
         ({"block_size": 0}, ValueError), ({"block_size": 65_536}, ValueError), ({"blank_nodes": "both"}, ValueError),
         ({"base": "relative"}, ValueError), ({"inputs": paths[0]}, TypeError), ({"inputs": str(paths[0])}, TypeError),
         ({"inputs": []}, hdt.NoTriples), ({"executor": ThreadPoolExecutor}, TypeError),
-        ({"folder": tmp_path / "none/out"}, FileNotFoundError),
+        ({"block_size": 65_536, "inputs": ["none.nt"]}, ValueError), ({"longest_line": -1}, ValueError),
+        ({"longest_line": "9"}, TypeError), ({"longest_line": 1.0}, TypeError),
+        ({"folder": tmp_path / "none/out", "block_size": 65_535, "longest_line": 0}, FileNotFoundError),
+        ({"folder": tmp_path / "none/out", "parts": 65_536}, FileNotFoundError),
     ]
     for options, error in cases:
         with pytest.raises(error) as found:

@@ -33,7 +33,7 @@ QUERIES = [
     "SELECT ?s { ?s <u:text> 'x' }",
     "SELECT ?s ?t { ?s <u:text> ?v . ?t <u:text> ?v }",
     "SELECT ?s { ?s <u:text> '01'^^<u:t> }",
-    "SELECT * { <http://a/1> (<u:knows>|^<u:knows>)* ?x }",
+    "SELECT DISTINCT * { <http://a/1> (<u:knows>|^<u:knows>)* ?x }",
     "SELECT ?p (COUNT(*) AS ?n) { ?s ?p ?o } GROUP BY ?p",
     "SELECT ?o (COUNT(?s) AS ?n) { ?s <u:p1> ?o } GROUP BY ?o",
     "SELECT (COUNT(DISTINCT ?o) AS ?n) { ?s ?p ?o }",

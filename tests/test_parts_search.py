@@ -152,6 +152,7 @@ def test_files_that_are_kept_open(tmp_path: Path, folder: Path) -> None:
     third = kept.graph(str(folder), rows[2])
     assert kept.graph(str(folder), rows[0]) is graphs[0] and kept.graph(str(folder), rows[2]) is third
     assert kept.graph(str(folder), rows[1]) is not graphs[1]
+    assert len(list(graphs[1])) == rows[1].triples  # (another thread may use it yet)
     kept.close()
     with pytest.raises(ValueError, match="closed"):
         len(third)
@@ -221,11 +222,10 @@ def test_parts_that_are_wrong(folder: Path) -> None:
         assert file == "part-00002.hdt" and told.startswith(what)
     part.unlink()
     assert fault_of(folder) == ("part-00002.hdt", "is missing")
-    for data, what in ((of_other, "is the file of part 1"), (rewritten, "is another file"), (b"", "is damaged: ")):
-        part.write_bytes(data)
-        with mock.patch.object(parts.Graph, "_check_size"):
-            file, told = fault_of(folder)
-        assert file == "part-00002.hdt" and told.startswith(what)
+    with mock.patch.object(parts.Graph, "_check_size"):  # (it may change after that)
+        for data in (of_other, rewritten, b"", good + b"x"):
+            part.write_bytes(data)
+            assert fault_of(folder) == ("part-00002.hdt", f"has {len(data):,} bytes, not {len(good):,}")
     part.write_bytes(good)
     with parts.open(folder) as graph:
         graph.verify()
@@ -252,6 +252,23 @@ def test_search_in_a_part_that_is_wrong(folder: Path) -> None:
         graph.matching(p="u:p1")
 
 
+def test_other_files_of_the_same_size(tmp_path: Path) -> None:
+    """They are told by their SHA-256, and the file of another part is named."""
+    subjects = [next(f"u:{c}" for c in "abcdefgh" if parts.part_of(f"u:{c}", 2) == number) for number in (0, 1)]
+    rows = parts.build(inputs(tmp_path, [f"<{s}> <u:p> <u:o> ." for s in subjects], 1), tmp_path / "out", 2).parts
+    assert rows[0].bytes == rows[1].bytes
+    one, other = (tmp_path / "out" / row.file for row in rows)
+    good = one.read_bytes()
+    one.write_bytes(other.read_bytes())
+    assert fault_of(tmp_path / "out") == ("part-00000.hdt", "is the file of part 1")
+    parts.build(inputs(tmp_path, [f"<{s}> <u:p> <u:r> ." for s in subjects], 1), tmp_path / "new", 2)
+    one.write_bytes((tmp_path / "new" / one.name).read_bytes())
+    assert fault_of(tmp_path / "out") == ("part-00000.hdt", "is another file")
+    one.write_bytes(good)
+    with parts.open(tmp_path / "out") as graph:
+        graph.verify()
+
+
 def changed(folder: Path, change: Callable[[Any], Any]) -> None:
     """Change the manifest of a folder."""
     values = json.loads((folder / "manifest.json").read_text())
@@ -263,17 +280,24 @@ CHANGES: dict[str, Callable[[Any], Any]] = {
     "has another kind": lambda it: it.update(kind="x"),
     "has another version": lambda it: it.update(version=2),
     "has another hash": lambda it: it.update(hash="md5"),
-    "has other fields": lambda it: it.pop("parts"),
-    "has other fields: .*unexpected": lambda it: it["parts"][0].update(more=1),
-    "has other fields: .*int": lambda it: it.update(parts=7),
+    "has no parts": lambda it: it.pop("parts"),
+    "has an unexpected parts\\[0\\].'more'": lambda it: it["parts"][0].update(more=1),
     "has 0 parts": lambda it: it.update(parts=[]),
+    "has 65,537 parts": lambda it: it.update(parts=65_537 * [{}]),
     "has another file for part 3": lambda it: it["parts"][3].update(file="../out/part-00003.hdt"),
     "has another file for part 0": lambda it: it["parts"].reverse(),
     "has another file for part 1": lambda it: it["parts"][1].update(file=""),
-    "has no counts for part 1": lambda it: it["parts"][1].update(shared=-1),
-    "has no counts for part 2": lambda it: it["parts"][2].update(bytes="9"),
-    "has no SHA-256 for part 2": lambda it: it["parts"][2].update(sha256="9"),
-    "has counts that are not the sums": lambda it: it.update(triples=7),
+    "has another file for part 2": lambda it: it["parts"][2].update(file="", triples=0),
+    "has a wrong parts\\[2\\].bytes: 0": lambda it: it["parts"][2].update(bytes=0),
+    "has a wrong parts\\[2\\].triples: 0": lambda it: it["parts"][2].update(triples=0),
+    "has a wrong parts\\[2\\].sha256: 'F+'": lambda it: it["parts"][2].update(sha256="F" * 64),
+    "has a wrong block_size: 0": lambda it: it.update(block_size=0),
+    "has a wrong block_size: 65536": lambda it: it.update(block_size=65_536),
+    "has a wrong blank_nodes: 'both'": lambda it: it.update(blank_nodes="both"),
+    "has a wrong base: 'a> <b'": lambda it: it.update(base="a> <b"),
+    "has a wrong base: 'relative'": lambda it: it.update(base="relative"),
+    "has a wrong triples: 0": lambda it: it.update(triples=0),
+    "has triples and subjects that are not the sums": lambda it: it.update(triples=7),
 }
 
 
@@ -318,7 +342,7 @@ def test_manifests_of_other_parts(folder: Path) -> None:
 
 def test_inputs_that_change_meanwhile(tmp_path: Path) -> None:
     """The text of a part is judged again when it is built, so a folder never has what isn't N-Triples."""
-    def spoiled(it: Any) -> Any:
+    def spoiled(*_: Any) -> Any:
         yield b"<u:a> <u:p> <u:o> .\n"
         raise OSError("gone")
 

@@ -10,7 +10,7 @@ import pytest
 
 from support.built import PROGRAM, SAMPLES
 from support.documents import LONG_LINE
-from support.program import Result, Word, closed, done, hdt, run
+from support.program import Result, Word, closed, done, hdt, hdt_from, run
 
 THREE = SAMPLES / "three.hdt"
 SIZE = THREE.stat().st_size
@@ -42,6 +42,11 @@ def test_small_file(words: list[Word], out: bytes) -> None:
     assert hdt(*words) == Result(0, out, ONCE)
 
 
+def test_standard_input_from_a_file() -> None:
+    """The length of a file is known as standard input, too."""
+    assert hdt_from(THREE, "verify", "--progress", "-") == Result(0, b"ok 3 2 0 2 1\n", ONCE)
+
+
 def test_rewrite(tmp_path: Path) -> None:
     """`rewrite --progress` prints the same as `rewrite`, and one line of progress."""
     plain = hdt("rewrite", THREE, tmp_path / "plain.hdt")
@@ -55,17 +60,27 @@ def test_without_the_option(tmp_path: Path, large_document: Path) -> None:
     assert (seen.status, seen.out.split()[:2], seen.err) == (0, [b"built", b"1"], b"")
 
 
-@pytest.mark.parametrize("piped", [False, True], ids=["a file", "a pipe"])
-def test_large_document(tmp_path: Path, large_document: Path, piped: bool) -> None:
+# How a document is given, and whether its length is known.
+GIVEN = {
+    "a file": ('"$0" build --progress "$1" "$2"', True),
+    "a file as standard input": ('"$0" build --progress - "$2" <"$1"', True),
+    "a file as standard input, by its path": ('"$0" build --progress /dev/stdin "$2" <"$1"', True),
+    "a pipe": ('cat "$1" | "$0" build --progress /dev/stdin "$2"', False),
+    "a named pipe": ('mkfifo "$2.in"\ntimeout 60 dd if="$1" of="$2.in" bs=64k status=none &\n'
+                     '"$0" build --progress "$2.in" "$2"', False),
+}
+
+
+@pytest.mark.parametrize("how", GIVEN)
+def test_large_document(how: str, tmp_path: Path, large_document: Path) -> None:
     """A line is printed each 16 MiB and at the end; a pipe does not know how many bytes there are."""
     plain = hdt("build", large_document, tmp_path / "plain.hdt")
-    words: list[Word] = ["build", "--progress", "/dev/stdin" if piped else large_document, tmp_path / "out.hdt"]
-    seen = (run(["sh", "-c", 'cat "$1" | "$2" "$3" "$4" "$5" "$6"', "sh", large_document, PROGRAM, *words]) if piped
-            else hdt(*words))
+    script, is_known = GIVEN[how]
+    seen = run(["sh", "-c", script, PROGRAM, large_document, tmp_path / "out.hdt"])
     counts, others = progress_of(seen.err)
     length = large_document.stat().st_size
     assert (seen.status, seen.out, others) == (0, plain.out, [])
-    assert {of for _, of in counts} == {None if piped else length}
+    assert {of for _, of in counts} == {length if is_known else None}
     read = [count for count, _ in counts]
     assert read[-1] == length
     steps = [after - before for before, after in zip([0, *read], read[:-1])]

@@ -257,7 +257,7 @@ def test_truncated_and_changed_files(tmp_path: Path) -> None:
     assert names >= {"Truncated", "NotHdt", "Check8", "Check16", "Check32", "TrailingBytes"}
 
 
-CALLS_ON_FILES: dict[str, Callable[[Path], object]] = {
+CALLS_ON_FILES: dict[str, Callable[[Any], object]] = {
     "verify": hdt.verify,
     "open": hdt.open,
     "build": lambda path: hdt.build(path, "out"),
@@ -268,9 +268,24 @@ CALLS_ON_FILES: dict[str, Callable[[Path], object]] = {
 @pytest.mark.parametrize("call", CALLS_ON_FILES)
 @pytest.mark.parametrize("name", ["none", "."], ids=["missing", "folder"])
 def test_no_files(name: str, call: str, tmp_path: Path) -> None:
-    """A missing file and a folder raise OSError."""
-    with pytest.raises(OSError):
+    """A missing file and a folder raise OSError; `build` takes a folder, but not one without documents."""
+    with pytest.raises(ValueError if (name, call) == (".", "build") else OSError):
         CALLS_ON_FILES[call](tmp_path / name)
+
+
+@pytest.mark.parametrize("path, name", [
+    ("./cut.hdt", "./cut.hdt"), (b"cut.hdt", "cut.hdt"), (Path("./cut.hdt"), "cut.hdt")], ids=["str", "bytes", "Path"])
+@pytest.mark.parametrize("call", ["verify", "open", "rewrite"])
+def test_fault_has_the_path(call: str, path: Any, name: str, tmp_path: Path, monkeypatch: pytest.MonkeyPatch) -> None:
+    """A fault says which file it is in, by the path that was given; of bytes it says none."""
+    (tmp_path / "cut.hdt").write_bytes(THREE.read_bytes()[:-1])
+    monkeypatch.chdir(tmp_path)
+    with pytest.raises(hdt.Fault) as raised:
+        CALLS_ON_FILES[call](path)
+    assert (raised.value.path, str(raised.value).partition(" fault ")[0]) == (name, f"{name}:")
+    with pytest.raises(hdt.Fault) as raised:
+        hdt.Graph(THREE.read_bytes()[:-1])
+    assert raised.value.path is None and str(raised.value).startswith("fault ")
 
 
 def test_empty_file(tmp_path: Path) -> None:
@@ -301,7 +316,7 @@ def test_errors_of_texts(document: str, reason: int, name: str, row: int, column
         hdt.build(text, out)
     fault = raised.value
     assert (fault.reason, fault.name, fault.line, fault.column) == (reason, name, row, column)
-    assert str(fault) == f"line {row} column {column}: {reason} {name}"
+    assert (fault.path, str(fault)) == (str(text), f"{text}: line {row} column {column}: {reason} {name}")
     assert not out.exists()
 
 
@@ -309,8 +324,9 @@ def test_errors_of_texts(document: str, reason: int, name: str, row: int, column
 def test_texts_without_triples(document: str, tmp_path: Path) -> None:
     """No file is made from a text without triples."""
     (tmp_path / "text.nt").write_text(document)
-    with pytest.raises(hdt.NoTriples):
+    with pytest.raises(hdt.NoTriples) as raised:
         hdt.build(tmp_path / "text.nt", tmp_path / "out.hdt")
+    assert (raised.value.path, str(raised.value)) == (f"{tmp_path}/text.nt", f"{tmp_path}/text.nt: no triples")
     assert not (tmp_path / "out.hdt").exists()
 
 
@@ -349,8 +365,9 @@ def test_strings_that_are_no_terms() -> None:
 
 @pytest.mark.parametrize("copied", [copy.copy, lambda fault: pickle.loads(pickle.dumps(fault))], ids=["copy", "pickle"])
 @pytest.mark.parametrize("fault", [
-    hdt.Fault(11, 5), hdt.LineFault(1, 2, 3), hdt.NotATerm("object", 3), hdt.NoTriples("no triples"),
-], ids=lambda fault: type(fault).__name__)
+    hdt.Fault(11, 5), hdt.Fault(11, 5, "a.hdt"), hdt.LineFault(1, 2, 3), hdt.LineFault(1, 2, 3, "a.nt"),
+    hdt.NotATerm("object", 3), hdt.NoTriples("no triples"), hdt.NoTriples(path="a.nt"),
+], ids=lambda fault: f"{type(fault).__name__} {getattr(fault, 'path', None)}")
 def test_errors_are_values(fault: Exception, copied: Callable[[Exception], Exception]) -> None:
     """An error can be copied and pickled."""
     other = copied(fault)

@@ -28,7 +28,7 @@ from support.c_library import CC, succeeds
 from support.python_package import ENVIRONMENT, PACKAGE, hdt
 from test_python import GRAPHS, ROLES, THREE, WORKED, Triple, built, lines, matching, patterns_of, strings_of
 
-from hdt import _calls, _columns, _handle, _library
+from hdt import _calls, _columns, _files, _handle, _library
 
 Ids = tuple[int, int, int]
 Part = Union[str, int, None]
@@ -78,7 +78,7 @@ def test_terms_in_brackets(three: hdt.Graph, call: str) -> None:
     for pattern in (("<u:a>",), (None, "<u:p>"), ("u:a", "u:p", "<u:b>")):
         with pytest.raises(ValueError, match=r"no brackets: write '(u:\w)' for '<\1>'"):
             SEARCHES[call](three, *pattern)
-    for other in ("<", ">", "<u:a", "u:a>", '"<x>"', "", "u:none"):
+    for other in ("<", ">", "<u:a", "u:a>", '"<x>"', "?s", "u:none"):
         SEARCHES[call](three, other)
     with pytest.raises(ValueError, match="no brackets"):
         ("<u:a>", "u:p", "u:b") in three
@@ -313,6 +313,15 @@ def test_positions_of_many(many: tuple[hdt.Graph, list[Triple]]) -> None:
                 assert graph.position(*pattern, skip=skip, start=start) == wanted
 
 
+def test_pages_of_searches(many: tuple[hdt.Graph, list[Triple]]) -> None:
+    """A search by IDs has at most 4,096 matches in memory, and few at first."""
+    graph, _ = many
+    with mock.patch.object(graph, "_page", wraps=graph._page) as page:
+        assert len(list(graph.find_ids(limit=20_000))) == 20_000
+        rooms = [call.args[2] for call in page.call_args_list]
+        assert rooms == [64, 256, 1_024, 4_096, 4_096, 4_096, 4_096, 2_272]
+
+
 @pytest.mark.parametrize("start", [3, 4, 2**63, 2**64 - 1, 2**64, 2**70])
 def test_pages_past_the_end(start: int, three: hdt.Graph) -> None:
     """From the end on there is nothing, and no match is skipped to."""
@@ -359,7 +368,7 @@ def test_bad_positions(three: hdt.Graph) -> None:
 
 
 @pytest.mark.parametrize("change", [
-    {}, {"_MOST": 4_096}, {"_BYTES": 1, "_LEAST": 8}, {"_WHOLE": 0}, {"_WHOLE_BYTES": 100_000}, {"_WHOLE": 10**9},
+    {}, {"_MOST": 4_096}, {"_BYTES": 1}, {"_WHOLE": 0}, {"_WHOLE_BYTES": 100_000}, {"_WHOLE": 10**9},
 ], ids=lambda change: ",".join(change) or "as they are")
 def test_portions(change: dict[str, Any], many: tuple[hdt.Graph, list[Triple]]) -> None:
     """Whatever the portions are and which roles are kept, the triples are the same."""
@@ -372,7 +381,7 @@ def test_portions(change: dict[str, Any], many: tuple[hdt.Graph, list[Triple]]) 
 def test_kept_strings_have_a_bound(many: tuple[hdt.Graph, list[Triple]]) -> None:
     """A role whose strings take more than is kept is looked up by portions."""
     graph, found = many
-    columns = _columns.Columns(graph, (None, None, None), _calls.matched(None, None, None))
+    columns = _columns.Columns(graph, _calls.matched(None, None, None))
     with mock.patch.multiple(_columns, _WHOLE_BYTES=100_000):
         assert list(columns.triples(0, None)) == found
     assert [it is None for it in columns._whole] == columns._too_large == [True, False, True]
@@ -523,11 +532,12 @@ def test_pickled_by_path(copied: Optional[bool], tmp_path: Path, monkeypatch: py
     path = tmp_path / "own.hdt"
     path.write_bytes(THREE.read_bytes())
     monkeypatch.chdir(tmp_path)
-    with hdt.open("own.hdt", copied) as graph:
+    with hdt.open("own.hdt", copied) as graph, mock.patch("hdt._graph.data_of", wraps=_files.data_of) as read:
         monkeypatch.chdir("/")
         with pickle.loads(pickle.dumps(graph)) as again, pickle.loads(pickle.dumps(again)) as third:
             assert list(third) == list(again) == list(graph)
             assert again._origin == graph._origin
+        assert read.call_args_list == [mock.call(str(path), copied)] * 2
         with pytest.raises(TypeError, match="can't be copied"):
             copy.copy(graph)
         assert len(graph) == 3
@@ -593,7 +603,7 @@ def test_tight(name: str, tmp_path: Path) -> None:
     with pytest.raises(hdt.Fault) as raised:
         hdt.verify(path, tight=True)
     assert (raised.value.reason, raised.value.name) == (34, "Unused")
-    assert program.hdt("verify", "--tight", path).err.decode() == f"hdt: {raised.value}\n"
+    assert f"{path}: {program.hdt('verify', '--tight', path).err.decode()[len('hdt: '):]}" == f"{raised.value}\n"
 
 
 # ---- names
@@ -642,7 +652,7 @@ def test_version() -> None:
     """The version of the package is that of its distribution."""
     assert f'version = "{hdt.__version__}"\n' in (PACKAGE / "pyproject.toml").read_text()
     assert importlib.util.find_spec("hdt") is None or hdt.__version__ == "2.0.0"
-    assert hdt.LIBHDT_VERSION == _library.VERSION == "1.1"
+    assert hdt.LIBHDT_VERSION == _library.VERSION == "1.3"
 
 
 def test_an_old_library_is_refused(tmp_path: Path) -> None:

@@ -10,9 +10,9 @@ from pathlib import Path
 import pytest
 
 from support.built import SAMPLES, TOP
+from support.code_blocks import blocks
 from support.docstrings import calls, check_example, examples, lacking, public, untyped
 from support.python_package import PACKAGE, faults, hdt
-from test_documents import blocks
 
 PAGE = "docs/PYTHON.md"
 
@@ -53,7 +53,7 @@ def test_calls_name_their_errors() -> None:
 
 def test_calls_name_their_cost() -> None:
     """Each call says what time or memory it takes; of terms, the class says it for all."""
-    values = {"Counts", "Fault", "LineFault", "NoTriples", "NotATerm"}
+    values = {"ConversionFault", "Counts", "Fault", "LineFault", "NoConverter", "NoTriples", "NotATerm"}
     silent = lacking(r"\btime\b|takes|decodes|memory", PUBLIC)
     assert silent - values == {f"Term.{name}" for name in ("parse", "format", "parse_ntriples", "format_ntriples")}
 

@@ -75,6 +75,98 @@ def test_not_replaced(tmp_path: Path) -> None:
     assert sorted(os.listdir(tmp_path)) == ["out.hdt", "text.nt"]
 
 
+@pytest.mark.parametrize("call", ["build", "rewrite"])
+@pytest.mark.parametrize("mode", [0o4755, 0o2640, 0o1644, 0o6711], ids=oct)
+def test_special_bits_are_not_taken_over(tmp_path: Path, mode: int, call: str) -> None:
+    """The file has the permissions of the one that it replaces, but no setuid, setgid or sticky bit."""
+    out = tmp_path / "out.hdt"
+    out.write_bytes(b"before")
+    out.chmod(mode)
+    if stat.S_IMODE(out.stat().st_mode) != mode:
+        pytest.skip("the system doesn't set these bits")
+    if call == "build":
+        hdt.build(SAMPLES / "three.nt", out)
+    else:
+        hdt.rewrite(THREE, out)
+    assert stat.S_IMODE(out.stat().st_mode) == mode & 0o777
+
+
+def other_group() -> int:
+    """A group that is not that of new files, and that this process may give."""
+    groups = [12_345] if os.geteuid() == 0 else [group for group in os.getgroups() if group != os.getegid()]
+    return groups[0] if groups else pytest.skip("this user is in one group only")
+
+
+@pytest.mark.parametrize("mode", [0o640, 0o604, 0o664])
+def test_group_is_taken_over(tmp_path: Path, monkeypatch: pytest.MonkeyPatch, mode: int) -> None:
+    """The file has the group of the one that it replaces, before it gets permissions."""
+    out, seen = tmp_path / "out.hdt", []
+    out.write_bytes(b"before")
+    os.chown(out, -1, other_group())
+    out.chmod(mode)
+    change = os.fchmod
+
+    def fchmod(descriptor: int, to: int) -> None:
+        there = os.fstat(descriptor)
+        seen.append((there.st_gid, stat.S_IMODE(there.st_mode), to))
+        change(descriptor, to)
+
+    monkeypatch.setattr(os, "fchmod", fchmod)
+    hdt.build(SAMPLES / "three.nt", out)
+    assert seen == [(other_group(), 0o600, mode)]
+    assert (out.stat().st_gid, stat.S_IMODE(out.stat().st_mode)) == (other_group(), mode)
+
+
+@pytest.mark.parametrize("mode, wanted", [
+    (0o640, 0o600), (0o644, 0o644), (0o604, 0o600), (0o664, 0o644), (0o677, 0o677), (0o751, 0o711), (0o526, 0o522)])
+def test_group_that_may_not_be_given(tmp_path: Path, monkeypatch: pytest.MonkeyPatch, mode: int, wanted: int) -> None:
+    """If the group can't be given, neither another group nor others get what one of them had not."""
+    out = tmp_path / "out.hdt"
+    out.write_bytes(b"before")
+    os.chown(out, -1, other_group())
+    out.chmod(mode)
+
+    def fchown(descriptor: int, owner: int, group: int) -> None:
+        assert (owner, group) == (-1, other_group())
+        raise PermissionError(1, "Operation not permitted")
+
+    monkeypatch.setattr(os, "fchown", fchown)
+    hdt.rewrite(THREE, out)
+    assert stat.S_IMODE(out.stat().st_mode) == wanted
+    assert out.stat().st_gid != other_group() and os.listdir(tmp_path) == ["out.hdt"]
+
+
+def test_permissions_that_change_meanwhile(tmp_path: Path, monkeypatch: pytest.MonkeyPatch) -> None:
+    """The permissions are those that the file has in the end: of one that is closed to others while it is written."""
+    out, sync = tmp_path / "out.hdt", os.fsync
+    out.write_bytes(b"before")
+    out.chmod(0o644)
+
+    def fsync(descriptor: int) -> None:
+        out.chmod(0o600)
+        sync(descriptor)
+
+    monkeypatch.setattr(os, "fsync", fsync)
+    hdt.build(SAMPLES / "three.nt", out)
+    assert stat.S_IMODE(out.stat().st_mode) == 0o600
+
+
+@pytest.mark.parametrize("error", [KeyboardInterrupt, SystemExit, OSError, MemoryError])
+@pytest.mark.parametrize("call", ["fsync", "fchmod", "replace"])
+def test_interrupted(tmp_path: Path, monkeypatch: pytest.MonkeyPatch, call: str, error: type[BaseException]) -> None:
+    """An interrupt leaves the file as it was, and nothing beside it, as an error does."""
+    out = tmp_path / "out.hdt"
+    out.write_bytes(b"before")
+
+    def interrupted(*_: object) -> None:
+        raise error
+
+    monkeypatch.setattr(os, call, interrupted)
+    with pytest.raises(error):
+        hdt.build(SAMPLES / "three.nt", out)
+    assert out.read_bytes() == b"before" and os.listdir(tmp_path) == ["out.hdt"]
+
+
 @pytest.mark.parametrize("mode", [0o600, 0o640, 0o444, None], ids=["private", "group", "read-only", "new"])
 def test_private_while_it_is_written(tmp_path: Path, monkeypatch: pytest.MonkeyPatch, mode: Optional[int]) -> None:
     """Until it has its name, only its owner can read a new file; then it has the mode of the one that it replaces."""
@@ -112,8 +204,10 @@ def test_mode_without_proc(tmp_path: Path, monkeypatch: pytest.MonkeyPatch) -> N
 
 
 def test_device_is_written(tmp_path: Path) -> None:
-    """A device, or a pipe that is read, is written to and not replaced."""
+    """A device, or a pipe that is read, is written to and not replaced. One device may be input and output."""
     hdt.build(SAMPLES / "three.nt", "/dev/null")
+    with pytest.raises(hdt.NoTriples):
+        hdt.build("/dev/null", "/dev/null")
     assert Path("/dev/null").is_char_device()
     pipe, got = tmp_path / "pipe", []
     os.mkfifo(pipe)

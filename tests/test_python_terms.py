@@ -4,8 +4,13 @@ from __future__ import annotations
 
 import copy
 import dataclasses
+import importlib.util
+import io
 import pickle
 import re
+import sys
+from collections.abc import Callable, Iterator
+from itertools import product
 from pathlib import Path
 from typing import Any, Optional
 
@@ -14,7 +19,10 @@ from hypothesis import example, given
 from hypothesis import strategies as st
 
 from reference import hdt as reference
-from support.python_package import hdt
+from support import program
+from support.built import SAMPLES
+from support.parts import parts
+from support.python_package import ENVIRONMENT, PACKAGE, hdt
 
 XSD = "http://www.w3.org/2001/XMLSchema#"
 
@@ -228,3 +236,175 @@ def test_ntriples_as_the_engine_reads_it(tmp_path_factory: pytest.TempPathFactor
         pass
     term = parsed(hdt.Term.parse_ntriples, text)
     assert (term and term.format()) == wanted
+
+
+# ---- terms in place of strings
+
+
+def written(graph: Any, *pattern: Any) -> str:
+    """What a graph writes of a pattern."""
+    file = io.StringIO()
+    graph.write_text(file, *pattern)
+    return file.getvalue()
+
+
+# The calls that take a pattern, of both kinds of graphs,
+SEARCHES: dict[str, Callable[..., object]] = {
+    "find": lambda graph, *pattern: list(graph.find(*pattern)),
+    "matching": lambda graph, *pattern: graph.matching(*pattern),
+    "page": lambda graph, *pattern: graph.page(*pattern),
+    "position": lambda graph, *pattern: graph.position(*pattern),
+    "text": lambda graph, *pattern: graph.text(*pattern),
+    "text_pieces": lambda graph, *pattern: list(graph.text_pieces(*pattern)),
+    "write_text": written,
+}
+# and of one kind.
+SEARCHES_OF: dict[str, dict[str, Callable[..., object]]] = {
+    "hdt": {
+        **SEARCHES,
+        "find_ids": lambda graph, *pattern: list(graph.find_ids(*pattern)),
+        "id_array": lambda graph, *pattern: list(graph.id_array(*pattern)),
+        "matching_ids": lambda graph, *pattern: graph.matching_ids(*pattern),
+        "page_ids": lambda graph, *pattern: graph.page_ids(*pattern),
+        "page_text": lambda graph, *pattern: graph.page_text(*pattern),
+    },
+    "hdt.parts": {
+        **SEARCHES,
+        "matching_all": lambda graph, *pattern: graph.matching_all([pattern]),
+        "find by strings": lambda graph, *pattern: list(graph.find(*pattern, order="strings")),
+    },
+}
+ROWS = [(kind, call) for kind, calls in SEARCHES_OF.items() for call in calls]
+OBJECTS = ["u:a", "_:b", '"x"', '"x"@en', f'"1"^^<{XSD}integer>', '"http://a/"', '"_:b"']
+KINDS = list(product((False, True), repeat=3))
+
+
+@pytest.fixture(scope="module")
+def graphs(tmp_path_factory: pytest.TempPathFactory) -> Iterator[dict[str, Any]]:
+    """A graph with terms of each kind, as a file and as a folder of parts."""
+    folder = tmp_path_factory.mktemp("terms")
+    lines = [
+        f"{hdt.Term.parse(s).format_ntriples()} <u:p> {hdt.Term.parse(o).format_ntriples()} .\n"
+        for s, o in product(("u:a", "_:b"), OBJECTS)]
+    (folder / "terms.nt").write_text("".join(lines))
+    hdt.build(folder / "terms.nt", folder / "terms.hdt")
+    parts.build([folder / "terms.nt"], folder / "parts", 2)
+    with hdt.open(folder / "terms.hdt") as graph, parts.open(folder / "parts") as folded:
+        yield {"hdt": graph, "hdt.parts": folded}
+
+
+def term_of(string: str, kind: str) -> Any:
+    """A dictionary string as a term of a kind."""
+    if kind == "hdt":
+        return hdt.Term.parse(string)
+    pytest.importorskip("rdflib")
+    from hdt.rdflib import term_of as rdflib_term
+
+    return rdflib_term(string)
+
+
+@pytest.mark.parametrize("terms", ["hdt", "rdflib"])
+@pytest.mark.parametrize("kind, call", ROWS)
+def test_terms_are_searched_for(kind: str, call: str, terms: str, graphs: dict[str, Any]) -> None:
+    """A Term, and a term of rdflib, is its dictionary string: in each call, at each place, and in what is found."""
+    graph, search = graphs[kind], SEARCHES_OF[kind][call]
+    for o in OBJECTS:
+        for given_ones in KINDS[1:]:
+            strings = [it if is_given else None for it, is_given in zip(("_:b", "u:p", o), given_ones)]
+            found = search(graph, *(it and term_of(it, terms) for it in strings))
+            assert found == search(graph, *strings)
+            assert found not in ([], None, "", [0]) and (found or call == "position")
+    if call == "find":
+        triple = next(graph.find(o=term_of('"x"@en', terms)))
+        assert [type(string) for string in triple] == [str, str, str] and triple[2] == '"x"@en'
+
+
+@pytest.mark.parametrize("terms", ["hdt", "rdflib"])
+def test_terms_are_looked_up(terms: str, graphs: dict[str, Any]) -> None:
+    """`in`, `number` and `Term.parse` take terms, too."""
+    graph = graphs["hdt"]
+    for o in OBJECTS:
+        term = term_of(o, terms)
+        assert graph.number("object", term) == graph.number("object", o) is not None
+        assert hdt.Term.parse(term) == hdt.Term.parse(o)
+        for it in graphs.values():
+            assert (term_of("_:b", terms), "u:p", term) in it
+            assert (term_of("_:c", terms), "u:p", term) not in it
+
+
+@pytest.mark.parametrize("kind, call", ROWS)
+def test_terms_that_are_none(kind: str, call: str, graphs: dict[str, Any]) -> None:
+    """What looks like any is a ValueError that says what any is, and another type a TypeError, at each place."""
+    graph, search = graphs[kind], SEARCHES_OF[kind][call]
+    for place in range(3):
+        before = [None] * place
+        for term in ("", "?"):
+            with pytest.raises(ValueError, match=rf"^{re.escape(repr(term))} is not a term: None matches any$"):
+                search(graph, *before, term)
+        for other in (b"u:a", 1.0, ["u:a"], ("u:a",), object()):
+            with pytest.raises(TypeError):
+                search(graph, *before, other)
+    if "ids" not in call and call not in ("id_array", "page_text") and (kind, call) != ("hdt", "position"):
+        with pytest.raises(TypeError):
+            search(graph, 1)
+
+
+def test_triples_that_are_none(graphs: dict[str, Any]) -> None:
+    """A triple of other types is not in a graph; one with what looks like any is a ValueError."""
+    for graph in graphs.values():
+        assert (b"u:a", "u:p", '"x"') not in graph and ("u:a", "u:p", None) not in graph and (1, 1, 1) not in graph
+        with pytest.raises(ValueError, match="None matches any"):
+            ("u:a", "?", '"x"') in graph
+    for wrong in (5, None, b"u:a"):
+        with pytest.raises(TypeError, match="a term is a str, an hdt.Term or a term of rdflib, not"):
+            graphs["hdt"].number("object", wrong)
+        with pytest.raises(TypeError):
+            hdt.Term.parse(wrong)  # type: ignore[arg-type]
+        with pytest.raises(TypeError):
+            graphs["hdt"].ids_with_prefix(wrong, "object")
+
+
+def test_rdflib_terms_that_are_none(graphs: dict[str, Any]) -> None:
+    """A URIRef that is no IRI, and a Literal with a datatype that no file has, are ValueErrors, a Variable another."""
+    term = pytest.importorskip("rdflib.term")
+    wrong = [term.URIRef(""), term.URIRef("_:b"), term.URIRef('"x"'), term.Literal("x", datatype=term.URIRef('u:"'))]
+    for graph in graphs.values():
+        for it in wrong:
+            with pytest.raises(ValueError, match="no dictionary string is that of"):
+                graph.find(it)
+        with pytest.raises(ValueError, match="None matches any"):
+            graph.find(term.URIRef("?"))
+        with pytest.raises(TypeError, match="not Variable"):
+            graph.find(term.Variable("s"))
+
+
+def test_strings_that_look_like_any() -> None:
+    """If another program's file has them, they are searched for by their IDs."""
+    data = reference.graph([(b"u:a", b"u:p", b""), (b"u:a", b"u:p", b"?"), (b"u:a", b"u:p", b"u:b")]).data
+    with hdt.Graph(data) as graph:
+        for term in ("", "?"):
+            number = graph.number("object", term)
+            assert number is not None and [graph.string("object", o) for _, _, o in graph.find_ids(o=number)] == [term]
+            with pytest.raises(ValueError, match="None matches any"):
+                graph.find(o=term)
+
+
+@pytest.mark.parametrize("module", ["hdt", "tickmarl_hdt"])
+def test_rdflib_is_not_imported(module: str, tmp_path: Path) -> None:
+    """rdflib is not imported by searches; its terms are taken also if the package has only its other name."""
+    if module != "hdt":
+        (tmp_path / "hdt.py").write_text("")
+    code = f"""
+import sys, {module} as hdt
+class Own(str):
+    pass
+wanted = [("u:b", "u:p", "u:a")]
+with hdt.open({str(SAMPLES / "three.hdt")!r}) as graph:
+    for term in (Own("u:b"), hdt.Term("iri", "u:b")):
+        assert list(graph.find(term)) == wanted and "rdflib" not in sys.modules
+    if {importlib.util.find_spec("rdflib") is not None}:
+        from rdflib.term import URIRef
+        assert list(graph.find(URIRef("u:b"))) == wanted
+"""
+    environment = {**ENVIRONMENT, "PYTHONPATH": f"{tmp_path}:{PACKAGE}"}
+    assert program.run([sys.executable, "-c", code], env=environment) == (0, b"", b"")

@@ -12,6 +12,7 @@ from collections.abc import Callable, Iterator
 from itertools import product
 from pathlib import Path
 from typing import Any
+from unittest import mock
 
 import pytest
 from hypothesis import given, settings
@@ -288,6 +289,38 @@ def test_first_triples_are_few() -> None:
         with store.planned():
             next(iter(graph.query("SELECT * { ?a ?p ?b . ?b ?q ?c }")))
         assert len(graph.store.opened.node_term) < 20
+
+
+def test_many_triples(tmp_path: Path) -> None:
+    """A step of a join finds more triples of a pattern than any page or portion has."""
+    count, document = 70_000, tmp_path / "many.nt"
+    document.write_text("".join(f"<u:s{n % 300}> <u:p> <u:o{n}> .\n" for n in range(count)) + "<u:x> <u:q> <u:y> .\n")
+    hdt.build(document, tmp_path / "many.hdt")
+    with HDTStore(tmp_path / "many.hdt") as it:
+        (search,) = it.opened.searches((None, P, None))
+        found = list(it.opened.found(search))
+        assert len(set(found)) == len(found) == count and {p for _, p, _ in found} == {search[1]}
+
+
+def test_terms_take_few_calls() -> None:
+    """The strings of a portion are looked up together."""
+    with stored(chain("a", 3000)) as graph:
+        for call, most in (("string", 10), ("strings", 20)):
+            with mock.patch.object(hdt.Graph, call, autospec=True, side_effect=getattr(hdt.Graph, call)) as counted:
+                assert sum(1 for _ in HDTStore(graph.store.path).triples((None, P, None))) == 3000
+            assert counted.call_count <= most
+
+
+@pytest.mark.parametrize("letters", [1, 4, 5, 31, 32, 33, 60, 250])
+def test_spellings_of_long_tags(letters: int) -> None:
+    """A tag is found in any case, with few calls, however many letters it has."""
+    tag = "-".join("abcdefgh"[:min(8, letters - at)] for at in range(0, letters, 8))
+    with stored([(iri("u:a"), iri("u:p"), tagged("x", tag.title())), (iri("u:b"), iri("u:p"), tagged("x", tag)),
+                 (iri("u:c"), iri("u:p"), tagged("x", tag[:-1] + "z"))]) as graph:
+        number = mock.Mock(side_effect=graph.store.hdt.number)
+        with mock.patch.object(graph.store.opened.graph, "number", number, create=True):
+            found = {s for s, _, _ in graph.triples((None, None, Literal("x", lang=tag.upper())))}
+        assert found == {A, B} and number.call_count <= 16
 
 
 # ---- opening and closing

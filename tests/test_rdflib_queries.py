@@ -13,7 +13,7 @@ import pytest
 from hypothesis import given, settings
 from hypothesis import strategies as st
 
-from support.rdflib_package import hdt, plan, store
+from support.rdflib_package import hdt, join, store
 from support import rdf_graphs as rdf
 from support.rdf_graphs import (XSD, Row, blank, evaluated, from_turtle, iri, plain, rows, stored, tagged, typed,
                                 written)
@@ -90,13 +90,30 @@ def graphs() -> Iterator[list[tuple[Graph, Graph]]]:
         yield [(memory, stack.enter_context(stored(triples))) for memory, triples in both]
 
 
-@pytest.mark.parametrize("name", [*QUERIES, *COUNTS])
+# Queries whose answers rdflib gets wrong. (test_rdflib_answers says what is different else.)
+ONCE = {"path star"}  # a node of a cycle comes twice by rdflib
+NO_GROUPS = {"groups of none", "groups of no triples", "groups of an absent term"}  # rdflib has a group of nothing
+
+
+@pytest.mark.parametrize("name", [it for it in [*QUERIES, *COUNTS] if it != "describe"])
 def test_queries(graphs: list[tuple[Graph, Graph]], name: str) -> None:
     """Queries have the answers that they have over rdflib's store, errors too."""
     query = SPARQL + {**QUERIES, **COUNTS}[name]
     for memory, graph in graphs:
-        wanted = answer(memory, query)
-        assert {mode: under(mode, graph, query) for mode in rdf.MODES} == dict.fromkeys(rdf.MODES, wanted)
+        by_rdflib = wanted = answer(memory, query)
+        if name in ONCE:
+            wanted = wanted[0], Counter(set(wanted[1]))
+        elif name in NO_GROUPS:
+            wanted = wanted[0], Counter()
+        assert under("rdflib", graph, query) == by_rdflib
+        for mode in ("ids", "tables"):
+            assert (mode, under(mode, graph, query)) == (mode, wanted)
+
+
+def some_groups(answer: Any) -> Any:
+    """An answer without the group of nothing that rdflib has."""
+    names, rows = answer
+    return names, Counter({row: count for row, count in rows.items() if row[names.index("n")] != "None"})
 
 
 def under(mode: str, graph: Graph, query: Any, **options: Any) -> Any:
@@ -140,7 +157,10 @@ def test_random_patterns(triples: list[Row], data: st.DataObject) -> None:
                 with rdf.exact():
                     prepared = prepareQuery(query)
                 found = {mode: under(mode, graph, prepared) for mode in rdf.MODES}
-                assert found == dict.fromkeys(rdf.MODES, answer(memory, prepared)), query
+                wanted = answer(memory, prepared)
+                if "GROUP" in query:
+                    found, wanted = {mode: some_groups(it) for mode, it in found.items()}, some_groups(wanted)
+                assert found == dict.fromkeys(rdf.MODES, wanted), query
 
 
 TAGS = ["en", "EN", "en-us", "en-US", "zh-hant-tw", "zh-Hant-TW", "zH-hANT-tw"]
@@ -246,6 +266,8 @@ def test_bindings_of_before(graphs: list[tuple[Graph, Graph]], given_values: dic
     for memory, graph in graphs:
         wanted = answer(memory, SPARQL + query, initBindings=given_values)
         found = {mode: under(mode, graph, SPARQL + query, initBindings=given_values) for mode in rdf.MODES}
+        if "GROUP" in query:
+            found, wanted = {mode: some_groups(it) for mode, it in found.items()}, some_groups(wanted)
         assert found == dict.fromkeys(rdf.MODES, wanted)
 
 
@@ -352,7 +374,7 @@ def test_a_plan_takes_few_searches() -> None:
     with stored(triples) as graph:
         searches = {mode: calls(graph, query, mode)["searches"] for mode in rdf.MODES}
     assert searches["rdflib"] > 300
-    assert searches["terms"] < 10 and searches["ids"] < 10
+    assert searches["ids"] < 10
 
 
 def test_a_join_of_many_takes_few_searches() -> None:
@@ -362,7 +384,7 @@ def test_a_join_of_many_takes_few_searches() -> None:
     with stored(triples) as graph:
         searches = calls(graph, query, "ids")["searches"]
         assert 64 < searches < 300
-        with mock.patch.object(plan, "_MOST_READ", 1_999):
+        with mock.patch.object(join, "_MOST_READ", 1_999):
             assert calls(graph, query, "ids")["searches"] >= 2_000
 
 

@@ -19,8 +19,9 @@ from support.documents import (
     printed, same_lines,
 )
 from support.probe import Answer, Probe, ok
-from support.program import Result, hdt, run
+from support.program import READING_FAILED, WRITING_FAILED, Result, hdt, run
 from support.terms import STEPS, Case, Request, answered, damaged, shortened
+from support.timing import is_linear, measure, timed
 
 GRAPH_NAMES = pytest.mark.parametrize("name", GRAPHS)
 V1 = (SAMPLES / "v1.hdt").read_bytes()
@@ -241,6 +242,23 @@ def test_large_dictionary(tmp_path: Path) -> None:
         assert hdt("number", path, "object", b"<%s>" % strings[n - 1]) == Result(0, b"%d\n" % n, b"")
 
 
+def test_linear_time_with_long_prefixes(tmp_path: Path) -> None:
+    """40,000 strings of each kind share a prefix: one of 500,000 bytes takes little longer than one of 500."""
+    counts_of = {}
+    for length in (500, 500_000):
+        data, counts_of[length] = reference.long_prefixes(3, length, 40_000)
+        (tmp_path / f"{length}.hdt").write_bytes(data)
+
+    def seconds(length: int) -> float:
+        out = tmp_path / "out.hdt"
+        result, taken = timed([PROGRAM, "rewrite", tmp_path / f"{length}.hdt", out, "--block-size", "65535"])
+        assert result == Result(0, b"rewritten %d %d %d %d %d %d\n" % (*counts_of[length], out.stat().st_size), b"")
+        return taken
+
+    measured = measure(lambda: seconds(500), lambda: seconds(500_000), 8, 0.02)
+    assert is_linear(measured, 8, 0.02), measured
+
+
 # ---- errors of the program
 
 def failed(status: int, message: str) -> Result:
@@ -248,7 +266,7 @@ def failed(status: int, message: str) -> Result:
     return Result(status, b"", f"hdt: {message}\n".encode())
 
 
-BAD_OPTIONS, UNREAD, UNWRITTEN = failed(2, "bad options"), failed(3, "reading failed"), failed(3, "writing failed")
+BAD_OPTIONS = failed(2, "bad options")
 CUT = failed(1, "fault 1 Truncated at 291")
 
 
@@ -289,12 +307,12 @@ REFUSED = [
     pytest.param(["--block-size", "0", "v1.hdt", "out.hdt"], BAD_OPTIONS, id="block size 0"),
     pytest.param(["--block-size", "65536", "v1.hdt", "out.hdt"], BAD_OPTIONS, id="block size 65,536"),
     pytest.param(["--block-size", "4294967295", "v1.hdt", "out.hdt"], BAD_OPTIONS, id="block size 2^32 - 1"),
-    pytest.param(["--block-size", "0", "missing.hdt", "out.hdt"], UNREAD, id="no input before bad options"),
-    pytest.param([".", "out.hdt"], UNREAD, id="an input that is a folder"),
-    pytest.param(["v1.hdt", "."], UNWRITTEN, id="an output that is a folder"),
+    pytest.param(["--block-size", "0", "missing.hdt", "out.hdt"], READING_FAILED, id="no input before bad options"),
+    pytest.param([".", "out.hdt"], READING_FAILED, id="an input that is a folder"),
+    pytest.param(["v1.hdt", "."], WRITING_FAILED, id="an output that is a folder"),
     pytest.param(["short.hdt", "."], CUT, id="an error of the file before an output that is a folder"),
     pytest.param(["--block-size", "0", "v1.hdt", "."], BAD_OPTIONS, id="bad options before an output that is a folder"),
-    pytest.param(["v1.hdt", "/dev/full"], UNWRITTEN, id="a full output"),
+    pytest.param(["v1.hdt", "/dev/full"], WRITING_FAILED, id="a full output"),
 ]
 
 
@@ -319,7 +337,7 @@ def test_usage(folder: Path, words: list[str]) -> None:
 def test_line_that_cannot_be_printed(folder: Path) -> None:
     """The file is written before the line that reports it."""
     shell = 'exec "$1" rewrite v1.hdt out.hdt >/dev/full'
-    assert run(["sh", "-c", shell, "sh", PROGRAM], cwd=folder) == UNWRITTEN
+    assert run(["sh", "-c", shell, "sh", PROGRAM], cwd=folder) == WRITING_FAILED
     assert difference((folder / "out.hdt").read_bytes(), V1) == ""
 
 

@@ -2,9 +2,7 @@
 
 from __future__ import annotations
 
-import os
 import re
-import shutil
 import signal
 from collections.abc import Callable, Mapping
 from pathlib import Path
@@ -17,32 +15,23 @@ from reference import hdt as reference
 from reference import ntriples
 from reference.hdt import Strings
 from support import c_files
-from support.built import BUILT, SAMPLES, TOP
+from support.built import SAMPLES, TOP
 from support.c_library import HEADER, declared, file_reasons, succeeds, text_reasons
 from support.probe import spelled
 from support.program import Result, run
 from support.python_package import hdt
+from support.refusing import Refuser, line_out_of_memory, wrong
+from support.rust_crate import (
+    CRATE, DOCUMENT, cargo, cargo_environment, compiled, needs, needs_cargo, printed, programs, user,
+)
 from support.terms import LABEL_EDGES, strings, term_values
 
-CRATE = TOP / "rust"
 FFI, DECLARATIONS = CRATE / "src/ffi.rs", CRATE / "src/header.rs"
-DOCUMENT, README = TOP / "docs/RUST.md", TOP / "README.md"
-CALLS = TOP / "tests/support/rust_calls.rs"
-SECONDS = 600
+README, CALLS = TOP / "README.md", TOP / "tests/support/rust_calls.rs"
 # The older calls with nine parameters, in place of which the crate has those with a pattern.
 REPLACED = {"hdt_find", "hdt_matching", "hdt_text"}
 # At least so many tests does the crate have, with the examples of its comments.
-CASES = 59
-
-
-def needs(*programs: str) -> pytest.MarkDecorator:
-    """Skip a test where a program is missing."""
-    missing = [name for name in programs if not shutil.which(name)]
-    return pytest.mark.skipif(bool(missing), reason=f"there is no {' '.join(missing)}")
-
-
-needs_cargo = needs("cargo", "cc")
-
+CASES = 101
 
 # ---- the declarations
 
@@ -147,7 +136,8 @@ def test_unsafe_code_is_in_one_module() -> None:
         places = [at for at, line in enumerate(lines) if re.search(r"\bunsafe (\{|impl|fn)", line.split("//")[0])]
         assert path == FFI or not places
         for at in places:
-            assert any("// SAFETY: " in line for line in lines[max(0, at - 3) : at]), (path.name, at + 1)
+            said = re.compile("// SAFETY: |/// # Safety")
+            assert any(map(said.search, lines[max(0, at - 3) : at])), (path.name, at + 1)
         if path.parent == FFI.parent and path.name not in ("ffi.rs", "lib.rs"):
             assert "#![forbid(unsafe_code)]" in lines
 
@@ -157,20 +147,8 @@ def test_unsafe_code_is_in_one_module() -> None:
 
 @pytest.fixture(scope="module")
 def environment(tmp_path_factory: pytest.TempPathFactory) -> Mapping[str, str]:
-    """What cargo is run with: a folder for what it makes, which the processes of one run share, and the library."""
-    base = tmp_path_factory.getbasetemp()
-    target = (base.parent if "PYTEST_XDIST_WORKER" in os.environ else base) / "cargo"
-    return {"CARGO_TARGET_DIR": str(target), "CARGO_TERM_COLOR": "never", "HDT_LIB_DIR": str(BUILT)}
-
-
-def cargo(environment: Mapping[str, str], *words: str, cwd: Path = CRATE) -> Result:
-    """Run cargo, which may not use the network."""
-    return run(["cargo", *words], env={**environment, "CARGO_NET_OFFLINE": "true"}, cwd=cwd, seconds=SECONDS)
-
-
-def printed(done: Result) -> str:
-    """What a command printed on both streams."""
-    return (done.out + done.err).decode(errors="replace")
+    """What cargo is run with."""
+    return cargo_environment(tmp_path_factory)
 
 
 @needs_cargo
@@ -200,6 +178,16 @@ def test_cargo_fmt(environment: Mapping[str, str]) -> None:
 
 
 @needs_cargo
+def test_cargo_example(environment: Mapping[str, str]) -> None:
+    """The example measures each kind of work."""
+    done = cargo(environment, "run", "-q", "--offline", "--example", "speed_threads", str(SAMPLES / "three.hdt"), "0.1")
+    assert (done.status, done.err) == (0, b"")
+    _, line, *rows = [line.strip("|").split(" | ") for line in done.out.decode().splitlines()]
+    assert (len(line), len(rows), {len(row) for row in rows}) == (1, 15, {5})
+    assert all(float(row[3]) > 0 for row in rows if row[2] == "1")
+
+
+@needs_cargo
 @needs("rustdoc")
 def test_cargo_doc(environment: Mapping[str, str]) -> None:
     """The reference is made without a warning."""
@@ -210,27 +198,15 @@ def test_cargo_doc(environment: Mapping[str, str]) -> None:
 # ---- a user's program
 
 
-def user(folder: Path, main: str) -> Path:
-    """An empty folder with a program of a user, as docs/RUST.md says."""
-    blocks = re.findall(r"^```toml\n(.*?)^```$", DOCUMENT.read_text(), re.M | re.S)
-    assert len(blocks) == 1 and '"../tickmarl/rust"' in blocks[0]
-    (folder / "src").mkdir(parents=True)
-    package = '[package]\nname = "calls"\nversion = "0.1.0"\nedition = "2021"\n\n'
-    (folder / "Cargo.toml").write_text(package + blocks[0].replace("../tickmarl/rust", str(CRATE)))
-    (folder / "src/main.rs").write_text(main)
-    return folder
-
-
-def programs(document: Path) -> list[str]:
-    """The programs in Rust of a document. (Their language is rs: blocks of rust are Rattle.)"""
-    return re.findall(r"^```rs\n(.*?)^```$", document.read_text(), re.M | re.S)
+# The programs of documents that end, by document and number.
+ENDING = {f"{document.name} {number}": program for document in (DOCUMENT, README)
+          for number, program in enumerate(programs(document)) if "TcpListener" not in program}
 
 
 @needs_cargo
-@pytest.mark.parametrize("name", [it.name for it in (DOCUMENT, README) if programs(it)])
-def test_program_of_a_document(name: str, environment: Mapping[str, str], tmp_path: Path) -> None:
+@pytest.mark.parametrize("program", ENDING.values(), ids=ENDING)
+def test_program_of_a_document(program: str, environment: Mapping[str, str], tmp_path: Path) -> None:
     """The program compiles in an empty folder without a warning, and prints what its comments say."""
-    (program,) = programs(DOCUMENT if name == DOCUMENT.name else README)
     folder = user(tmp_path / "user", program)
     (folder / "samples").symlink_to(SAMPLES)
     own = {**environment, "CARGO_TARGET_DIR": str(folder / "target"), "RUSTFLAGS": "-D warnings"}
@@ -242,13 +218,9 @@ def test_program_of_a_document(name: str, environment: Mapping[str, str], tmp_pa
 
 
 @pytest.fixture(scope="module")
-def calls(environment: Mapping[str, str], tmp_path_factory: pytest.TempPathFactory) -> Path:
+def calls(tmp_path_factory: pytest.TempPathFactory) -> Path:
     """The program tests/support/rust_calls.rs."""
-    folder = user(tmp_path_factory.mktemp("calls") / "user", CALLS.read_text())
-    own = {**environment, "CARGO_TARGET_DIR": str(folder / "target")}
-    done = cargo(own, "build", "-q", "--offline", cwd=folder)
-    assert (done.status, printed(done)) == (0, "")
-    return folder / "target/debug/calls"
+    return compiled(tmp_path_factory, CALLS.read_text())
 
 
 def wanted_lines(path: Path) -> list[str]:
@@ -256,13 +228,13 @@ def wanted_lines(path: Path) -> list[str]:
     try:
         graph = hdt.open(path)
     except hdt.Fault as error:
-        return [str(error)]
+        return [f"fault {error.reason} {error.name} at {error.place}"]
     with graph:
         lines = ["ok " + " ".join(map(str, graph.counts))]
         try:
             hdt.verify(path, tight=True)
         except hdt.Fault as error:
-            lines.append(str(error))
+            lines.append(f"fault {error.reason} {error.name} at {error.place}")
         lines += ["".join(f"{spelled(string.encode())}." for string in triple) for triple in graph]
         lines.append(f"predicates {[count for _, count in graph.predicates()]}")
         try:
@@ -333,6 +305,35 @@ def test_out_of_memory(calls: Path, tmp_path: Path) -> None:
     hdt.build(tmp_path / "graph.nt", tmp_path / "graph.hdt")
     done = run(["sh", "-c", 'ulimit -v 32768 && exec "$@"', "sh", calls, "memory", tmp_path / "graph.hdt"])
     assert done == (0, b"out of memory, out of memory, 8006\n", b"")
+
+
+# The calls that return an error if the library has no memory. A search aborts then, as a `Vec` does.
+FALLIBLE = {*("build", "verify", "verify_tight", "rewrite", "split", "open", "from_bytes", "clone"),
+            *("string", "strings", "page", "text", "page_text")}
+
+
+@needs_cargo
+def test_each_allocation_refused(calls: Path, tmp_path: Path) -> None:
+    """With each allocation refused a call returns the error or aborts, and none returns anything wrong."""
+    document = tmp_path / "document.nt"
+    lines = (f'<u:s{n % 3}> <u:p{n % 2}> "{n}" .\n<u:s{n % 3}> <u:p1> <u:s{n}> .\n' for n in range(10))
+    document.write_text("".join(lines))
+    refusals = Refuser(tmp_path).run([calls, "refused", document])
+    ample = refusals.ample
+    # (before the first line it has not called anything)
+    refusals = refusals._replace(refused=[it for it in refusals.refused if it.printed])
+
+    def name(result: Result) -> str:
+        return line_out_of_memory(result, ample, "Err(OutOfMemory)")
+
+    def is_reported(result: Result) -> bool:
+        aborted = result.status == -signal.SIGABRT and result.err.startswith(b"memory allocation of ")
+        return name(result) != "" or (aborted and ample.out.startswith(result.out))
+
+    # (`build` and `rewrite` allocate their sequences as they grow if a reservation is refused; and the first call on a
+    # graph does without another handle, for each of two graphs.)
+    assert wrong(refusals, is_reported, 6 + 2) == []
+    assert {name(result) for result, _ in refusals.refused} - {""} == FALLIBLE
 
 
 @needs_cargo

@@ -3,9 +3,12 @@
 from __future__ import annotations
 
 import gzip
+import itertools
 import os
 import random
+import re
 import resource
+import shutil
 import signal
 import subprocess
 import time
@@ -20,7 +23,9 @@ from hypothesis import strategies as st
 from reference import ntriples
 from support.built import PROGRAM
 from support.parts import graph_of, parts, split, text_of
-from support.program import READING_FAILED, WRITING_FAILED, Result, Word, done, hdt, hdt_into, run
+from support.program import (OUT_OF_MEMORY, WRITING_FAILED, InputOutputError, Result, Word, done, hdt, hdt_into,
+                             run)
+from support.system_calls import Caller
 
 # Lines of N-Triples, good and bad, with their ends.
 GOOD = [
@@ -178,7 +183,7 @@ def test_inputs_that_cannot_be_read(tmp_path: Path) -> None:
     """A missing input and a folder; an error of an input before comes first."""
     (path,) = write(tmp_path, BAD[0])
     for lost in (tmp_path / "none.nt", tmp_path):
-        reading = Result(3, b"", READING_FAILED.err.replace(b"hdt: ", b"hdt: %s: " % os.fsencode(lost)))
+        reading = Result(3, b"", InputOutputError(b"hdt: %s: reading failed\n" % os.fsencode(lost)))
         assert hdt("split", lost, tmp_path / "parts", "--parts", "2") == reading
         assert hdt("split", path, lost, tmp_path / "parts", "--parts", "2").status == 1
     assert os.listdir(tmp_path) == ["0.nt"]
@@ -236,6 +241,16 @@ def test_a_limited_file_size(tmp_path: Path) -> None:
     assert os.listdir(tmp_path) == ["0.nt"]
 
 
+@pytest.mark.parametrize("descriptors", [4, 5])
+def test_few_descriptors(descriptors: int, tmp_path: Path) -> None:
+    """With too few descriptors writing fails, and nothing is left."""
+    (path,) = write(tmp_path, GOOD[0])
+    limit: list[Word] = ["prlimit", f"--nofile={descriptors}:{descriptors}", "--", PROGRAM]
+    assert run([*limit, "split", path, tmp_path / "parts", "--parts", "2"]) == (
+        WRITING_FAILED if descriptors == 4 else done())
+    assert sorted(os.listdir(tmp_path)) == ["0.nt"] + ["parts"] * (descriptors != 4)
+
+
 def test_more_parts_than_descriptors(tmp_path: Path) -> None:
     """2,000 parts of 100,000 lines, with 16 descriptors."""
     lines = [b"<u:%d> <u:p> <u:%d> .\n" % (random.Random(n).randrange(5_000), n) for n in range(100_000)]
@@ -272,6 +287,112 @@ def test_usage_errors(words: list[str], message: bytes) -> None:
     """Command lines that are refused before anything is read."""
     seen = hdt("split", *words)
     assert (seen.status, seen.out) == (2, b"") and seen.err.startswith(message) and seen.err.endswith(HELP)
+
+
+# ---- the calls of the system that put FOLDER in its place
+
+
+@pytest.fixture(scope="module")
+def caller(tmp_path_factory: pytest.TempPathFactory) -> Caller:
+    """Runs programs and logs the calls that they make."""
+    return Caller(tmp_path_factory.mktemp("calls"))
+
+
+# An input with lines of two parts, and what `split` calls for two of them.
+TWO_PARTS = b"\n".join([*GOOD, *NODES]) + b"\n"
+SYNCED = [*["fsync of another file"] * 2, "fsync folder", "rename"]
+CALLS = ["random", "mkdir 777", *["append 666", "write"] * 4, *SYNCED]
+
+
+def splitting(folder: Path) -> list[Word]:
+    """The command line that splits two inputs into the new folder `parts`."""
+    (path,) = write(folder, TWO_PARTS)
+    return [PROGRAM, "split", path, path, folder / "parts", "--parts", "2", "--blank-nodes", "one"]
+
+
+@pytest.mark.parametrize("size", [0, 2_000_000, 70_000_000], ids=["few triples", "2 MB", "70 MB"])
+def test_the_order_of_calls(size: int, caller: Caller, tmp_path: Path) -> None:
+    """The folder gets its name after all parts, of any size, and the folder were written and synced."""
+    line = b'<u:a> <u:p> "%s" .\n' % (b"x" * 1_000)
+    more, command = size // len(line) // 2, splitting(tmp_path)
+    with open(tmp_path / "0.nt", "ab") as out:
+        out.writelines([line] * more)
+    ended = caller.run(command)
+    assert (ended.result, ended.made[:2], ended.made[-4:]) == (done(), CALLS[:2], SYNCED)
+    assert set(ended.made[2:-4]) == {"append 666", "write"} and len(ended.made) >= len(CALLS)
+    written = sum(it.stat().st_size for it in (tmp_path / "parts").iterdir())
+    assert written == 2 * (sum(map(len, wanted([TWO_PARTS], 2))) + more * len(line))
+    shutil.rmtree(tmp_path)
+
+
+@pytest.mark.parametrize("failing", range(1, len(CALLS) + 1))
+def test_a_call_that_fails(failing: int, caller: Caller, tmp_path: Path) -> None:
+    """Writing fails, and nothing is left; without random numbers the clock gives the name."""
+    ended = caller.run(splitting(tmp_path), failing=failing).result
+    if CALLS[failing - 1] == "random":
+        assert (ended, sorted(os.listdir(tmp_path))) == (done(), ["0.nt", "parts"])
+    else:
+        assert (ended, os.listdir(tmp_path)) == (WRITING_FAILED, ["0.nt"])
+
+
+@pytest.mark.parametrize("killed", range(1, len(CALLS) + 1))
+def test_killed_before_a_call(killed: int, caller: Caller, tmp_path: Path) -> None:
+    """The folder is not there; what is left has another name, and is whole before it gets its own."""
+    command = splitting(tmp_path)
+    assert caller.run(command, killed=killed) == (Result(-signal.SIGKILL, b"", b""), CALLS[:killed])
+    left = [name for name in os.listdir(tmp_path) if name != "0.nt"]
+    assert len(left) == (killed > 2)
+    assert all(re.fullmatch(r"parts\.unfinished-[0-9a-f]{16}", name) for name in left)
+    if killed > len(CALLS) - len(SYNCED):
+        assert found(tmp_path / left[0], 2) == wanted([TWO_PARTS] * 2, 2)
+    assert caller.run(command) == (done(), CALLS)
+
+
+@pytest.mark.parametrize("taken", [1, 2, 900])
+def test_names_that_are_taken(taken: int, caller: Caller, tmp_path: Path) -> None:
+    """If the name of the unfinished folder is taken, another one is tried."""
+    assert caller.run(splitting(tmp_path), taken=taken) == (done(), ["random", "taken"] * taken + CALLS)
+    assert found(tmp_path / "parts", 2) == wanted([TWO_PARTS] * 2, 2)
+
+
+def test_all_names_are_taken(caller: Caller, tmp_path: Path) -> None:
+    """In the end writing fails."""
+    ended = caller.run(splitting(tmp_path), taken=-1)
+    assert (ended.result, set(ended.made)) == (WRITING_FAILED, {"random", "taken"})
+    assert os.listdir(tmp_path) == ["0.nt"]
+
+
+def test_no_memory(caller: Caller, tmp_path: Path) -> None:
+    """With each allocation refused in turn memory runs out, and nothing is left."""
+    command = splitting(tmp_path)
+    for number in itertools.count(1):
+        ended = caller.run(command, refused=number)
+        if "refused" not in ended.made:
+            break
+        assert (number, ended.result, os.listdir(tmp_path)) == (number, OUT_OF_MEMORY, ["0.nt"])
+    assert (ended, number > 50) == ((done(), CALLS), True)
+    assert found(tmp_path / "parts", 2) == wanted([TWO_PARTS] * 2, 2)
+
+
+@pytest.mark.parametrize("streams", ["", "0", "1", "2", "01", "02", "12", "012"])
+def test_no_part_in_the_place_of_a_stream(streams: str, caller: Caller, tmp_path: Path) -> None:
+    """If standard streams are closed, no part is written through their descriptors, where messages go."""
+    closing = " ".join(f"{it}>&-" for it in streams)
+    ended = caller.run(["sh", "-c", f'exec "$0" "$@" {closing}', *splitting(tmp_path)])
+    assert ended == (done(), CALLS)
+    assert found(tmp_path / "parts", 2) == wanted([TWO_PARTS] * 2, 2)
+
+
+@pytest.mark.parametrize("streams", ["0", "1", "2", "012"])
+def test_messages_with_closed_streams(streams: str, tmp_path: Path) -> None:
+    """The message of a faulty input is lost with its stream, and nothing is left; a closed stream cannot be used."""
+    one, other = write(tmp_path, GOOD[0], BAD[0])
+    closing = " ".join(f"{it}>&-" for it in streams)
+    script = f'exec "$0" split "$@" {closing}'
+    ended = run(["sh", "-c", script, PROGRAM, one, other, tmp_path / "parts", "--parts", "2", "--verbose"])
+    assert (ended.status, ended.err != b"", sorted(os.listdir(tmp_path))) == (1, "2" not in streams, ["0.nt", "1.nt"])
+    ended = run(["sh", "-c", script, PROGRAM, one, "-", "--of", "0/1"], stdin=GOOD[0])
+    assert ended.status == (3 if {"0", "1"} & {*streams} else 0)
 
 
 def test_linear_time(tmp_path: Path) -> None:

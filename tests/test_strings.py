@@ -12,9 +12,11 @@ from hypothesis import strategies as st
 from reference import checks
 from reference import hdt as reference
 from reference import ntriples
+from support.built import PROGRAM
 from support.program import READING_FAILED, Result, Word, brief, done, failed, fault, hdt
 from support.search import THREE as THREE_TRIPLES
 from support.search import UNUSED, Triple, escaped
+from support.timing import is_linear, measure, timed
 
 # Shared strings and others of each role that begin with the same bytes, and strings to escape.
 KINDS: list[Triple] = [
@@ -183,3 +185,25 @@ def test_large_graph(tmp_path: Path, block_size: int) -> None:
         for terms in (False, True):
             words: list[Word] = ["--prefix", prefix, *(["--terms"] if terms else [])]
             assert brief(hdt("strings", path, "object", *words)) == brief(listed(strings, "object", prefix, terms))
+
+
+def test_linear_time(tmp_path: Path) -> None:
+    """Strings in one block are listed in linear time: sixteen times as many take far less than 256 times as long."""
+    options: list[list[Word]] = [[], ["--terms"]]
+    lines: dict[int, tuple[bytes, bytes]] = {}
+    for count in (4_000, 64_000):
+        strings = [b'"%06d"' % n for n in range(count)]
+        data = reference.graph([(b"u:s", b"u:p", string) for string in strings], block_size=65_535)[0]
+        (tmp_path / f"{count}.hdt").write_bytes(data)
+        lines[count] = (b"".join(b"%d\t%s\n" % row for row in enumerate(strings, 1)), b"\n".join(strings) + b"\n")
+
+    def seconds(count: int) -> float:
+        total = 0.0
+        for more, wanted in zip(options, lines[count]):
+            result, taken = timed([PROGRAM, "strings", tmp_path / f"{count}.hdt", "object", "--prefix", '"', *more])
+            assert brief(result) == brief(done(wanted))
+            total += taken
+        return total
+
+    measured = measure(lambda: seconds(4_000), lambda: seconds(64_000), 32, 0.02)
+    assert is_linear(measured, 32, 0.02), measured

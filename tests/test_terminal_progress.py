@@ -82,6 +82,17 @@ def test_error_after_progress(tmp_path: Path) -> None:
     assert screen(shown.text, 200) == lines
 
 
+def test_file_as_standard_input(large_document: Path, tmp_path: Path) -> None:
+    """A file has a percentage as standard input, too."""
+    with open(large_document, "rb") as source:
+        shown = on_terminal("build", "-", tmp_path / "out.hdt", stdin=source)
+    *reading, last = texts(shown.text)
+    assert last == f"hdt: sorting, {megabytes(large_document)} MB" and len(reading) == 3
+    pattern = rf"hdt: reading \d+%, \d+ of {megabytes(large_document)} MB"
+    assert [re.fullmatch(pattern, text) is not None for text in reading] == [True] * 3
+    assert screen(shown.text) == []
+
+
 def test_pipe(large_document: Path, tmp_path: Path) -> None:
     """The megabytes that were read of a pipe, as its length is not known."""
     with subprocess.Popen(["cat", large_document], stdout=subprocess.PIPE) as cat:
@@ -162,6 +173,17 @@ def test_requests_typed_by_hand(file: Path) -> None:
         process.stdin.close()
         assert (process.stdout.read(), process.wait()) == (b"20000\n\n", 0)
     os.close(leader)
+
+
+@pytest.mark.parametrize("requests", [b"", b"# nothing\n", b"? ? ?\n", b"<u:none> ? ?\n? ? ?\n", b"x\n"])
+def test_requests_from_a_file(requests: bytes, file: Path, tmp_path: Path) -> None:
+    """After `answer` the terminal shows the answers only."""
+    (tmp_path / "requests").write_bytes(requests)
+    with open(tmp_path / "requests", "rb") as stdin:
+        shown = on_terminal("answer", "--count", file, stdin=stdin, out_too=True)
+    answers = hdt("answer", "--count", file, stdin=requests)
+    assert texts(shown.text)[-1] == f"hdt: indexing, {megabytes(file)} MB"
+    assert (shown.status, screen(shown.text)) == (answers.status, [it for it in answers.out.decode().split("\n") if it])
 
 
 def test_output_that_is_the_terminal(large_document: Path) -> None:

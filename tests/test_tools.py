@@ -15,6 +15,7 @@ from pathlib import Path
 import pytest
 
 from support.built import PROGRAM as BUILT_PROGRAM, SAMPLES, SHARED_LIBRARY, TOP
+from support.formats_mutants import WRONG as FORMATS_WRONG
 from support.package_mutants import Wrong
 from support.parts_mutants import WRONG as PARTS_WRONG
 from support.program import Result, run
@@ -29,7 +30,7 @@ SCRIPTS = ["hdt", "test", "tools/current", "tools/install", "tools/package", ".c
 def test_modules() -> None:
     """All commands are found, and are tested below."""
     checked = {"contracts", "definitions", "differential", "mutants", "promises"}
-    checked |= {"speed", "speed_parts", "speed_python"}
+    checked |= {"memory", "speed", "speed_parts", "speed_python"}
     assert checked | {"build", "dist", "gate"} <= set(MODULES)
 
 
@@ -114,7 +115,8 @@ def test_black() -> None:
     assert [it for it in found("black", "-q", "-l", "120", "--check", "--diff", *files)] == []
 
 
-@pytest.mark.parametrize("package, wrong", [("", PYTHON_WRONG), ("/rdflib", RDFLIB_WRONG), ("/parts", PARTS_WRONG)])
+@pytest.mark.parametrize("package, wrong", [
+    ("", PYTHON_WRONG), ("", FORMATS_WRONG), ("/rdflib", RDFLIB_WRONG), ("/parts", PARTS_WRONG)])
 def test_wrong_bodies_of_packages(package: str, wrong: Wrong) -> None:
     """What each wrong body of a Python package replaces is in its module."""
     sources = {name: (TOP / f"python/hdt{package}/{name}.py").read_text() for name in wrong}
@@ -399,6 +401,40 @@ def test_speed_fails(words: list[str], said: bytes) -> None:
     assert status == 2 and err.startswith(said), err
 
 
+def test_memory() -> None:
+    """A row for each kind of document; a peak below that of the measuring process is not printed as a number."""
+    status, out, err = tool("memory", "--scale", "0.00001", "--program", BUILT_PROGRAM)
+    assert (status, err) == (0, b"")
+    rows = re.findall(r"^\| ([a-z, ]+) \| 59 to 100 \| \d+ \| \d+ (\| \? )+\|$", out.decode(), re.M)
+    assert [name for name, _ in rows] == ["as exported", "people", "many labels", "short, distinct", "long literals"]
+    table = (TOP / "docs/PERFORMANCE.md").read_text()
+    assert [line for line in out.decode().splitlines()[2:4] if line not in table] == []
+    assert [name for name, _ in rows if f"\n| {name} | " not in table] == []
+    assert tool("memory", "--scale", "0")[0] == 2
+    assert tool("memory", "--program", "/nowhere/hdt") == (2, b"", b"memory: /nowhere/hdt is no program\n")
+    assert tool("memory", "--scale", "0.00001", "--program", "/usr/bin/false")[0] == 2
+
+
+def test_memory_is_that_of_the_command(tmp_path: Path) -> None:
+    """What a command takes is measured beyond what the program takes on three triples, and divided by the triples.
+
+    What `dump` takes is in MB, without the file.
+    """
+    code = """
+import sys
+from pathlib import Path
+from tools import memory
+program = Path(sys.argv[1])
+kind = memory.Kind(memory.long_literals, 0)
+print(memory.measure(program, Path(sys.argv[2]), kind, 30_000))
+"""
+    ran = run([sys.executable, "-B", "-c", code, BUILT_PROGRAM, tmp_path], cwd=TOP)
+    text, file, build, opened, *others, verify, dump = eval(ran.out)
+    assert 700 < file < text < 1.2 * file and file - 20 < verify < 1.02 * file and 10 < opened < 50
+    assert all(2 * file < it < 4 * file for it in [build, *others])
+    assert 4 < dump < 60
+
+
 def test_speed_parts() -> None:
     """A row for each way to build, and for each graph that is searched."""
     command = [sys.executable, "-B", "-m", "tools.speed_parts", "300", "--parts", "2"]
@@ -444,8 +480,11 @@ def test_speed_python() -> None:
     status, out, err = run([*command, SAMPLES / "three.hdt"], cwd=TOP, env=library)
     assert (status, err) == (0, b"")
     assert len(re.findall(r"^\| [a-z_, ]+ \| \d+ \| [\d.]+ \|$", out.decode(), re.M)) == 10
+    status, out, err = run([*command, SAMPLES / "three.hdt", "--rounds", "1"], cwd=TOP, env=library)
+    assert (status, err) == (0, b"")
+    assert len(re.findall(r"^\| [a-z_, 0-9]+( \| [\d,]+){3} \| [\d.]+ \|$", out.decode(), re.M)) == 5
     status, _, err = run([*command, TOP / "README.md"], cwd=TOP, env=library)
-    assert (status, err) == (2, b"speed_python: fault 4 NotHdt at 0\n")
+    assert (status, err) == (2, f"speed_python: {TOP}/README.md: fault 4 NotHdt at 0\n".encode())
 
 
 def test_speed_python_without_its_library(tmp_path: Path) -> None:

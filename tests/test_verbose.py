@@ -2,8 +2,10 @@
 
 from __future__ import annotations
 
+import os
 import subprocess
 from pathlib import Path
+from typing import NamedTuple
 
 import pytest
 
@@ -26,13 +28,14 @@ def on_terminal(*words: Word, cwd: Path) -> list[str]:
 def verbose(*words: Word, cwd: Path, stdin: bytes = b"", columns: int = 80) -> list[str]:
     """Run the program with `--verbose`; return the lines that it prints on standard error.
 
-    The first is what it prints without `--verbose`, and so are the exit status and standard output.
+    Without `--verbose` it prints the first and at most one of the others, and status and standard output are the same.
     """
     env = {"COLUMNS": str(columns)}
     plain = hdt(*words, cwd=cwd, stdin=stdin, env=env)
     more = hdt(words[0], "--verbose", *words[1:], cwd=cwd, stdin=stdin, env=env)
-    lines = more.err.splitlines(keepends=True)
-    assert Result(more.status, more.out, b"".join(lines[:1])) == plain
+    lines, short = more.err.splitlines(keepends=True), plain.err.splitlines(keepends=True)
+    assert (more.status, more.out, lines[:1]) == (plain.status, plain.out, short[:1])
+    assert len(short) <= 2 and set(short[1:]) <= set(lines[1:])
     assert all(line.startswith(b"  ") and line.endswith(b"\n") for line in lines[1:])
     return more.err.decode().splitlines()
 
@@ -53,6 +56,20 @@ def test_missing_file(tmp_path: Path) -> None:
     wanted = ["hdt: reading failed", "  nope.hdt: No such file or directory"]
     assert verbose("verify", "nope.hdt", cwd=tmp_path) == wanted
     assert verbose("build", "nope.hdt", "out.hdt", cwd=tmp_path) == wanted
+
+
+@pytest.mark.parametrize("path, reason", [
+    ("nope.nt", "No such file or directory"), ("in.nt/x", "Not a directory"), ("x" * 300, "File name too long")])
+@pytest.mark.parametrize("before", [0, 1, 2])
+@pytest.mark.parametrize("output", [("--of", "0/1"), ("parts", "--parts", "2")], ids=["printed", "in a folder"])
+def test_missing_input_of_split(output: tuple[str, ...], before: int, path: str, reason: str, tmp_path: Path) -> None:
+    """The path and the reason of an input that is missing, first or after others."""
+    (tmp_path / "in.nt").write_bytes(LINE)
+    inputs = ["in.nt"] * before + [path, "in.nt"]
+    wanted = [f"hdt: {path}: reading failed", f"  {path}: {reason}"]
+    assert verbose("split", *inputs, *output, cwd=tmp_path) == wanted
+    assert on_terminal("split", *inputs, *output, cwd=tmp_path) == wanted
+    assert [it.name for it in tmp_path.iterdir()] == ["in.nt"]
 
 
 def test_folder(tmp_path: Path) -> None:
@@ -102,6 +119,25 @@ def test_closed_streams(tmp_path: Path) -> None:
     assert ended(piped) == b"hdt: writing failed\n  standard output: Broken pipe\n"
 
 
+# What `split` cannot read or write: the script, and the line that follows the message.
+SPLIT_REASONS = {
+    "a folder as input": ('"$0" split --verbose . --of 0/1', ".: Is a directory"),
+    "a folder as the second input": ('"$0" split --verbose in.nt . parts --parts 2', ".: Is a directory"),
+    "no folder for FOLDER": ('"$0" split --verbose in.nt no/parts --parts 2', "no/parts: No such file or directory"),
+    "a full disk": ('"$0" split --verbose in.nt --of 0/1 >/dev/full', "standard output: No space left on device"),
+    "closed output": ('"$0" split --verbose in.nt --of 0/1 >&-', "standard output: Bad file descriptor"),
+    "a limit": ('trap "" XFSZ; ulimit -f 0; "$0" split --verbose in.nt parts --parts 2', "parts: File too large"),
+}
+
+
+@pytest.mark.parametrize("script, line", SPLIT_REASONS.values(), ids=SPLIT_REASONS)
+def test_reasons_of_split(script: str, line: str, tmp_path: Path) -> None:
+    """The reason of the system, whatever fails."""
+    (tmp_path / "in.nt").write_bytes(LINE)
+    ran = subprocess.run(["sh", "-c", script, HDT], cwd=tmp_path, capture_output=True, timeout=60, check=False)
+    assert (ran.returncode, ran.stderr.decode().splitlines()[1:]) == (3, [f"  {line}"])
+
+
 # ---- errors of documents
 
 
@@ -138,7 +174,7 @@ def test_standard_input(path: str, tmp_path: Path) -> None:
     assert lines[2:] == ["  <u:a>", "       ^", *explained("Syntax", "text")]
 
 
-@pytest.mark.parametrize("before", [0, 1, 3000, 3276, 3277, 3278, 40_000])
+@pytest.mark.parametrize("before", [0, 1, 3000, 3276, 3277, 3278, 40_000, 70_000])
 @pytest.mark.parametrize("end", [b"\n", b"\r\n"])
 def test_line_of_a_pipe(before: int, end: bytes, tmp_path: Path) -> None:
     """The line of a pipe is that of the document, wherever it is in the pieces that are read."""
@@ -170,6 +206,86 @@ def test_named_pipe(tmp_path: Path) -> None:
     ran = subprocess.run(["bash", "-c", '"$0" build --verbose <(printf "# one\\nx\\n") out.hdt', HDT], cwd=tmp_path,
                          capture_output=True, check=False)
     assert ran.stderr.decode().splitlines()[2:4] == ["  x", "  ^"]
+
+
+# Documents with an error past 2^16 and past 2^20: its line and column, and the document from the wrong byte on.
+BAD = b"<u:a> <u:p> <b> ."
+FAR: dict[str, tuple[int, int, bytes]] = {
+    "line 70,001": (70_001, 13, BAD[12:]),
+    "line 1,100,001": (1_100_001, 13, BAD[12:]),
+    "column 70,014": (3, 70_014, b'\\q" .'),
+    "column 1,100,014": (3, 1_100_014, b'\\q" .'),
+}
+# How a document is given: the script, and the path of it in the message; whether `split` names it before the line; and
+# whether the line is shown.
+GIVEN: dict[str, tuple[str, str, bool, bool]] = {
+    "a file": ('"$0" build --verbose far.nt out.hdt', "far.nt", False, True),
+    "a pipe": ('cat far.nt | "$0" build --verbose - out.hdt', "-", False, True),
+    "a file as standard input": ('"$0" build --verbose /dev/stdin out.hdt <far.nt', "/dev/stdin", False, True),
+    "a named pipe": ('timeout 60 dd if=far.nt of=pipe status=none & "$0" build --verbose pipe out.hdt', "pipe", False,
+                     True),
+    "an input of split": ('"$0" split --verbose far.nt parts --parts 2', "far.nt", True, True),
+    "the second input of split": ('"$0" split --verbose near.nt far.nt parts --parts 2', "far.nt", True, True),
+    "the second input of split, printed": ('"$0" split --verbose near.nt far.nt --of 0/1', "far.nt", True, True),
+    "the third input of split": ('"$0" split --verbose near.nt - far.nt --of 1/2 <near.nt', "far.nt", True, True),
+    # (`split` shows no line of standard input or of a pipe, as the man page says)
+    "a pipe as an input of split": ('cat far.nt | "$0" split --verbose - near.nt --of 0/1', "-", True, False),
+    "a file as standard input of split": ('"$0" split --verbose - --of 0/1 <far.nt', "-", True, False),
+    "a pipe after an input of split": ('cat far.nt | "$0" split --verbose near.nt - --of 0/1', "-", True, False),
+}
+
+
+def far_document(line: int, column: int, rest: bytes) -> bytes:
+    """A document whose error in this line and column begins with these bytes; the lines around it are others."""
+    front = b"<u:a> <u:p> " if column == 13 else b'<u:a> <u:p> "' + b"x" * (column - 14)
+    before = LINE if line < 100_000 else b"\n"
+    return before * (line - 2) + b"# before\n" + front + rest + b"\n# after\n"
+
+
+class Far(NamedTuple):
+    """A folder with a document whose error is far from its start, one without an error, and a pipe; and that error."""
+
+    folder: Path
+    line: int
+    column: int
+    rest: bytes
+
+
+@pytest.fixture(scope="module", params=FAR)
+def far(request: pytest.FixtureRequest, tmp_path_factory: pytest.TempPathFactory) -> Far:
+    """A document whose error is far from its start."""
+    folder, error = tmp_path_factory.mktemp("far"), FAR[request.param]
+    (folder / "far.nt").write_bytes(far_document(*error))
+    (folder / "near.nt").write_bytes(b"# 1\n" + LINE * 70_010)
+    os.mkfifo(folder / "pipe")
+    return Far(folder, *error)
+
+
+@pytest.mark.parametrize("how", GIVEN)
+def test_far_error(how: str, far: Far) -> None:
+    """An error far from the start of a document, however this is given: path, numbers, line and mark are right."""
+    folder, line, column, rest = far
+    script, path, named, is_shown = GIVEN[how]
+    ran = subprocess.run(["sh", "-c", script, HDT], cwd=folder, stdout=subprocess.DEVNULL, stderr=subprocess.PIPE,
+                         stdin=subprocess.DEVNULL, env={**os.environ, "COLUMNS": "80"}, timeout=60, check=False)
+    number, name = (4, "RelativeIri") if column == 13 else (3, "BadEscape")
+    front, place, *more = ran.stderr.decode().splitlines()
+    assert (ran.returncode, place) == (1, f"  {path}:{line}:{column}")
+    assert front == f"hdt: {path + ': ' if named else ''}line {line} column {column}: {number} {name}"
+    if is_shown:
+        shown, mark, *more = more
+        assert mark.strip() == "^" and shown[mark.index("^"):] == rest.decode()
+        assert column > 13 or shown == f"  {BAD.decode()}"
+    assert more == explained(name, "text")
+
+
+def test_hint_for_the_second_input(tmp_path: Path) -> None:
+    """The hint is that of the input with the error."""
+    (tmp_path / "in.nt").write_bytes(LINE)
+    (tmp_path / "in.ttl").write_bytes(TURTLE)
+    (tmp_path / "in.hdt").write_bytes((SAMPLES / "three.hdt").read_bytes())
+    for name, hint in (("in.ttl", "Turtle"), ("in.hdt", "an HDT file")):
+        assert hint in verbose("split", "in.nt", name, "--of", "0/1", cwd=tmp_path)[-1]
 
 
 @pytest.mark.parametrize("front, hint", [
@@ -258,6 +374,26 @@ def test_unused(role: str, place: int, block_size: int, tmp_path: Path) -> None:
     assert tight_error(data, tmp_path) == [f"  {role} {place + 1}: {unused.decode()}"]
 
 
+# The ID of a string past 2^16.
+FAR_ID = 70_001
+
+
+def test_far_unused_string(tmp_path: Path) -> None:
+    """The string that no triple uses is shown, whatever its ID is."""
+    objects = [b"u:o%06d" % n for n in range(1, FAR_ID + 1)]
+    triples = [(b"u:s", b"u:p", it) for it in objects[:-1]]
+    data = model.loose(triples, [b"u:s"], [b"u:p"], objects).data
+    assert tight_error(data, tmp_path) == [f"  object {FAR_ID}: u:o0{FAR_ID}"]
+
+
+def test_far_string_of_no_term(tmp_path: Path) -> None:
+    """So is the one that is not a term."""
+    objects = [b"u:o%06d" % n for n in range(1, FAR_ID)] + [b"x"]
+    (tmp_path / "bad.hdt").write_bytes(model.graph([(b"u:s", b"u:p", it) for it in objects]).data)
+    lines = verbose("strings", "bad.hdt", "object", "--terms", "--prefix", "x", cwd=tmp_path)
+    assert lines[:3] == [f"hdt: object {FAR_ID} is not a term", "  bad.hdt", f"  object {FAR_ID}: x"]
+
+
 def test_shared_string_used_once(tmp_path: Path) -> None:
     """A shared string has its ID as subject."""
     data = model.loose([(b"u:b", b"u:p", b"u:c")], [b"u:b", b"u:c"], [b"u:p"], [b"u:b", b"u:c"]).data
@@ -302,7 +438,8 @@ def test_no_hint_for_a_prefix_that_finds_something(tmp_path: Path) -> None:
 
 
 @pytest.mark.parametrize("words", [("verify", "nope.hdt"), ("build", "in.nt", "out.hdt"), ("answer", "nope.hdt"),
-                                   ("number", SAMPLES / "v1.hdt", "subject", "<u:none>")])
+                                   ("number", SAMPLES / "v1.hdt", "subject", "<u:none>"),
+                                   ("split", SAMPLES / "v1.nt", "in.nt", "--of", "0/1")])
 def test_terminal(words: tuple[Word, ...], tmp_path: Path) -> None:
     """On a terminal the lines are those of `--verbose`."""
     (tmp_path / "in.nt").write_bytes(TURTLE)

@@ -12,13 +12,11 @@ import pytest
 
 from reference import hdt as model
 from support.built import PROGRAM, SAMPLES
-from support.program import SECONDS, Result, Word, hdt, run
+from support.program import READING_FAILED, SECONDS, WRITING_FAILED, Result, Word, hdt, run
 
 V1 = (SAMPLES / "v1.hdt").read_bytes()
 THREE = (SAMPLES / "three.hdt").read_bytes()
 
-READING_FAILED = Result(3, b"", b"hdt: reading failed\n")
-WRITING_FAILED = Result(3, b"", b"hdt: writing failed\n")
 NO_SUCH_NUMBER = Result(1, b"", b"hdt: no such number\n")
 
 # What `head` prints of the sample: five lines, and the header body.

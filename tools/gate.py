@@ -29,7 +29,8 @@ from tools.repository import TOP, NoKit, kit, kit_line
 Counts = tuple[int, int]
 
 # What checks the scripts and packages; a user who runs the tests does without.
-MORE_PACKAGES = "aspell aspell-en codespell flake8 git lintian mypy python3-typeshed raptor2-utils serdi shellcheck"
+MORE_PACKAGES = """aspell aspell-en codespell flake8 git lintian mypy python3-typeshed raptor2-utils serdi shellcheck
+    default-jdk-headless libapache-jena-java libjna-java junit5 python3-tqdm python3-zstandard zstd"""
 
 
 def run(*words: str, env: Mapping[str, str] | None = None) -> Counts:

@@ -24,7 +24,7 @@ import subprocess
 import sys
 import tempfile
 import time
-from collections.abc import Callable, Iterator, Sequence
+from collections.abc import Callable, Iterable, Iterator, Sequence
 from pathlib import Path
 from typing import NamedTuple, Union
 
@@ -187,7 +187,7 @@ REQUESTS = {
 MOST_LINES_TO_ANSWER = 1_000_000
 
 
-def write_document(path: Path, lines: Callable[[int], list[str]], count: int) -> str:
+def write_document(path: Path, lines: Callable[[int], Iterable[str]], count: int) -> str:
     """Write a document, and return its middle line."""
 
     def work() -> None:

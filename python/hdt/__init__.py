@@ -10,42 +10,51 @@
 
 A term is a dictionary string everywhere, as `str`: an IRI without its brackets (`http://a/b`), a blank node with its
 label (`_:b`), a literal with its quotes and without escapes, followed by nothing, a tag or a datatype (`"x"`, `"x"@en`,
-`"1"^^<http://www.w3.org/2001/XMLSchema#integer>`). A search for `<http://a/b>`, with brackets, raises ValueError.
+`"1"^^<http://www.w3.org/2001/XMLSchema#integer>`). Calls also take a `Term`, or a URIRef, BNode or Literal of rdflib,
+for its string. A search for `<http://a/b>`, with brackets, or for `""` or `"?"` raises ValueError: None is any.
 `Term` takes such a string apart, and makes N-Triples of it and back. `Graph.text` gives N-Triples.
+
+Threads may share a graph: their calls run at the same time.
 
 A role is `"subject"`, `"predicate"` or `"object"`; another one raises ValueError. The strings of a role have IDs from
 1, by which triples are found and counted, too.
 
 Files of 64 MiB and more are mapped, not read (`open` says more): such a file must not change while a graph of it is
 open or a call reads it. Exceptions: `Fault` (the file is not valid), `LineFault` (the text isn't N-Triples),
-`NoTriples`, `NotATerm`, all of them ValueError; MemoryError; OSError of files. After an exception a graph is as it
-was.
+`NoTriples`, all three with the `path`, `NotATerm`, all of them ValueError; MemoryError; OSError of files. After an
+exception a graph is as it was.
 
-`__version__` is the version of the package, `LIBHDT_VERSION` that of the library, as "1.1".
+`__version__` is the version of the package, `LIBHDT_VERSION` that of the library, as "1.2".
 """
 
 from __future__ import annotations
 
+from ._build import build
 from ._calls import Counts, Path, Role
-from ._faults import Fault, LineFault, NotATerm, NoTriples
-from ._files import build, rewrite, verify
-from ._graph import Graph, open
+from ._faults import ConversionFault, Fault, LineFault, NoConverter, NotATerm, NoTriples
+from ._files import rewrite, verify
+from ._graph import Graph
 from ._ids import IdArray
 from ._library import VERSION
+from ._merging import merge
+from ._opening import open
 from ._terms import Term
 
 __all__ = [
+    "ConversionFault",
     "Counts",
     "Fault",
     "Graph",
     "IdArray",
     "LineFault",
+    "NoConverter",
     "NoTriples",
     "NotATerm",
     "Path",
     "Role",
     "Term",
     "build",
+    "merge",
     "open",
     "rewrite",
     "verify",

@@ -11,15 +11,16 @@ from typing import Any, Literal, NamedTuple, Optional, Union
 from . import _library
 from ._faults import Fault, LineFault, NoTriples
 from ._library import Report
+from ._terms import Term, string_of
 
 Path = Union[str, bytes, "os.PathLike[str]", "os.PathLike[bytes]"]
 Role = Literal["subject", "predicate", "object"]
 IdTriple = tuple[int, int, int]
 StringTriple = tuple[str, str, str]
-# A place of a pattern: a dictionary string, or any.
-Given = Optional[str]
+# A place of a pattern: a dictionary string, a term that has one, or any.
+Given = Union[str, Term, None]
 # The same, or the ID of a string in the role of the place.
-Part = Union[str, int, None]
+Part = Union[str, Term, int, None]
 
 ROLES: tuple[Role, Role, Role] = ("subject", "predicate", "object")
 _PARTS = struct.Struct("IQQQ" * 3)  # an hdt_pattern
@@ -50,11 +51,17 @@ def role_number(role: Role) -> int:
         raise ValueError(f"no such role: {role!r}") from None
 
 
-def encoded(term: str) -> bytes:
-    """A term's bytes. One that isn't Unicode, as half of a pair, gets bytes that no term has."""
-    if not isinstance(term, str):
-        raise TypeError(f"a term is a str, not {type(term).__name__}")
-    return term.encode("utf-8", "surrogatepass")
+def encoded(text: str) -> bytes:
+    """A text's bytes. One that isn't Unicode, as half of a pair, gets bytes that no string of a file has."""
+    if not isinstance(text, str):
+        raise TypeError(f"a str is wanted, not {type(text).__name__}")
+    return text.encode("utf-8", "surrogatepass")
+
+
+def triple_of(it: object) -> Optional[tuple[Given, Given, Given]]:
+    """Three terms; None for anything else."""
+    is_triple = isinstance(it, tuple) and len(it) == 3 and all(isinstance(term, (str, Term)) for term in it)
+    return it if is_triple else None  # type: ignore[return-value]
 
 
 def is_bracketed(term: str) -> bool:
@@ -71,33 +78,40 @@ class Pattern(NamedTuple):
     """A pattern as calls take it: the bytes of an hdt_pattern, which point to the strings, and its parts."""
 
     packed: bytes
-    parts: tuple[Part, Part, Part]
+    parts: list[Union[str, int, None]]
     strings: list[array.array[int]]
 
 
-def pattern_of(s: Part, p: Part, o: Part) -> Pattern:
-    """The pattern of three parts: strings, IDs or any. An ID of no string matches nothing. Raises TypeError."""
+def pattern_of(*given: Part) -> Pattern:
+    """The pattern of three parts: terms, IDs or any. An ID of no string matches nothing.
+
+    Raises TypeError, and ValueError for what is no term, but looks like any.
+    """
     fields: list[int] = []
+    parts: list[Union[str, int, None]] = []
     strings = []
-    for part in (s, p, o):
+    for part in given:
         if part is None:
             fields += _ANY
-        elif isinstance(part, str):
-            string = array.array("B", encoded(part) + b"\0")  # (an empty array has no address)
-            strings.append(string)
+            parts.append(None)
+        elif isinstance(part, (str, Term)):
+            term = string_of(part)
+            if term in ("", "?"):
+                raise ValueError(f"{term!r} is not a term: None matches any")
+            string = array.array("B", encoded(term) + b"\0")  # (an empty array has no address)
             fields += (_library.STRING, 0, string.buffer_info()[0], len(string) - 1)
+            parts.append(term)
+            strings.append(string)
         else:
             number = operator.index(part)
             fields += (_library.ID, number if 0 <= number < 2**64 else 0, _ADDRESS, 0)
-    return Pattern(_PARTS.pack(*fields), (s, p, o), strings)
+            parts.append(number)
+    return Pattern(_PARTS.pack(*fields), parts, strings)
 
 
-def matched(s: Given, p: Given, o: Given) -> Pattern:
-    """The pattern of three terms, of which None is any. Raises TypeError for anything but a str."""
-    for term in (s, p, o):
-        if not (term is None or isinstance(term, str)):
-            raise TypeError(f"a term is a str, not {type(term).__name__}")
-    return pattern_of(s, p, o)
+def matched(*given: Given) -> Pattern:
+    """The pattern of three terms, of which None is any. It raises what `pattern_of` raises."""
+    return pattern_of(*(None if term is None else string_of(term) for term in given))
 
 
 def window(start: int, limit: Optional[int]) -> tuple[int, Optional[int]]:
@@ -116,8 +130,8 @@ def closed() -> ValueError:
     return ValueError("the graph is closed")
 
 
-def counts_of(answer: Any) -> Counts:
-    """The counts of a verdict or report that is done; else what its reason is, as an exception."""
+def counts_of(answer: Any, path: Optional[Path] = None) -> Counts:
+    """The counts of a verdict or report that is done; else what its reason is, as an exception, with the path."""
     if answer.reason == _library.DONE:
         return Counts(*answer.counts)
     if answer.reason == _library.OUT_OF_MEMORY:
@@ -126,8 +140,9 @@ def counts_of(answer: Any) -> Counts:
         raise ValueError(
             "the base is not an absolute IRI" if isinstance(answer, Report) else "the block size isn't 1 to 65535"
         )
+    name = None if path is None else os.fsdecode(path)
     if answer.reason == _library.NO_TRIPLES:
-        raise NoTriples("no triples")
+        raise NoTriples(path=name)
     if isinstance(answer, Report):
-        raise LineFault(answer.reason, answer.line, answer.column)
-    raise Fault(answer.reason, answer.place)
+        raise LineFault(answer.reason, answer.line, answer.column, name)
+    raise Fault(answer.reason, answer.place, name)

@@ -8,12 +8,11 @@ from itertools import chain, repeat
 from operator import itemgetter
 from typing import Optional
 
-from ._calls import Given, Pattern, StringTriple
+from ._calls import Pattern, StringTriple
 from ._handle import OpenHandle
 
 _FEW = 4  # the first triples of a search, whose strings are looked up one by one
-_LEAST = 4_096  # triples whose strings are looked up at once, or more in large graphs,
-_MOST = 65_536  # and as long as their strings take little memory
+_MOST = 65_536  # triples whose strings are looked up at once at most, or more in large graphs
 _BYTES = 16 * 1024 * 1024  # of strings, as str counts them; a portion with more is followed by a smaller one
 _WHOLE = 16  # a role is looked up whole if it has at most so many strings for each triple of a portion,
 _WHOLE_OF_ALL = 4  # so many for each match,
@@ -28,13 +27,13 @@ class Columns:
     once and kept, as a list by ID.
     """
 
-    def __init__(self, graph: OpenHandle, given: tuple[Given, Given, Given], pattern: Pattern) -> None:
+    def __init__(self, graph: OpenHandle, pattern: Pattern) -> None:
         counts = graph._counts
         self._graph, self._pattern = graph, pattern
         self._matches: Optional[int] = None  # as soon as they are counted
-        self._given = [None if term is None else str.__str__(term) for term in given]
+        self._given = [part if isinstance(part, str) else None for part in pattern.parts]
         self._counts = (counts.shared + counts.subjects, counts.predicates, counts.shared + counts.objects)
-        self._least = max(_LEAST, sum(counts[1:]) // 64)
+        self._least = max(sum(counts[1:]) // 64, 1)
         self._whole: list[Optional[list[str]]] = [None, None, None]
         self._too_large = [False, False, False]
         self._limit: Optional[int] = None
@@ -55,10 +54,10 @@ class Columns:
                 s, p, o = (self._column(role, portion[role::3]) for role in range(3))
                 yield zip(s, p, o)
                 del s, p, o  # (so that there are never two portions)
-                if self._taken < _BYTES:
-                    size = min(4 * size, most)
-                else:
+                if self._taken >= _BYTES:
                     size = max(size // 4, self._least)
+                elif len(portion) == 3 * size:  # (and not the rest of a page, which says little)
+                    size = min(4 * size, most)
 
     def _column(self, role: int, ids: array.array[int]) -> Iterable[str]:
         """The strings of these IDs of a role, which are all there."""
@@ -94,8 +93,7 @@ class Columns:
         if count > size and (count > _WHOLE * size or count > _WHOLE_OF_ALL * self._expected()):
             return None
         whole, taken = [""], 0
-        for first in range(1, count + 1, _LEAST):
-            strings = self._graph._strings(role, range(first, min(first + _LEAST, count + 1))) or []
+        for strings in self._graph._portions_of_all(role, count):
             taken += sum(map(len, strings))
             if taken > _WHOLE_BYTES:
                 self._too_large[role] = True

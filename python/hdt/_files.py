@@ -1,7 +1,8 @@
-"""Files: how they are read or mapped, verified, built, rewritten and replaced."""
+"""Files: how they are read or mapped, verified, rewritten and replaced."""
 
 from __future__ import annotations
 
+import contextlib
 import errno
 import io
 import mmap
@@ -13,6 +14,7 @@ from typing import Any, NamedTuple, Optional
 
 from ._calls import Counts, Path, counts_of, encoded
 from ._library import Lent, Made, Report, Verdict, library
+from ._lines import LongestLine
 
 _MAPPED = 64 * 1024 * 1024  # bytes: files of this size and more are mapped
 
@@ -25,11 +27,13 @@ class Identity(NamedTuple):
     modified: int
 
 
-def data_of(path: Path, copy: Optional[bool] = None) -> tuple[Any, Optional[Identity]]:
+def data_of(
+    path: Path, copy: Optional[bool] = None, lines: Optional[LongestLine] = None
+) -> tuple[Any, Optional[Identity]]:
     """The bytes of a file, and its identity if it is a regular one.
 
     It is read if `copy` says so or it can't be mapped, as a pipe or an empty file, else mapped. Where `copy` is None,
-    files under 64 MiB are read. Raises OSError.
+    files under 64 MiB are read. `lines` checks the lines of a text meanwhile. Raises OSError, and what `lines` raises.
     """
     with io.open(path, "rb") as file:
         there = os.fstat(file.fileno())
@@ -37,8 +41,11 @@ def data_of(path: Path, copy: Optional[bool] = None) -> tuple[Any, Optional[Iden
         identity = Identity(there.st_ino, there.st_size, there.st_mtime_ns) if is_regular else None
         copied = there.st_size < _MAPPED if copy is None else copy
         if not copied and is_regular and there.st_size:
-            return mmap.mmap(file.fileno(), 0, access=mmap.ACCESS_READ), identity
-        return file.read(), identity
+            data = mmap.mmap(file.fileno(), 0, access=mmap.ACCESS_READ)
+            if lines is not None:
+                lines.check(data)
+            return data, identity
+        return file.read() if lines is None else lines.read(file), identity
 
 
 def _umask() -> int:
@@ -65,28 +72,47 @@ def _create_beside(path: str) -> tuple[int, str]:
             raise OSError(error.errno, error.strerror, path) from None  # (the caller knows nothing of the other name)
 
 
-def _replace(path: Path, data: memoryview) -> None:
+def _take_over(descriptor: int, target: str) -> None:
+    """Give a new file, which nobody else can read, the group and the permissions of the file that it will replace.
+
+    The setuid, setgid and sticky bits are not taken over. If this process may not give the group, the group that the
+    file has then and others get what both had: so nobody who was kept out is let in. (The group is given first, as the
+    permissions of a group would be those of another one meanwhile.) If there is no file, the umask decides.
+    """
+    try:
+        replaced = os.stat(target)
+    except FileNotFoundError:
+        os.fchmod(descriptor, 0o666 & ~_umask())
+        return
+    with contextlib.suppress(OSError):
+        os.fchown(descriptor, -1, replaced.st_gid)
+    mode = replaced.st_mode & 0o777
+    if os.fstat(descriptor).st_gid != replaced.st_gid:
+        both = mode >> 3 & mode & 0o7
+        mode = mode & 0o700 | both << 3 | both
+    os.fchmod(descriptor, mode)
+
+
+def replace(path: Path, data: memoryview) -> None:
     """Replace the file at a path by one with these bytes; a device or a pipe is written to.
 
-    A new file beside it is handed to the disk, gets the permissions of the one that it replaces, and then takes its
-    name. On failure the old file is unchanged.
+    A new file beside it is handed to the disk, takes over from the one that it replaces, and then takes its name. On
+    failure the old file is unchanged.
     """
     target = os.path.realpath(os.fsdecode(path))
     if os.path.islink(target):
         raise OSError(errno.ELOOP, os.strerror(errno.ELOOP), os.fsdecode(path))
-    replaced = os.stat(target) if os.path.exists(target) else None
-    if replaced and not stat.S_ISREG(replaced.st_mode):
+    if os.path.exists(target) and not os.path.isfile(target):
         with io.open(target, "wb") as there:
             there.write(data)
         return
-    mode = stat.S_IMODE(replaced.st_mode) if replaced else 0o666 & ~_umask()
     descriptor, beside = _create_beside(target)
     try:
         with io.open(descriptor, "wb") as file:
             file.write(data)
             file.flush()
             os.fsync(descriptor)
-            os.fchmod(descriptor, mode)
+            _take_over(descriptor, target)
         os.replace(beside, target)
     except BaseException:
         os.unlink(beside)
@@ -122,10 +148,10 @@ def verify(path: Path, tight: bool = False) -> Counts:
     call = library.hdt_verify_tight if tight else library.hdt_verify
     with Lent(data_of(path)[0]) as lent:
         call(lent.address, lent.size, verdict)
-    return counts_of(verdict)
+    return counts_of(verdict, path)
 
 
-def _are_one(path: Path, other: Path) -> bool:
+def are_one(path: Path, other: Path) -> bool:
     """Whether two paths lead to one regular file."""
     try:
         there, here = os.stat(path), os.stat(other)
@@ -134,33 +160,25 @@ def _are_one(path: Path, other: Path) -> bool:
     return stat.S_ISREG(there.st_mode) and os.path.samestat(there, here)
 
 
-def built(text: Any, made: Made, base: str, block_size: int) -> Counts:
-    """Build the file of the bytes of a text, and return its counts. Raises what `build` raises, but OSError."""
+def built(text: Any, made: Made, base: str, block_size: int, path: Optional[Path] = None) -> Counts:
+    """Build the file of the bytes of a text, and return its counts. Raises what `build` raises, but OSError.
+
+    Errors have the path of the text.
+    """
     report, name = Report(), encoded(base)
     with Lent(text) as lent:
         library.hdt_build(lent.address, lent.size, name, len(name), _checked(block_size), made, report)
-    return counts_of(report)
+    return counts_of(report, path)
 
 
-def build(nt_path: Path, out_path: Path, base: str = "http://example.org/dataset", block_size: int = 16) -> Counts:
-    """Build the HDT file of an N-Triples file, and return its counts.
-
-    `base` is the absolute IRI, without brackets, that names the file in its header. `block_size` is the number of
-    strings in a block, 1 to 65535. The output is replaced atomically: on an exception it is unchanged.
-
-    Errors: `LineFault` with the first error of the text, `NoTriples`, ValueError for the options or if both paths are
-    one file, TypeError for a block size that is no integer, MemoryError, OSError. The time is that of sorting the
-    strings and the triples; text and file are in memory at once.
-
-    >>> hdt.build("graph.nt", "graph.hdt", base="http://example.org/graph")
-    Counts(triples=3, shared=2, subjects=0, predicates=2, objects=1)
-    """
-    if _are_one(nt_path, out_path):
-        raise ValueError("the input and the output are one file")
-    with Made() as made:
-        counts = built(data_of(nt_path)[0], made, base, block_size)
-        _replace(out_path, made.view())
-    return counts
+def longest_of(line: Optional[int], path: Path) -> Optional[LongestLine]:
+    """What checks the lines of a text, if there is a limit. Raises ValueError for a negative one, TypeError."""
+    if line is None:
+        return None
+    number = operator.index(line)
+    if number < 0:
+        raise ValueError("the longest line is negative")
+    return LongestLine(number, path)
 
 
 def rewrite(in_path: Path, out_path: Path, block_size: int = 16) -> Counts:
@@ -178,6 +196,6 @@ def rewrite(in_path: Path, out_path: Path, block_size: int = 16) -> Counts:
     with Made() as made:
         with Lent(data_of(in_path)[0]) as lent:
             library.hdt_rewrite(lent.address, lent.size, _block_size(block_size), made, verdict)
-        counts = counts_of(verdict)
-        _replace(out_path, made.view())
+        counts = counts_of(verdict, in_path)
+        replace(out_path, made.view())
     return counts

@@ -1,4 +1,4 @@
-"""Open files and their calls."""
+"""An open file and its calls."""
 
 from __future__ import annotations
 
@@ -7,58 +7,34 @@ import operator
 import os
 from collections.abc import Iterable, Iterator
 from itertools import chain
-from typing import IO, Any, Optional
+from typing import IO, Any, Optional, Union
 
 from ._calls import Counts, Given, IdTriple, Part, Path, Role, StringTriple
-from ._calls import encoded, matched, pattern_of, role_number, window
+from ._calls import encoded, matched, pattern_of, role_number, triple_of, window
 from ._columns import Columns
+from ._faults import Fault
 from ._files import Identity, data_of
 from ._handle import OpenHandle
 from ._ids import IdArray, rows
 from ._library import library
-
-
-def open(path: Path, copy: Optional[bool] = None) -> Graph:
-    """Open a file for searches: use it in a `with` statement, or call `close`.
-
-    The whole file is validated first. A file under 64 MiB is read into memory, and a larger one is mapped, which
-    processes share; `copy=True` reads any, `copy=False` maps any. A mapped file must not change while the graph is
-    open: one that is cut or overwritten in place ends the process by a signal (SIGBUS). To replace a file in use, write
-    a new one and rename it, as `build` does.
-
-    Errors: `Fault` with the first error and its byte offset, MemoryError, OSError. The time is linear in the file, and
-    so is the memory for the indexes.
-
-    >>> with hdt.open("graph.hdt") as graph:
-    ...     print(len(graph), graph.count("subject"))
-    3 2
-    """
-    data, identity = data_of(path, copy)
-    graph = Graph(data)
-    graph._origin = os.path.abspath(os.fsdecode(path)), copy, identity
-    return graph
-
-
-def _reopened(path: str, copy: Optional[bool], identity: Identity) -> Graph:
-    """The graph of a file that was open when it was pickled. Raises ValueError if the path leads to another one."""
-    data, found = data_of(path, copy)
-    if found != identity:
-        raise ValueError(f"{path} isn't the file that it was when the graph was pickled")
-    graph = Graph(data)
-    graph._origin = path, copy, identity
-    return graph
+from ._terms import Term, string_of
 
 
 class Graph(OpenHandle):
-    """An open file. Threads may share one: it answers one call at a time.
+    """An open file. Threads may share one: their calls, and those of their iterators, run at the same time.
+
+    (One iterator is for one thread at a time.) A call that begins while others run may need memory for another handle
+    of the graph, about a kilobyte, which later calls use, too: if there is none, it raises MemoryError. A process and
+    those that it forks may share a graph, also if other threads are in calls at the fork.
 
     `open` opens a path. `Graph(data)` opens bytes, any object with the buffer protocol: they are borrowed, not copied,
     and must not change while the graph is open. Errors: those of `open`, TypeError.
 
     Its length is the number of its triples; iterating gives them as `find` does. `(s, p, o) in graph` looks for one.
-    A pattern is three parts, of which None is any: strings, and in calls on IDs also the IDs of strings. A string in
-    brackets, `<u:a>`, raises ValueError if the file lacks it: dictionary strings have none. Once a graph is closed,
-    every call but `close` raises ValueError.
+    A pattern is three parts, of which None is any: dictionary strings, `Term`s, terms of rdflib, and in calls on IDs
+    also IDs. `""` and `"?"` raise ValueError, and so does a string in brackets, `<u:a>`, that the file lacks:
+    dictionary strings have none. (A file of another program may have `""` or `"?"`: search for them by IDs, which
+    `number` gives.) Once a graph is closed, every call but `close` raises ValueError.
 
     A graph can't be copied. One that `open` made is pickled as its path and options: it opens the file again, and
     raises ValueError there if the path leads to another file by then, or the file was written to.
@@ -72,8 +48,23 @@ class Graph(OpenHandle):
 
     _origin: Optional[tuple[str, Optional[bool], Optional[Identity]]] = None
 
+    @classmethod
+    def _of_file(cls, path: Path, copy: Optional[bool], wanted: Optional[Identity] = None) -> Graph:
+        """Open a file. Raises what `open` raises, and ValueError if another one is wanted, which was pickled."""
+        name, (data, identity) = os.fsdecode(path), data_of(path, copy)
+        if wanted not in (None, identity):
+            raise ValueError(f"{name} isn't the file that it was when the graph was pickled")
+        try:
+            graph = cls(data)
+        except Fault as fault:
+            raise Fault(fault.reason, fault.place, name) from None
+        graph._origin = os.path.abspath(name), copy, identity
+        return graph
+
     def close(self) -> None:
-        """Close it and free its memory. A second call does nothing.
+        """Close it and free its memory, after the calls that run in other threads.
+
+        Calls that begin meanwhile or later raise ValueError. A second call does nothing but to wait for the same ones.
 
         >>> graph = hdt.open("graph.hdt")
         >>> graph.close()
@@ -90,7 +81,7 @@ class Graph(OpenHandle):
         self.close()
 
     def __repr__(self) -> str:
-        if not self._handle.state:
+        if self._is_closed:
             return "<hdt.Graph, closed>"
         name = f": {os.path.basename(self._origin[0])}" if self._origin else ""
         return f"<hdt.Graph of {self._counts.triples:,} triples{name}>"
@@ -104,7 +95,7 @@ class Graph(OpenHandle):
         self._check_open()
         if self._origin is None or self._origin[2] is None:
             raise TypeError("a Graph can't be pickled unless `open` opened it from a file that can be opened again")
-        return _reopened, self._origin
+        return self._of_file, self._origin
 
     # ---- counts and the header
 
@@ -140,12 +131,12 @@ class Graph(OpenHandle):
         ...     graph.count("object")
         3
         """
-        return self._asked(library.hdt_count, role_number(role)) or 0
+        return self._count(role_number(role))
 
     # ---- strings and their IDs
 
-    def number(self, role: Role, term: str) -> Optional[int]:
-        """The ID of a term, a dictionary string, in a role; None if the role doesn't have it.
+    def number(self, role: Role, term: Union[str, Term]) -> Optional[int]:
+        """The ID of a term, or of any dictionary string, in a role; None if the role doesn't have it.
 
         Errors: ValueError for the role, TypeError. It takes a binary search and the strings of a block.
 
@@ -153,7 +144,7 @@ class Graph(OpenHandle):
         ...     graph.number("object", '"x"'), graph.number("object", "u:none")
         (3, None)
         """
-        string = encoded(term)
+        string = encoded(string_of(term))
         return self._number(role_number(role), string)
 
     def string(self, role: Role, n: int) -> str:
@@ -192,13 +183,13 @@ class Graph(OpenHandle):
     def terms(self, role: Role) -> Iterator[str]:
         """Iterate over all strings of a role, in the order of their IDs. Raises ValueError for another word.
 
-        They are looked up in portions of 4,096, so the time is linear in the strings.
+        They are looked up in portions of up to 4,096, fewer if they are long. The time is linear in the strings.
 
         >>> with hdt.open("graph.hdt") as graph:
         ...     list(graph.terms("object"))
         ['u:a', 'u:b', '"x"']
         """
-        return self._terms(role_number(role), self.count(role))
+        return chain.from_iterable(self._portions_of_all(role_number(role), self.count(role)))
 
     def ids_with_prefix(self, prefix: str, role: Role) -> list[range]:
         """The IDs of the strings of a role that begin with a prefix, as ranges: none, one or two, none empty.
@@ -244,9 +235,8 @@ class Graph(OpenHandle):
         return self._matching(self._checked(pattern_of(s, p, o)))
 
     def __contains__(self, triple: object) -> bool:
-        if not (isinstance(triple, tuple) and len(triple) == 3 and all(isinstance(term, str) for term in triple)):
-            return False
-        return self.matching(*triple) > 0
+        terms = triple_of(triple)
+        return terms is not None and self.matching(*terms) > 0
 
     def find(
         self, s: Given = None, p: Given = None, o: Given = None, *, limit: Optional[int] = None, start: int = 0
@@ -266,7 +256,7 @@ class Graph(OpenHandle):
         """
         self._check_open()
         pattern, (first, most) = self._checked(matched(s, p, o)), window(start, limit)
-        return Columns(self, (s, p, o), pattern).triples(first, most)
+        return Columns(self, pattern).triples(first, most)
 
     def __iter__(self) -> Iterator[StringTriple]:
         return self.find()
@@ -277,7 +267,7 @@ class Graph(OpenHandle):
         """Iterate over the triples of `find` as the IDs of their strings. Parts are strings, IDs, or any.
 
         An ID that no string of the role has matches nothing. Errors: those of `find`. The time is linear in the triples
-        and those left out. It keeps 24 bytes for each triple of a portion of up to 16,384.
+        and those left out. It keeps 24 bytes for each triple of a portion of up to 4,096.
 
         >>> with hdt.open("graph.hdt") as graph:
         ...     list(graph.find_ids(p="u:p")), list(graph.find_ids(s=2, p=1))
@@ -316,7 +306,7 @@ class Graph(OpenHandle):
         """
         pattern, (first, most) = self._checked(matched(s, p, o)), window(start, operator.index(limit))
         ids, following = self._page(pattern, first, most or 0)
-        return Columns(self, (s, p, o), pattern).page(ids), following
+        return Columns(self, pattern).page(ids), following
 
     def page_ids(
         self, s: Part = None, p: Part = None, o: Part = None, *, start: int = 0, limit: int = 100

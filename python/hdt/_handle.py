@@ -1,22 +1,23 @@
-"""An open graph as the library has it: every call on one is made here."""
+"""An open graph as the library has it: the calls on one."""
 
 from __future__ import annotations
 
 import array
-import ctypes
-import threading
+from ctypes import c_size_t, c_uint64
 from collections.abc import Iterable, Iterator
 from typing import Any, Optional
 
 from . import _library
-from ._calls import ROLES, Pattern, bracketed, closed, counts_of, encoded, is_bracketed, pattern_of
+from ._calls import ROLES, Pattern, bracketed, encoded, is_bracketed, pattern_of
 from ._faults import NotATerm
-from ._library import Handle, Lent, Made, Ranges, TextResult, Verdict, library
+from ._handles import Handles
+from ._library import Made, Ranges, TextResult, library
 
-_FIRST_BYTES = 256  # room for a string; it grows where one needs more
-_PORTION = 4_096  # strings that are looked up at once
+_PORTION = 4_096  # strings of a role that are looked up at once at most,
+_FIRST_PORTION = 64  # at first,
+_PORTION_BYTES = 1024 * 1024  # and as long as they take no more than this
 _FIRST_MATCHES = 64  # matches of the first page of a search; each page has four times as many as the one before,
-_MOST_MATCHES = 16_384  # up to this
+_MOST_MATCHES = 4_096  # up to this (more take new memory of the system each time, in a fifth more time for each)
 _LARGEST = 2**64 - 1
 _LINES = 1_024  # of a piece of text
 _ZERO = array.array("Q", [0])
@@ -30,84 +31,47 @@ def _cut(text: str, ends: list[int]) -> list[str]:
     return [it if it.isascii() else it.encode("latin-1").decode() for it in strings]
 
 
-def _text_of(made: Made, outcome: TextResult) -> str:
-    """The text that a call has made. Raises NotATerm, MemoryError, or ValueError if the graph is closed."""
-    if outcome.reason == _library.IS_CLOSED:
-        raise closed()
-    if outcome.reason == _library.OUT_OF_MEMORY:
+def _answer(answer: int) -> Optional[int]:
+    """What the library answers; None if there is no answer. Raises MemoryError."""
+    if answer < _library.CLOSED:
+        return answer
+    if answer == _library.NO_MEMORY:
         raise MemoryError
-    if outcome.reason == _library.NOT_A_TERM:
-        raise NotATerm(ROLES[outcome.role], outcome.number)
-    return str(made.view(), "utf-8")
+    return None
 
 
-class OpenHandle:
-    """The handle of an open graph, which answers one call at a time, with the bytes that it borrows."""
-
-    def __init__(self, data: Any) -> None:
-        self._lock, self._handle, verdict = threading.Lock(), Handle(), Verdict()
-        self._room: Any = ctypes.create_string_buffer(_FIRST_BYTES)
-        self._lent = Lent(data)
-        try:
-            library.hdt_open(self._lent.address, self._lent.size, self._handle, verdict)
-            self._counts = counts_of(verdict)
-        except BaseException:
-            self._end()
-            raise
-
-    def __del__(self) -> None:
-        if hasattr(self, "_lent"):
-            self._end()
-
-    def _end(self) -> None:
-        """Close the graph and give its bytes back. A second call does nothing."""
-        with self._lock:
-            library.hdt_close(self._handle)
-            self._lent.give_back()
+class OpenHandle(Handles):
+    """The calls of the library on an open graph, with Python's values. Threads may make them at the same time."""
 
     def _asked(self, call: Any, *parameters: Any) -> Optional[int]:
-        """The answer of a call on this graph; None where there is none."""
-        with self._lock:
-            answer: int = call(self._handle, *parameters)
-        if answer < _library.CLOSED:
-            return answer
-        if answer == _library.CLOSED:
-            raise closed()
-        if answer == _library.NO_MEMORY:
+        """The answer of a call on this graph; None if there is none. Raises MemoryError."""
+        return _answer(self._call(call, parameters))
+
+    def _text_made(self, made: Made, call: Any, *parameters: Any) -> str:
+        """The text that a call makes. Raises NotATerm, MemoryError."""
+        outcome = TextResult()
+        self._call(call, (*parameters, outcome))
+        if outcome.reason == _library.OUT_OF_MEMORY:
             raise MemoryError
-        return None
-
-    def _put(self, call: Any, *parameters: Any) -> Optional[bytes]:
-        """The bytes that a call puts into room that is large enough; None where there are none."""
-        while True:
-            with self._lock:
-                size: int = call(self._handle, *parameters, self._room, len(self._room))
-                if size <= len(self._room):
-                    put: bytes = self._room[:size]
-                    return put
-                if size < _library.CLOSED:
-                    self._room = ctypes.create_string_buffer(size)
-                    continue
-            if size == _library.CLOSED:
-                raise closed()
-            if size == _library.NO_MEMORY:
-                raise MemoryError
-            return None
-
-    def _check_open(self) -> None:
-        """Raises ValueError once the graph is closed."""
-        if not self._handle.state:
-            raise closed()
+        if outcome.reason == _library.NOT_A_TERM:
+            raise NotATerm(ROLES[outcome.role], outcome.number)
+        return str(made.view(), "utf-8")
 
     # ---- strings
 
+    def _count(self, role: int) -> int:
+        """How many strings a role has. Raises ValueError once the graph is closed."""
+        self._check_open()
+        counts = self._counts
+        return (counts.shared + counts.subjects, counts.predicates, counts.shared + counts.objects)[role]
+
     def _string(self, role: int, number: int) -> Optional[bytes]:
         """The bytes of the string with an ID; None where there is none."""
-        return self._put(library.hdt_string, role, number if 0 <= number < 2**64 else 0)
+        return self._put(library.hdt_string, role, c_uint64(number if 0 <= number < 2**64 else 0))
 
     def _number(self, role: int, string: bytes) -> Optional[int]:
         """The ID of a string; None where there is none."""
-        return self._asked(library.hdt_number, role, string, len(string))
+        return _answer(self._call(library.hdt_number, (role, string, c_size_t(len(string))), is_brief=True))
 
     def _strings(self, role: int, numbers: Iterable[int]) -> Optional[list[str]]:
         """The strings of these IDs, in their order; None where one of them is that of no string."""
@@ -126,10 +90,14 @@ class OpenHandle:
         ends.pop()
         return _cut(text, ends.tolist())
 
-    def _terms(self, role: int, count: int) -> Iterator[str]:
-        """The strings of a role, which are so many, looked up by portions."""
-        for first in range(1, count + 1, _PORTION):
-            yield from self._strings(role, range(first, min(first + _PORTION, count + 1))) or []
+    def _portions_of_all(self, role: int, count: int) -> Iterator[list[str]]:
+        """All strings of a role, which are so many, in portions."""
+        first, size = 1, _FIRST_PORTION
+        while first <= count:
+            strings = self._strings(role, range(first, min(first + size, count + 1))) or []
+            yield strings
+            first += size
+            size = min(4 * size, _PORTION) if sum(map(len, strings)) < _PORTION_BYTES else max(size // 4, 1)
 
     def _with_prefix(self, role: int, prefix: bytes) -> list[range]:
         """The IDs of the strings that begin with a prefix, as ranges, of which none is empty."""
@@ -213,21 +181,15 @@ class OpenHandle:
 
     def _text(self, pattern: Pattern) -> str:
         """The matches as N-Triples. Raises NotATerm."""
-        outcome = TextResult()
         with Made() as made:
-            with self._lock:
-                library.hdt_pattern_text(self._handle, pattern.packed, made, outcome)
-            return _text_of(made, outcome)
+            return self._text_made(made, library.hdt_pattern_text, pattern.packed, made)
 
     def _page_text(self, pattern: Pattern, start: int, most: int) -> tuple[str, Optional[int]]:
         """The text of the matches from a position on, at most so many, and the position of the next one."""
-        outcome, following = TextResult(), _ZERO[:]
-        first, lines = min(start, _LARGEST), min(most, _LARGEST)
+        following, window = _ZERO[:], (min(start, _LARGEST), min(most, _LARGEST))
         with Made() as made:
-            with self._lock:
-                at = following.buffer_info()[0]
-                library.hdt_page_text(self._handle, pattern.packed, first, lines, made, at, outcome)
-            text = _text_of(made, outcome)
+            places = made, following.buffer_info()[0]
+            text = self._text_made(made, library.hdt_page_text, pattern.packed, *window, *places)
         return text, None if following[0] == _library.ABSENT else following[0]
 
     def _pieces(self, pattern: Pattern) -> Iterator[str]:

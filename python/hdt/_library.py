@@ -9,10 +9,13 @@ import subprocess
 from pathlib import Path
 from typing import Any
 
+from ._brief import Brief
+
 # Answers and reasons of c/hdt.h.
 ABSENT, NO_MEMORY, CLOSED = 2**64 - 1, 2**64 - 2, 2**64 - 3
 DONE, NOT_A_TERM, NO_TRIPLES, BAD_OPTIONS, IS_CLOSED, IS_OPEN, OUT_OF_MEMORY = 0, 250, 251, 252, 253, 254, 255
 ANY, ID, STRING = 0, 1, 2  # kinds of a part of a pattern
+_SMALL = 1024 * 1024  # bytes that are freed in some microseconds
 
 
 class Verdict(ctypes.Structure):
@@ -58,7 +61,17 @@ class Ranges(ctypes.Structure):
 
 
 class Handle(ctypes.Structure):
-    """An hdt_graph, which isn't open at first."""
+    """An hdt_graph, which isn't open at first.
+
+    Each call writes to it. So it is as long as a line of a processor's cache: calls of different threads would wait for
+    each other's lines.
+    """
+
+    _fields_ = [("state", ctypes.c_uint64), ("at", ctypes.c_void_p), ("rest", ctypes.c_uint64 * 6)]
+
+
+class PlainHandle(ctypes.Structure):
+    """An hdt_graph of an array of them, which isn't open at first."""
 
     _fields_ = [("state", ctypes.c_uint64), ("at", ctypes.c_void_p)]
 
@@ -83,7 +96,7 @@ class Made(ctypes.Structure):
         return self
 
     def __exit__(self, *_: object) -> None:
-        library.hdt_free(self)
+        (held if self.len <= _SMALL else library).hdt_free(self)
 
 
 def _of_checkout() -> list[str]:
@@ -138,6 +151,7 @@ def _load() -> Any:
         ("hdt_verify_tight", [*bytes_of, verdict], None),
         ("hdt_open", [*bytes_of, graph, verdict], None),
         ("hdt_close", [graph], None),
+        ("hdt_share", [graph, graph], ctypes.c_uint32),
         ("hdt_len", [graph], number),
         ("hdt_count", [graph, role], number),
         ("hdt_number", [graph, role, ctypes.c_char_p, size], number),
@@ -152,6 +166,7 @@ def _load() -> Any:
         ("hdt_page", [graph, pattern, number, room, size, room], number),
         ("hdt_page_text", [graph, pattern, number, number, made, room, outcome], None),
         ("hdt_build", [*bytes_of, *bytes_of, ctypes.c_uint32, made, report], None),
+        ("hdt_merge", [*bytes_of, *bytes_of, ctypes.c_uint32, made, report], None),
         ("hdt_split", [*bytes_of, ctypes.c_uint32, *bytes_of, made, room, size, split_report], None),
         ("hdt_rewrite", [*bytes_of, ctypes.c_uint32, made, verdict], None),
         ("hdt_free", [made], None),
@@ -212,4 +227,9 @@ class Lent:
 
 
 library = _load()
+# The same library, with calls that keep Python's lock.
+held = ctypes.PyDLL(library._name)
+held.hdt_free.argtypes, held.hdt_free.restype = [ctypes.POINTER(Made)], None
+for _name in ("hdt_number", "hdt_string"):
+    setattr(library, _name, Brief(getattr(held, _name), getattr(library, _name)).call)
 VERSION = "{}.{}".format(*divmod(library.hdt_version(), 2**16))  # of hdt.h: its major and its minor number

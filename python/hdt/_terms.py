@@ -3,8 +3,9 @@
 from __future__ import annotations
 
 import re
+import sys
 from dataclasses import dataclass
-from typing import Literal, Optional
+from typing import Literal, Optional, Union
 
 Kind = Literal["iri", "blank", "literal"]
 
@@ -113,13 +114,16 @@ class Term:
 
     @classmethod
     def parse(cls, string: str) -> Term:
-        """Take a dictionary string apart. Raises ValueError for the string of no term, which other programs may write.
+        """Take a dictionary string apart.
+
+        Raises ValueError for the string of no term, which other programs may write, and TypeError.
 
         >>> hdt.Term.parse('"1"^^<http://www.w3.org/2001/XMLSchema#integer>').lexical
         '1'
         >>> hdt.Term.parse("_:b")
         Term(kind='blank', lexical='b', language=None, datatype=None)
         """
+        string = string_of(string)
         if not string.startswith('"'):
             return cls("blank", string[2:]) if string.startswith("_:") else cls("iri", string)
         end = string.rindex('"')
@@ -178,3 +182,25 @@ class Term:
         if self.language is not None:
             return f'"{text}"@{self.language}'
         return f'"{text}"' if self.datatype is None else f'"{text}"^^<{self.datatype}>'
+
+
+def string_of(term: Union[str, Term]) -> str:
+    """The dictionary string of a term: a str, which is one, a Term, or a URIRef, BNode or Literal of rdflib.
+
+    Raises TypeError for anything else, and ValueError for a term of rdflib that no dictionary string has.
+    """
+    if type(term) is str:
+        return term
+    if isinstance(term, Term):
+        return term.format()
+    if isinstance(term, getattr(sys.modules.get("rdflib.term"), "Identifier", ())):
+        from . import _rdflib_terms
+
+        string = _rdflib_terms.string_of(term)
+        if string is not None:
+            return string
+        if isinstance(term, _rdflib_terms.TERMS):
+            raise ValueError(f"no dictionary string is that of {term!r}")
+    elif isinstance(term, str):
+        return str.__str__(term)
+    raise TypeError(f"a term is a str, an hdt.Term or a term of rdflib, not {type(term).__name__}")

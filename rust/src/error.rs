@@ -4,6 +4,8 @@
 use std::alloc::{handle_alloc_error, Layout};
 use std::error;
 use std::fmt;
+use std::io;
+use std::path::{Path, PathBuf};
 
 use crate::ffi;
 use crate::pattern::Role;
@@ -174,7 +176,7 @@ pub enum Error {
     File(FileError),
     /// The text is not N-Triples.
     Text(TextError),
-    /// The text has no triples, so there is no file of it.
+    /// The text has no triples, so there is no file of it; or there are no graphs to merge.
     NoTriples,
     /// The block size is 0, the base is not an absolute IRI, or the number of parts is not 1 to 65,536.
     BadOptions,
@@ -187,6 +189,47 @@ pub enum Error {
     },
     /// Memory ran out. The input may be valid, and the call may be made again.
     OutOfMemory,
+}
+
+/// Why a call that takes paths failed, and at which of them.
+#[derive(Debug)]
+#[non_exhaustive]
+pub struct PathError {
+    /// The path, as it was given.
+    pub path: PathBuf,
+    /// What is wrong.
+    pub cause: Cause,
+}
+
+/// What is wrong with the file at a path.
+#[derive(Debug)]
+#[non_exhaustive]
+pub enum Cause {
+    /// It can't be read or written.
+    Io(io::Error),
+    /// The error that the call for bytes in memory has.
+    Hdt(Error),
+}
+
+impl From<Error> for Cause {
+    fn from(error: Error) -> Cause {
+        Cause::Hdt(error)
+    }
+}
+
+impl From<io::Error> for Cause {
+    fn from(error: io::Error) -> Cause {
+        match error.kind() {
+            io::ErrorKind::OutOfMemory => Cause::Hdt(Error::OutOfMemory),
+            _ => Cause::Io(error),
+        }
+    }
+}
+
+impl PathError {
+    pub(crate) fn new(path: &Path, cause: impl Into<Cause>) -> PathError {
+        PathError { path: path.to_owned(), cause: cause.into() }
+    }
 }
 
 impl fmt::Display for FileError {
@@ -216,6 +259,22 @@ impl fmt::Display for Error {
     }
 }
 
+impl fmt::Display for Cause {
+    fn fmt(&self, f: &mut fmt::Formatter<'_>) -> fmt::Result {
+        match self {
+            Cause::Io(error) => error.fmt(f),
+            Cause::Hdt(error) => error.fmt(f),
+        }
+    }
+}
+
+impl fmt::Display for PathError {
+    fn fmt(&self, f: &mut fmt::Formatter<'_>) -> fmt::Result {
+        write!(f, "{}: {}", self.path.display(), self.cause)
+    }
+}
+
+impl error::Error for PathError {}
 impl error::Error for FileError {}
 impl error::Error for TextError {}
 impl error::Error for Error {}
@@ -259,7 +318,10 @@ pub(crate) fn abort_without_memory(bytes: usize) -> ! {
 
 #[cfg(test)]
 mod tests {
-    use super::{Error, FileReason, TextReason};
+    use std::io;
+    use std::path::Path;
+
+    use super::{Cause, Error, FileReason, PathError, TextReason};
     use crate::ffi;
 
     fn name_of(call: fn(u32, &mut [u8]) -> u64, number: u32) -> String {
@@ -311,5 +373,13 @@ mod tests {
         for (error, message) in messages {
             assert_eq!(error.to_string(), message);
         }
+    }
+    #[test]
+    fn errors_of_paths_have_one_kind_for_memory() {
+        let error = PathError::new(Path::new("a/b"), io::Error::from(io::ErrorKind::OutOfMemory));
+        assert!(matches!(error.cause, Cause::Hdt(Error::OutOfMemory)));
+        assert_eq!(error.to_string(), "a/b: out of memory");
+        let error = PathError::new(Path::new("a/b"), io::Error::from(io::ErrorKind::NotFound));
+        assert!(matches!(error.cause, Cause::Io(error) if error.kind() == io::ErrorKind::NotFound));
     }
 }

@@ -3,17 +3,18 @@
 //! Each block relies on this, of what the header asks for: a slice's pointer is not null, also if it is empty; shared
 //! and mutable slices don't overlap; a `&mut` of a handle or of bytes is that of one call at a time; they begin as
 //! zeros, and only the library writes their fields. A moved handle is no copy: the old one can't be used, and the
-//! library keeps no address of it.
+//! library keeps no address of it. Handles of one graph may be used at the same time, and closed in any order.
 
 use std::fmt;
 use std::marker::PhantomData;
 use std::ops::Deref;
 use std::ptr;
 use std::slice;
-use std::sync::{Mutex, PoisonError};
+use std::sync::{Arc, Mutex, PoisonError};
 
 pub(crate) use crate::header::*;
 use crate::pattern::{Part, Pattern};
+use crate::pool::{Pool, Share};
 
 #[rustfmt::skip]
 extern "C" {
@@ -21,6 +22,7 @@ extern "C" {
     fn hdt_verify_tight(bytes: *const u8, len: usize, verdict: *mut hdt_verdict);
     fn hdt_open(bytes: *const u8, len: usize, graph: *mut hdt_graph, verdict: *mut hdt_verdict);
     fn hdt_close(graph: *mut hdt_graph);
+    fn hdt_share(graph: *mut hdt_graph, other: *mut hdt_graph) -> u32;
     fn hdt_len(graph: *mut hdt_graph) -> u64;
     fn hdt_count(graph: *mut hdt_graph, role: u32) -> u64;
     fn hdt_number(graph: *mut hdt_graph, role: u32, string: *const u8, len: usize) -> u64;
@@ -41,6 +43,8 @@ extern "C" {
                      next: *mut u64, outcome: *mut hdt_text_result);
     fn hdt_build(text: *const u8, len: usize, base: *const u8, base_len: usize, block_size: u32, out: *mut hdt_bytes,
                  report: *mut hdt_report);
+    fn hdt_merge(graphs: *mut hdt_graph, count: usize, base: *const u8, base_len: usize, block_size: u32,
+                 out: *mut hdt_bytes, report: *mut hdt_report);
     fn hdt_split(text: *const u8, len: usize, parts: u32, prefix: *const u8, prefix_len: usize, out: *mut hdt_bytes,
                  ends: *mut u64, room: usize, report: *mut hdt_split_report);
     fn hdt_rewrite(bytes: *const u8, len: usize, block_size: u32, out: *mut hdt_bytes, verdict: *mut hdt_verdict);
@@ -55,9 +59,15 @@ extern "C" {
     fn hdt_free(bytes: *mut hdt_bytes);
 }
 
-// SAFETY: a handle owns what it points to, and the header lets another thread use it behind a lock. Nothing in the
-// library belongs to a thread. The bytes of its file are lent, and `&[u8]` is Send; `Handle` has their lifetime.
+// SAFETY: the header lets a handle go to another thread behind a lock, also if other threads use other handles of its
+// graph. The bytes of its file are only read, and `&[u8]` is Send.
 unsafe impl Send for hdt_graph {}
+
+impl hdt_graph {
+    fn closed() -> hdt_graph {
+        hdt_graph { state: 0, at: ptr::null_mut() }
+    }
+}
 
 impl hdt_part {
     /// A part that gives no string has a pointer to no bytes, since that may not be null.
@@ -127,48 +137,104 @@ impl Drop for Bytes {
     }
 }
 
-/// An open graph over bytes that it borrows. One call at a time has its lock.
-pub(crate) struct Handle<'bytes> {
-    graph: Mutex<hdt_graph>,
+/// What owns the bytes of a file. Nothing looks at it until it is dropped, so it need not be `Sync`, as the lock tells the
+/// compiler. An `Arc` never moves what it has.
+type Owner = Arc<Mutex<dyn Send>>;
+
+/// A handle, which is closed when this is dropped; then its share of the owner of the bytes is dropped.
+struct Opened {
+    graph: hdt_graph,
+    owner: Option<Owner>,
+}
+
+impl Opened {
+    fn closed(owner: Option<Owner>) -> Opened {
+        Opened { graph: hdt_graph::closed(), owner }
+    }
+}
+
+impl Share for Opened {
+    fn share(&mut self) -> Option<Opened> {
+        let mut other = Opened::closed(self.owner.clone());
+        // SAFETY: it has both handles alone.
+        let reason = unsafe { hdt_share(&mut self.graph, &mut other.graph) };
+        assert!(reason == HDT_DONE || reason == HDT_OUT_OF_MEMORY, "a handle is open until it is dropped");
+        (reason == HDT_DONE).then_some(other)
+    }
+}
+
+impl Drop for Opened {
+    fn drop(&mut self) {
+        // SAFETY: it has the handle alone, and nothing uses it after this.
+        unsafe { hdt_close(&mut self.graph) }
+    }
+}
+
+/// The handles of an open graph, over bytes that are borrowed or have an owner.
+pub(crate) struct Handles<'bytes> {
+    pool: Pool<Opened>,
     bytes: PhantomData<&'bytes [u8]>,
 }
 
-impl<'bytes> Handle<'bytes> {
-    /// Opens a file; there is a handle if the verdict is `HDT_DONE`.
-    pub(crate) fn open(bytes: &'bytes [u8]) -> (Option<Handle<'bytes>>, hdt_verdict) {
-        let mut verdict = hdt_verdict::default();
-        let at = ptr::null_mut();
-        let mut graph = hdt_graph { state: 0, at };
-        // SAFETY: the bytes stay where they are, unchanged, for 'bytes, which the handle doesn't outlive.
-        unsafe { hdt_open(bytes.as_ptr(), bytes.len(), &mut graph, &mut verdict) };
-        let opened = (verdict.reason == HDT_DONE).then(|| Handle { graph: Mutex::new(graph), bytes: PhantomData });
-        (opened, verdict)
+impl Drop for Handles<'_> {
+    /// Does nothing, but tells the compiler that the bytes have to outlive the fields, whose drops close the handles.
+    fn drop(&mut self) {}
+}
+
+impl<'bytes> Handles<'bytes> {
+    /// Opens a file; there are handles if the verdict is `HDT_DONE`.
+    pub(crate) fn open(bytes: &'bytes [u8]) -> (Option<Handles<'bytes>>, hdt_verdict) {
+        // SAFETY: the bytes are borrowed for 'bytes, which the handles don't outlive.
+        unsafe { Handles::open_with(bytes, None) }
     }
 
-    /// The answer of a call, which has the handle for itself.
+    /// Opens the file whose bytes a value has, and keeps that.
+    pub(crate) fn open_owned(owner: impl AsRef<[u8]> + Send + 'static) -> (Option<Handles<'static>>, hdt_verdict) {
+        let kept = Arc::new(Mutex::new(owner));
+        let owner: Owner = kept.clone();
+        let seen = kept.lock().unwrap_or_else(PoisonError::into_inner);
+        // SAFETY: `as_ref` borrows the owner, so the bytes stay where they are, unchanged, until that is moved, changed or
+        // dropped. It is in an `Arc`, nothing looks at it after this call, and each handle keeps it.
+        unsafe { Handles::open_with((*seen).as_ref(), Some(owner)) }
+    }
+
+    /// Opens a file.
+    ///
+    /// # Safety
+    ///
+    /// The bytes have to stay where they are, unchanged, until the handles are closed, or until the owner is dropped.
+    unsafe fn open_with(bytes: &[u8], owner: Option<Owner>) -> (Option<Handles<'bytes>>, hdt_verdict) {
+        let (mut first, mut verdict) = (Opened::closed(owner), hdt_verdict::default());
+        // SAFETY: the caller sees to it that the bytes stay, and it has `first` and `verdict` alone.
+        unsafe { hdt_open(bytes.as_ptr(), bytes.len(), &mut first.graph, &mut verdict) };
+        let is_open = verdict.reason == HDT_DONE;
+        (is_open.then(|| Handles { pool: Pool::new(first), bytes: PhantomData }), verdict)
+    }
+
+    /// The answer of a call, which has a handle for itself.
     fn ask(&self, call: impl FnOnce(&mut hdt_graph) -> u64) -> u64 {
-        let answer = call(&mut self.graph.lock().unwrap_or_else(PoisonError::into_inner));
+        let answer = self.pool.with(|opened| call(&mut opened.graph));
         assert_ne!(answer, HDT_CLOSED, "a handle is open until it is dropped");
         answer
     }
 
     pub(crate) fn len(&self) -> u64 {
-        // SAFETY: it has the handle alone.
+        // SAFETY: it has its handle alone.
         self.ask(|graph| unsafe { hdt_len(graph) })
     }
 
     pub(crate) fn count(&self, role: u32) -> u64 {
-        // SAFETY: it has the handle alone.
+        // SAFETY: it has its handle alone.
         self.ask(|graph| unsafe { hdt_count(graph, role) })
     }
 
     pub(crate) fn number(&self, role: u32, string: &str) -> u64 {
-        // SAFETY: it has the handle alone, and `string` has as many bytes as it says.
+        // SAFETY: it has its handle alone, and `string` has as many bytes as it says.
         self.ask(|graph| unsafe { hdt_number(graph, role, string.as_ptr(), string.len()) })
     }
 
     pub(crate) fn string(&self, role: u32, number: u64, out: &mut [u8]) -> u64 {
-        // SAFETY: it has the handle alone, and `out` has room for as many bytes as it says.
+        // SAFETY: it has its handle alone, and `out` has room for as many bytes as it says.
         self.ask(|graph| unsafe { hdt_string(graph, role, number, out.as_mut_ptr(), out.len()) })
     }
 
@@ -176,40 +242,40 @@ impl<'bytes> Handle<'bytes> {
     pub(crate) fn strings(&self, role: u32, numbers: &[u64]) -> (Bytes, Vec<u64>, u64) {
         let (mut out, mut ends) = (Bytes::new(), vec![0; numbers.len()]);
         let (at, count) = (numbers.as_ptr(), numbers.len());
-        // SAFETY: it has the handle and `out` alone; there are `count` numbers, and `ends` has room for as many.
+        // SAFETY: it has its handle and `out` alone; there are `count` numbers, and `ends` has room for as many.
         let answer =
             self.ask(|graph| unsafe { hdt_strings(graph, role, at, count, &mut out.made, ends.as_mut_ptr(), count) });
         (out, ends, answer)
     }
 
     pub(crate) fn header(&self, out: &mut [u8]) -> u64 {
-        // SAFETY: it has the handle alone, and `out` has room for as many bytes as it says.
+        // SAFETY: it has its handle alone, and `out` has room for as many bytes as it says.
         self.ask(|graph| unsafe { hdt_header(graph, out.as_mut_ptr(), out.len()) })
     }
 
     pub(crate) fn prefix(&self, role: u32, prefix: &[u8]) -> hdt_ranges {
         let mut ranges = hdt_ranges::default();
-        // SAFETY: it has the handle and `ranges` alone, and `prefix` has as many bytes as it says.
+        // SAFETY: it has its handle and `ranges` alone, and `prefix` has as many bytes as it says.
         self.ask(|graph| unsafe { hdt_prefix(graph, role, prefix.as_ptr(), prefix.len(), &mut ranges) });
         ranges
     }
 
     /// Writes the counts of the first predicates, as many as there is room for.
     pub(crate) fn predicates(&self, counts: &mut [u64]) {
-        // SAFETY: it has the handle alone, and `counts` has room for as many numbers as it says.
+        // SAFETY: it has its handle alone, and `counts` has room for as many numbers as it says.
         self.ask(|graph| unsafe { hdt_predicates(graph, counts.as_mut_ptr(), counts.len()) });
     }
 
     /// Writes matches to `out`, without the first `skip`, and returns how many.
     pub(crate) fn find(&self, pattern: &Pattern<'_>, skip: u64, out: &mut [[u64; 3]]) -> usize {
         let given = hdt_pattern::of(pattern);
-        // SAFETY: it has the handle alone; the strings outlive the call, and `out` has room for its length.
+        // SAFETY: it has its handle alone; the strings outlive the call, and `out` has room for its length.
         size(self.ask(|graph| unsafe { hdt_pattern_find(graph, &given, skip, out.as_mut_ptr(), out.len()) }))
     }
 
     pub(crate) fn matching(&self, pattern: &Pattern<'_>) -> u64 {
         let given = hdt_pattern::of(pattern);
-        // SAFETY: it has the handle alone, and the strings outlive the call.
+        // SAFETY: it has its handle alone, and the strings outlive the call.
         self.ask(|graph| unsafe { hdt_pattern_matching(graph, &given) })
     }
 
@@ -217,7 +283,7 @@ impl<'bytes> Handle<'bytes> {
     pub(crate) fn page(&self, pattern: &Pattern<'_>, from: u64, out: &mut [[u64; 3]]) -> (u64, u64) {
         let (given, mut next) = (hdt_pattern::of(pattern), HDT_ABSENT);
         let (at, room) = (out.as_mut_ptr(), out.len());
-        // SAFETY: it has the handle and `next` alone; the strings outlive the call, and `out` has room for its length.
+        // SAFETY: it has its handle and `next` alone; the strings outlive the call, and `out` has room for its length.
         let answer = self.ask(|graph| unsafe { hdt_page(graph, &given, from, at, room, &mut next) });
         (answer, next)
     }
@@ -225,7 +291,7 @@ impl<'bytes> Handle<'bytes> {
     pub(crate) fn text(&self, pattern: &Pattern<'_>) -> (Bytes, hdt_text_result) {
         let (given, mut out, mut outcome) = (hdt_pattern::of(pattern), Bytes::new(), hdt_text_result::default());
         self.ask(|graph| {
-            // SAFETY: it has the handle, `out` and `outcome` alone, and the strings outlive the call.
+            // SAFETY: it has its handle, `out` and `outcome` alone, and the strings outlive the call.
             unsafe { hdt_pattern_text(graph, &given, &mut out.made, &mut outcome) };
             0
         });
@@ -237,19 +303,11 @@ impl<'bytes> Handle<'bytes> {
         let (given, mut out, mut outcome) = (hdt_pattern::of(pattern), Bytes::new(), hdt_text_result::default());
         let mut next = HDT_ABSENT;
         self.ask(|graph| {
-            // SAFETY: it has the handle, `out`, `next` and `outcome` alone, and the strings outlive the call.
+            // SAFETY: it has its handle, `out`, `next` and `outcome` alone, and the strings outlive the call.
             unsafe { hdt_page_text(graph, &given, from, most, &mut out.made, &mut next, &mut outcome) };
             0
         });
         (out, next, outcome)
-    }
-}
-
-impl Drop for Handle<'_> {
-    fn drop(&mut self) {
-        let graph = self.graph.get_mut().unwrap_or_else(PoisonError::into_inner);
-        // SAFETY: it has the handle alone, and nothing uses it after this.
-        unsafe { hdt_close(graph) }
     }
 }
 
@@ -272,6 +330,43 @@ pub(crate) fn build(text: &[u8], base: &str, block_size: u16) -> (Bytes, hdt_rep
     let (at, len, name, name_len) = (text.as_ptr(), text.len(), base.as_ptr(), base.len());
     // SAFETY: text and base have as many bytes as they say, and it has `out` and `report` alone.
     unsafe { hdt_build(at, len, name, name_len, block_size.into(), &mut out.made, &mut report) };
+    (out, report)
+}
+
+/// Handles side by side, as `hdt_merge` takes them, which are closed when this is dropped.
+struct Row(Vec<hdt_graph>);
+
+impl Drop for Row {
+    fn drop(&mut self) {
+        for graph in &mut self.0 {
+            // SAFETY: it has the handle alone, and nothing uses it after this. A handle may be closed already.
+            unsafe { hdt_close(graph) }
+        }
+    }
+}
+
+/// The file of the triples of all graphs, each of which has one more handle meanwhile.
+pub(crate) fn merge<'a, 'bytes: 'a>(
+    graphs: impl Iterator<Item = &'a Handles<'bytes>>,
+    base: &str,
+    block_size: u16,
+) -> (Bytes, hdt_report) {
+    let (mut out, mut report) = (Bytes::new(), hdt_report::default());
+    let mut row = Row(Vec::new());
+    for handles in graphs {
+        let mut other = hdt_graph::closed();
+        // SAFETY: it has both handles alone.
+        let reason = handles.pool.with(|opened| unsafe { hdt_share(&mut opened.graph, &mut other) });
+        row.0.push(other);
+        if reason != HDT_DONE {
+            report.reason = reason;
+            return (out, report);
+        }
+    }
+    let (at, count, name, name_len) = (row.0.as_mut_ptr(), row.0.len(), base.as_ptr(), base.len());
+    // SAFETY: there are `count` handles, which it has alone, as `out` and `report`; the graphs outlive the call, with the
+    // bytes of their files; and the base has as many bytes as it says.
+    unsafe { hdt_merge(at, count, name, name_len, block_size.into(), &mut out.made, &mut report) };
     (out, report)
 }
 

@@ -3,23 +3,27 @@
 
 use std::fmt;
 use std::ops::Range;
+use std::path::Path;
+use std::sync::Arc;
 
-use crate::error::Error;
-use crate::ffi::{self, Bytes, Handle};
+use crate::error::{Error, PathError};
+use crate::ffi::{self, Bytes, Handles};
 use crate::file::{counts_of, Counts};
 use crate::matches::{index, Matches, Page};
+use crate::paths::read;
 use crate::pattern::{Pattern, Role};
 use crate::strings::{present, put, Strings};
 
 /// The room for a string that is looked up; it grows if one needs more.
 const FIRST_BYTES: usize = 256;
 
-/// An open file, whose bytes it borrows.
+/// An open file, whose bytes it borrows, or has if it is a `Graph<'static>`.
 ///
-/// Threads may share it: a lock inside lets one call run at a time. For searches at the same time, open the bytes
-/// once a thread.
+/// Threads may share it, or have a clone each: a clone takes no memory and is the same graph. Calls of different threads
+/// run at the same time. The bytes stay, and the memory of the indexes, until the last clone is dropped.
 ///
 /// ```
+/// use std::thread;
 /// use tickmarl_hdt::{build, Graph, Pattern, Role, BLOCK_SIZE};
 ///
 /// # fn main() -> Result<(), tickmarl_hdt::Error> {
@@ -30,21 +34,91 @@ const FIRST_BYTES: usize = 256;
 /// assert_eq!(graph.string(Role::Object, 2)?.as_deref(), Some("u:b"));
 /// assert_eq!(graph.matching(Pattern::any().subject("u:a")), 2);
 /// assert_eq!(&graph.text(Pattern::any().object("u:b"))?[..], b"<u:a> <u:p> <u:b> .\n");
+///
+/// thread::scope(|scope| {
+///     scope.spawn(|| assert_eq!(graph.find(Pattern::any()).count(), 2));
+///     scope.spawn(|| assert_eq!(graph.matching(Pattern::any().object("\"x\"")), 1));
+/// });
 /// # Ok(())
 /// # }
 /// ```
 ///
-/// The bytes stay borrowed while it is open:
+/// Threads that may outlive the caller need a graph that has its bytes:
+///
+/// ```
+/// # use std::thread;
+/// # use tickmarl_hdt::{build, Graph, Pattern, BLOCK_SIZE};
+/// # fn main() -> Result<(), tickmarl_hdt::Error> {
+/// # let (file, _) = build(b"<u:a> <u:p> <u:b> .\n<u:a> <u:p> \"x\" .\n", "http://example.org/", BLOCK_SIZE)?;
+/// let graph = Graph::from_bytes(file)?;
+/// let clone = graph.clone();
+/// let counting = thread::spawn(move || clone.find(Pattern::any()).count() as u64);
+/// assert_eq!(counting.join().unwrap(), graph.len());
+/// # Ok(())
+/// # }
+/// ```
+///
+/// Bytes that it borrows stay borrowed while it or a clone is open:
 ///
 /// ```compile_fail,E0505
 /// # let file = tickmarl_hdt::build(b"<u:a> <u:p> <u:b> .\n", "http://example.org/", 16).unwrap().0.to_vec();
-/// let graph = tickmarl_hdt::Graph::open(&file).unwrap();
+/// let graph = tickmarl_hdt::Graph::open(&file).unwrap().clone();
 /// drop(file);
 /// graph.len();
 /// ```
+///
+/// ```compile_fail,E0597
+/// let graph;
+/// let file = tickmarl_hdt::build(b"<u:a> <u:p> <u:b> .\n", "http://example.org/", 16).unwrap().0.to_vec();
+/// graph = tickmarl_hdt::Graph::open(&file).unwrap(); // (it would be dropped after the bytes)
+/// ```
+///
+/// Bytes that it has are sent with it, so they may not borrow anything, nor be tied to a thread:
+///
+/// ```compile_fail,E0597
+/// let file = tickmarl_hdt::build(b"<u:a> <u:p> <u:b> .\n", "http://example.org/", 16).unwrap().0.to_vec();
+/// tickmarl_hdt::Graph::from_bytes(&file).unwrap();
+/// ```
+///
+/// ```compile_fail,E0277
+/// tickmarl_hdt::Graph::from_bytes(std::rc::Rc::<[u8]>::from([0])).unwrap();
+/// ```
+#[derive(Clone)]
 pub struct Graph<'bytes> {
-    pub(crate) handle: Handle<'bytes>,
+    pub(crate) handles: Arc<Handles<'bytes>>,
     counts: Counts,
+}
+
+impl Graph<'static> {
+    /// Checks a whole file, as [`verify`](crate::verify) does, and opens it. The graph has the bytes, which are dropped
+    /// with its last clone, or at once on an error. They are any value that never changes its bytes, as a `Vec<u8>`,
+    /// [`Bytes`], an array, an `Arc<[u8]>` or a mapped file.
+    ///
+    /// # Errors
+    ///
+    /// Those of [`open`](Graph::open).
+    pub fn from_bytes(bytes: impl AsRef<[u8]> + Send + 'static) -> Result<Graph<'static>, Error> {
+        Graph::opened(Handles::open_owned(bytes))
+    }
+
+    /// Reads the file at a path, and opens it as [`from_bytes`](Graph::from_bytes) does.
+    ///
+    /// The file may be replaced or changed afterwards.
+    ///
+    /// # Errors
+    ///
+    /// [`PathError`] has the path, with the error of reading or that of [`open`](Graph::open).
+    ///
+    /// ```
+    /// use tickmarl_hdt::Graph;
+    ///
+    /// let error = Graph::open_path("missing.hdt").unwrap_err();
+    /// assert_eq!(error.to_string(), "missing.hdt: No such file or directory (os error 2)");
+    /// ```
+    pub fn open_path(path: impl AsRef<Path>) -> Result<Graph<'static>, PathError> {
+        let path = path.as_ref();
+        Graph::from_bytes(read(path)?).map_err(|error| PathError::new(path, error))
+    }
 }
 
 impl<'bytes> Graph<'bytes> {
@@ -55,10 +129,13 @@ impl<'bytes> Graph<'bytes> {
     ///
     /// [`Error::File`] has the first error of the file; [`Error::OutOfMemory`].
     pub fn open(bytes: &'bytes [u8]) -> Result<Graph<'bytes>, Error> {
-        let (handle, verdict) = Handle::open(bytes);
+        Graph::opened(Handles::open(bytes))
+    }
+
+    fn opened((handles, verdict): (Option<Handles<'bytes>>, ffi::hdt_verdict)) -> Result<Graph<'bytes>, Error> {
         let counts = counts_of(&verdict)?;
-        let handle = handle.expect("a graph is open where the verdict is done");
-        Ok(Graph { handle, counts })
+        let handles = handles.expect("a graph is open where the verdict is done");
+        Ok(Graph { handles: Arc::new(handles), counts })
     }
 
     /// The counts of the file.
@@ -69,17 +146,18 @@ impl<'bytes> Graph<'bytes> {
     /// The number of triples, at least 1.
     #[allow(clippy::len_without_is_empty)] // (a file without triples is invalid)
     pub fn len(&self) -> u64 {
-        self.handle.len()
+        self.handles.len()
     }
 
     /// The number of strings that a role has; their IDs are 1 to this.
     pub fn count(&self, role: Role) -> u64 {
-        self.handle.count(role as u32)
+        self.handles.count(role as u32)
     }
 
     /// The ID of a dictionary string in a role, if it has that.
     pub fn id(&self, role: Role, string: &str) -> Option<u64> {
-        Some(self.handle.number(role as u32, string)).filter(|answer| *answer != ffi::HDT_ABSENT)
+        let answer = self.handles.number(role as u32, string);
+        Some(answer).filter(|id| *id != ffi::HDT_ABSENT)
     }
 
     /// The dictionary string with an ID in a role, or `None` if that is not 1 to [`count`](Graph::count).
@@ -90,7 +168,8 @@ impl<'bytes> Graph<'bytes> {
     ///
     /// [`Error::OutOfMemory`].
     pub fn string(&self, role: Role, id: u64) -> Result<Option<String>, Error> {
-        let Some(bytes) = put(FIRST_BYTES, |out| self.handle.string(role as u32, id, out))? else {
+        let call = |out: &mut [u8]| self.handles.string(role as u32, id, out);
+        let Some(bytes) = put(FIRST_BYTES, call)? else {
             return Ok(None);
         };
         Ok(Some(String::from_utf8(bytes).expect("the strings of a valid file are UTF-8")))
@@ -116,7 +195,7 @@ impl<'bytes> Graph<'bytes> {
     /// # }
     /// ```
     pub fn strings(&self, role: Role, ids: &[u64]) -> Result<Option<Strings>, Error> {
-        let (text, ends, answer) = self.handle.strings(role as u32, ids);
+        let (text, ends, answer) = self.handles.strings(role as u32, ids);
         Ok(present(answer)?.map(|_| Strings { text, ends }))
     }
 
@@ -126,7 +205,8 @@ impl<'bytes> Graph<'bytes> {
     ///
     /// [`Error::OutOfMemory`].
     pub fn header(&self) -> Result<Vec<u8>, Error> {
-        Ok(put(FIRST_BYTES, |out| self.handle.header(out))?.unwrap_or_default())
+        let call = |out: &mut [u8]| self.handles.header(out);
+        Ok(put(FIRST_BYTES, call)?.unwrap_or_default())
     }
 
     /// The IDs of the strings of a role that begin with a prefix, as two ranges.
@@ -145,7 +225,8 @@ impl<'bytes> Graph<'bytes> {
     /// # }
     /// ```
     pub fn ids_with_prefix(&self, role: Role, prefix: impl AsRef<[u8]>) -> [Range<u64>; 2] {
-        let ranges = self.handle.prefix(role as u32, prefix.as_ref());
+        let prefix = prefix.as_ref();
+        let ranges = self.handles.prefix(role as u32, prefix);
         [ranges.first, ranges.second].map(|[first, end]| first..end)
     }
 
@@ -163,7 +244,7 @@ impl<'bytes> Graph<'bytes> {
     /// ```
     pub fn predicate_counts(&self) -> Vec<u64> {
         let mut counts = vec![0; ffi::size(self.counts.predicates)];
-        self.handle.predicates(&mut counts);
+        self.handles.predicates(&mut counts);
         counts
     }
 
@@ -193,7 +274,7 @@ impl<'bytes> Graph<'bytes> {
     pub fn find_range(&self, pattern: Pattern<'_>, range: Range<u64>) -> Vec<[u64; 3]> {
         let end = range.end.min(self.matching(pattern));
         let mut triples = vec![[0; 3]; ffi::size(end.saturating_sub(range.start))];
-        let found = self.handle.find(&pattern, range.start, &mut triples);
+        let found = self.handles.find(&pattern, range.start, &mut triples);
         triples.truncate(found);
         triples
     }
@@ -221,7 +302,7 @@ impl<'bytes> Graph<'bytes> {
     /// ```
     pub fn page(&self, pattern: Pattern<'_>, from: u64, limit: usize) -> Result<Page, Error> {
         let mut triples = vec![[0; 3]; self.room(limit, from)];
-        let (found, next) = self.handle.page(&pattern, from, &mut triples);
+        let (found, next) = self.handles.page(&pattern, from, &mut triples);
         if found == ffi::HDT_NO_MEMORY {
             return Err(Error::OutOfMemory);
         }
@@ -236,7 +317,7 @@ impl<'bytes> Graph<'bytes> {
 
     /// The number of triples that match. Takes at most the time to find them, and less where they can be counted.
     pub fn matching(&self, pattern: Pattern<'_>) -> u64 {
-        self.handle.matching(&pattern)
+        self.handles.matching(&pattern)
     }
 
     /// The triples that match as N-Triples, which is UTF-8, one per line, in the order of the file. Linear time.
@@ -245,7 +326,7 @@ impl<'bytes> Graph<'bytes> {
     ///
     /// [`Error::NotATerm`] is the first string that can't be written; [`Error::OutOfMemory`].
     pub fn text(&self, pattern: Pattern<'_>) -> Result<Bytes, Error> {
-        let (text, outcome) = self.handle.text(&pattern);
+        let (text, outcome) = self.handles.text(&pattern);
         checked(&outcome).map(|()| text)
     }
 
@@ -266,7 +347,7 @@ impl<'bytes> Graph<'bytes> {
     /// # }
     /// ```
     pub fn page_text(&self, pattern: Pattern<'_>, from: u64, most: u64) -> Result<(Bytes, Option<u64>), Error> {
-        let (text, next, outcome) = self.handle.page_text(&pattern, from, most);
+        let (text, next, outcome) = self.handles.page_text(&pattern, from, most);
         checked(&outcome).map(|()| (text, index(next)))
     }
 }

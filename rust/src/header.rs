@@ -3,7 +3,7 @@
 #![allow(non_camel_case_types)]
 
 pub(crate) const HDT_VERSION_MAJOR: u32 = 1;
-pub(crate) const HDT_VERSION_MINOR: u32 = 1;
+pub(crate) const HDT_VERSION_MINOR: u32 = 3;
 
 pub(crate) const HDT_DONE: u32 = 0;
 pub(crate) const HDT_NOT_A_TERM: u32 = 250;

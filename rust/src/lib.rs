@@ -16,9 +16,12 @@
 //! # }
 //! ```
 //!
-//! All files are bytes in memory. A [`Graph`] borrows those of its file, so they stay unchanged while it is open.
-//! `std::fs::read` gives them. The standard library maps no files; with a crate that does, a mapped file that is cut
-//! or overwritten in place ends the process (SIGBUS), so replace a file in use by rename.
+//! All files are bytes in memory. A [`Graph`] borrows those of its file, so they stay unchanged while it is open; or it has
+//! them: [`Graph::open_path`] and [`Graph::from_bytes`]. The standard library maps no files; with a crate that does, a
+//! mapped file that is cut or overwritten in place ends the process (SIGBUS), so replace a file in use by rename, as
+//! [`build_path`] and [`rewrite_path`] do.
+//!
+//! Threads may share a graph, or have a clone each: their calls run at the same time.
 //!
 //! A string is a dictionary string everywhere: an IRI without brackets (`http://a/b`), a blank node with its label
 //! (`_:b`), or a literal with its quotes and without escapes, followed by nothing, a language tag or a datatype
@@ -41,16 +44,20 @@ mod file;
 mod graph;
 mod header;
 mod matches;
+mod paths;
 mod pattern;
+mod pool;
+mod replace;
 mod split;
 mod strings;
 mod term;
 
-pub use error::{Error, FileError, FileReason, TextError, TextReason};
+pub use error::{Cause, Error, FileError, FileReason, PathError, TextError, TextReason};
 pub use ffi::Bytes;
-pub use file::{build, rewrite, verify, verify_tight, Counts, BLOCK_SIZE};
+pub use file::{build, merge, rewrite, verify, verify_tight, Counts, BLOCK_SIZE};
 pub use graph::Graph;
 pub use matches::{Matches, Page};
+pub use paths::{build_path, merge_paths, rewrite_path};
 pub use pattern::{Pattern, Role};
 pub use split::{split, Split};
 pub use strings::Strings;

@@ -45,7 +45,7 @@ impl<'a> Matches<'a> {
     fn turn(&mut self, from: u64) {
         let room = self.graph.room((4 * self.page.len()).clamp(FIRST_MATCHES, MOST_MATCHES), from);
         self.page.resize(room, [0; 3]);
-        let (found, next) = self.graph.handle.page(&self.pattern, from, &mut self.page);
+        let (found, next) = self.graph.handles.page(&self.pattern, from, &mut self.page);
         if found == ffi::HDT_NO_MEMORY {
             abort_without_memory(room * size_of::<[u64; 3]>());
         }

@@ -2,7 +2,7 @@
 
 use std::fs;
 
-use tickmarl_hdt::{build, rewrite, split, Graph, Pattern, Role, BLOCK_SIZE};
+use tickmarl_hdt::{build, merge, rewrite, split, Graph, Pattern, Role, BLOCK_SIZE};
 
 /// The resident memory of this process in pages of 4 KiB.
 fn resident() -> i64 {
@@ -15,6 +15,10 @@ fn memory_is_freed() {
     let text: String = (0..4_000).map(|n| format!("<u:s{n}> <u:p> \"{n:0100}\" .\n")).collect();
     let all = |file: &[u8]| {
         (0..10).for_each(|_| drop(Graph::open(file).unwrap()));
+        for _ in 0..5 {
+            let graph = Graph::open(file).unwrap();
+            assert!(merge([&graph, &graph], "u:b", BLOCK_SIZE).unwrap().0.starts_with(b"$HDT"));
+        }
         let graph = Graph::open(file).unwrap();
         let ids: Vec<u64> = (1..=graph.count(Role::Object)).collect();
         assert!(graph.strings(Role::Object, &ids).unwrap().is_some());

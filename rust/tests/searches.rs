@@ -54,7 +54,7 @@ fn ids_of_no_string_match_nothing() {
     let file = file();
     let graph = Graph::open(&file).unwrap();
     for (role, count) in ROLES.map(|role| graph.count(role)).into_iter().enumerate() {
-        for id in [0, count + 1, u64::MAX] {
+        for id in [0, count + 1, (1 << 32) + 1, u64::MAX] {
             let mut ids = [None; 3];
             ids[role] = Some(id);
             assert_eq!((graph.matching(by_ids(ids)), graph.find(by_ids(ids)).next()), (0, None));
@@ -86,9 +86,11 @@ fn pages_one_after_another_are_all_matches() {
             assert_eq!(texts, graph.text(by_ids(ids)).unwrap()[..]);
         }
     }
-    for from in [graph.len(), u64::MAX] {
-        let page = graph.page(Pattern::any(), from, 10).unwrap();
-        assert_eq!((page.triples, page.next), (vec![], None));
+    for from in [graph.len() - 1, graph.len(), graph.len() + 1, 1 << 32, u64::MAX] {
+        let page = graph.page(Pattern::any(), from, usize::MAX).unwrap();
+        let left = graph.len().saturating_sub(from) as usize;
+        assert_eq!((&page.triples[..], page.next), (&all[all.len() - left..], None));
+        assert_eq!(page.triples.capacity(), left);
     }
     let page = graph.page(Pattern::any(), 3, 0).unwrap();
     assert_eq!((page.triples, page.next), (vec![], Some(3)));

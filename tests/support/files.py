@@ -13,8 +13,6 @@ from support.built import PROGRAM, SAMPLES
 from support.program import Result, Word, run
 
 THREE = SAMPLES / "three.nt"
-READING_FAILED = Result(3, b"", b"hdt: reading failed\n")
-WRITING_FAILED = Result(3, b"", b"hdt: writing failed\n")
 as_root = pytest.mark.skipif(os.geteuid() != 0, reason="only root may be another user")
 # The commands that make a file.
 MAKERS = ("build", "rewrite")

@@ -30,10 +30,12 @@ from support.python_package import ENVIRONMENT, PACKAGE, hdt
 with mock.patch.object(sys, "dont_write_bytecode", True), mock.patch.object(sys, "path", [str(PACKAGE), *sys.path]):
     import hdt.fragments as fragments
     from hdt.fragments import _style as style
+    from hdt.fragments import _terms as terms
     from hdt.fragments.__main__ import Handler, Server
 
 __all__ = [
-    "BASE", "ODD", "PATIENCE", "Answer", "Handler", "Served", "Server", "Site", "fragments", "hdt", "style", "url",
+    "BASE", "ODD", "PATIENCE", "Answer", "Handler", "Served", "Server", "Site", "fragments", "hdt", "style",
+    "terms", "url",
 ]
 
 BASE = "http://localhost:8080/"
@@ -177,7 +179,7 @@ class Served:
         words = [sys.executable, "-m", "hdt.fragments", "--port", "0", "--config", str(file)]
         if gunicorn:
             words = [GUNICORN, "--preload", "-b", "127.0.0.1:0", "-w", "2", "--threads", "4",
-                     "--limit-request-line", "8190", "hdt.fragments:from_environment()"]
+                     "--limit-request-line", "8190", "--graceful-timeout", "2", "hdt.fragments:from_environment()"]
         with open(self.log, "wb") as log:
             self.process = subprocess.Popen(
                 words, stdout=log, stderr=subprocess.STDOUT, cwd=folder,

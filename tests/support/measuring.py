@@ -32,14 +32,15 @@ class Meter:
         """Compile the library in this folder, where its log is kept too."""
         self.library, self.log = preloaded("measure.c", folder), folder / "measure.log"
 
-    def run(self, command: Sequence[Word], *, stdin: bytes = b"") -> Measured:
-        """Run a command that reads these bytes from a pipe."""
+    def run(self, command: Sequence[Word], *, stdin: bytes = b"", cwd: Path | None = None) -> Measured:
+        """Run a command that reads these bytes from a pipe, in a folder."""
         self.log.unlink(missing_ok=True)
         done = subprocess.run(
             [os.fsencode(word) for word in command],
             input=stdin,
             capture_output=True,
             timeout=SECONDS,
+            cwd=cwd,
             env={**os.environ, "LD_PRELOAD": os.fspath(self.library), "MEASURE_LOG": os.fspath(self.log)},
         )
         return Measured(Result(done.returncode, done.stdout, done.stderr), *struct.unpack("=3q", self.log.read_bytes()))

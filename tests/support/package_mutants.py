@@ -40,7 +40,8 @@ def first_test(module: str, old: str, new: str, tests: Sequence[str]) -> Optiona
         for name in ("python", "tests"):
             shutil.copytree(TOP / name, top / name, ignore=shutil.ignore_patterns("__pycache__", ".hypothesis"))
         shutil.copy(TOP / "pytest.ini", top)
-        os.symlink(TOP / "samples", top / "samples")
+        for name in ("samples", "docs"):
+            os.symlink(TOP / name, top / name)
         source = (top / module).read_text()
         if old not in source:
             raise SystemExit(f"{module} has no such text: {old}")

@@ -4,30 +4,33 @@ from __future__ import annotations
 
 import gzip
 import importlib
+import json
 import os
 import random
 import signal
+import socket
 import sys
 import tempfile
-from collections.abc import Iterator, Sequence
+from collections.abc import Callable, Iterator, Sequence
 from contextlib import contextmanager
 from itertools import product
 from pathlib import Path
-from typing import Any, NamedTuple, Optional
+from typing import Any, NamedTuple, Optional, Union
 from unittest import mock
 
 from support.python_package import PACKAGE, hdt
 
 with mock.patch.object(sys, "dont_write_bytecode", True), mock.patch.object(sys, "path", [str(PACKAGE), *sys.path]):
     import hdt.parts as parts
-    from hdt.parts import _build, _files, _folder, _inputs, _manifest, _split
+    from hdt.parts import _build, _files, _folder, _inputs, _manifest, _regular, _split
 
-__all__ = ["Triple", "builds", "check_same", "files", "graph_of", "hdt", "inputs", "interrupt", "manifests", "named",
-           "of_one", "parts", "patterns", "ranges", "small", "split", "splits", "text_of"]
+__all__ = ["NUMBERS", "ROWS", "SPECIAL", "TEXTS", "Triple", "builds", "check_same", "files", "graph_of", "hdt",
+           "inputs", "interrupt", "manifests", "named", "of_one", "parts", "patterns", "places", "put", "ranges",
+           "regular", "small", "split", "splits", "spoiled", "text_of"]
 
 Triple = tuple[str, str, str]
 
-ranges, splits, builds, files, manifests = _inputs, _split, _build, _files, _manifest
+ranges, splits, builds, files, manifests, regular = _inputs, _split, _build, _files, _manifest, _regular
 KINDS = list(product((False, True), repeat=3))
 # Terms that are no part of any graph here.
 ABSENT = [("u:none", None, None), (None, "u:none", None), (None, None, '"none"'), ("\ud800", None, None)]
@@ -145,6 +148,105 @@ def check_windows(graph: parts.Graph, pattern: Any, found: Sequence[Triple]) -> 
                 break
         assert rows == list(found[:len(rows)]) and (at is not None or len(rows) == len(found))
     assert graph.position(*pattern, skip=len(found)) is None
+
+
+# ---- manifests that are wrong
+
+Place = tuple[Union[str, int], ...]
+
+# Values, as JSON, that no number of a manifest can be, and that no text can be.
+NUMBERS = ["null", "true", "false", "-1", "1.0", "0.5", "1e999", "-1e999", "NaN", "Infinity", "-Infinity",
+           "-0.0", str(2**63), "9" * 19, "9" * 20, "9" * 21, "-" + "9" * 21, "9" * 5_000,
+           '"1"', '""', "[]", "[1]", "{}",
+           '{"a":1}', '"\\ud800"']
+TEXTS = ["null", "true", "0", "1", "-1", "1.5", "1e999", "NaN", "9" * 5000, "[]", '["x"]', "{}", '"\\u0000"',
+         '"a\\u0000b"']
+ROWS = ["null", "true", "1", "1e999", '""', '"x"', "{}", '{"0":{}}', "[1]", "[null]", '["x"]', "[[]]", "[{}]"]
+
+
+def places(values: Any, at: Place = ()) -> Iterator[Place]:
+    """The places of all values of a manifest, with the lists and objects."""
+    for key, value in values.items() if isinstance(values, dict) else enumerate(values):
+        yield (*at, key)
+        if isinstance(value, (dict, list)):
+            yield from places(value, (*at, key))
+
+
+def put(values: Any, place: Place, value: str) -> str:
+    """The JSON of values with one of them replaced by a text."""
+    copy = json.loads(json.dumps(values))
+    there = copy
+    for key in place[:-1]:
+        there = there[key]
+    there[place[-1]] = "@@"
+    return json.dumps(copy).replace('"@@"', value)
+
+
+def spoiled(draw: random.Random, good: str) -> str:
+    """A manifest with a drawn fault, or a few. Rarely it is a good one yet."""
+    text, kind = good, draw.randrange(10)
+    if kind == 0:
+        return draw.choice(["", "{", "[" * 50_000, '{"parts":[' * 20_000, "null", "[]", '"x"', "1e999", good + good])
+    if kind == 1:
+        return good[:draw.randrange(len(good))]
+    if kind == 2:
+        for _ in range(draw.randint(1, 3)):
+            at = draw.randrange(len(text))
+            other = draw.choice(list('"{}[],:0e\\\n\0 -.\u00e9\U0001f600'))
+            text = text[:at] + other + text[at + draw.randrange(3):]
+        return text
+    for _ in range(draw.choice([1, 1, 1, 2, 4])):
+        values = json.loads(text)
+        place = draw.choice(list(places(values)))
+        other = str(draw.randrange(-9, 2**draw.randrange(70)))
+        text = put(values, place, draw.choice([*NUMBERS, *TEXTS, *ROWS, other]))
+        if kind == 3:
+            key = json.dumps(place[-1])
+            return text.replace(f"{key}: ", f"{key}: 1, {key}: ") if isinstance(place[-1], str) else text
+        try:
+            json.loads(text)
+        except ValueError:
+            return text
+    return text
+
+
+# ---- what is no regular file
+
+
+def fifo(path: Path) -> None:
+    """A pipe without a writer."""
+    os.mkfifo(path)
+
+
+def listening(path: Path) -> None:
+    """A socket."""
+    with socket.socket(socket.AF_UNIX) as it:
+        before = os.getcwd()
+        os.chdir(path.parent)  # (the names of sockets are short)
+        try:
+            it.bind(path.name)
+        finally:
+            os.chdir(before)
+
+
+def linked_to(target: str) -> Callable[[Path], None]:
+    """A link."""
+    return lambda path: path.symlink_to(target)
+
+
+def linked_fifo(path: Path) -> None:
+    """A link to a pipe."""
+    os.mkfifo(path.with_suffix(".pipe"))
+    path.symlink_to(path.with_suffix(".pipe"))
+
+
+SPECIAL: dict[str, Callable[[Path], None]] = {
+    "pipe": fifo, "link to a pipe": linked_fifo, "socket": listening, "folder": Path.mkdir,
+    "zero": linked_to("/dev/zero"), "null": linked_to("/dev/null"), "full": linked_to("/dev/full"),
+    "random": linked_to("/dev/urandom"), "terminal": linked_to("/dev/tty"), "link to nothing": linked_to("none"),
+    "link to itself": lambda path: path.symlink_to(path.name), "root": linked_to("/"),
+    "file that grows as it is read": linked_to("/proc/self/smaps"),
+}
 
 
 # ---- processes that end or stop

@@ -8,9 +8,11 @@ from support.package_mutants import judge
 
 # (the tests that need Dask are left out)
 BUILD, SEARCH, WORKERS = "tests/test_parts.py", "tests/test_parts_search.py", "tests/test_parts_workers.py"
+HOSTILE = "tests/test_parts_hostile.py"
 ORDERS = {
     "_executor": [WORKERS, BUILD, SEARCH], "_folder": [SEARCH, BUILD, WORKERS], "_graph": [SEARCH, BUILD, WORKERS],
-    "_files": [SEARCH, BUILD, WORKERS], "_manifest": [SEARCH, BUILD, WORKERS],
+    "_files": [SEARCH, BUILD, WORKERS], "_manifest": [HOSTILE, SEARCH, BUILD, WORKERS],
+    "_regular": [HOSTILE],
 }
 
 WRONG = {
@@ -30,17 +32,26 @@ WRONG = {
     "_manifest": [
         ("another hash where a subject is asked for", "zlib.crc32(subject", "zlib.adler32(subject"),
         ("a manifest's hash isn't looked at", ', ("hash", HASH)):', "):"),
-        ("a part's file may be anywhere",
-         'if part.file not in (("", file_of(number)) if not part.triples else (file_of(number),)):', "if False:"),
+        ("a part's file may be anywhere", "if part.file != file_of(number):", "if False:"),
         ("sums aren't compared", "if (made.triples, made.subjects) != (", "if False and () != ("),
+        ("True is a number", "if type(found) is not int or", "if not isinstance(found, int) or"),
+        ("a number may be any",
+         "if type(found) is not int or not least <= found <= most:", "if type(found) is not int:"),
+        ("a long number is read", "if len(digits) <= 20 else math.inf", "if True else math.inf"),
+        ("the last of two fields counts", "        if name in found:\n", "        if False:\n"),
+        ("a manifest may have any length", "if len(text) > MOST_BYTES:", "if False:"),
+        ("a manifest is read whole", "regular.read(file, MOST_BYTES + 1)", "file.read()"),
+        ("a deep manifest is another error", "        except RecursionError:\n", "        except KeyError:\n"),
+    ],
+    "_regular": [
+        ("pipes are waited for", "flags | os.O_NONBLOCK | os.O_NOCTTY", "flags"),
+        ("what is opened isn't looked at", "        _check(os.fstat(file.fileno()), path)\n", ""),
+        ("a file is read to its end", "read(file, size + 1)", "file.read()"),
+        ("a file may change while it is read", "if len(data) != size:", "if False:"),
     ],
     "_inputs": [
-        ("a block ends between CR and LF", 'piece.rfind(b"\\r", 0, -1) + 1', 'piece.rfind(b"\\r") + 1'),
-        ("a range loses its first line if it begins after a line feed",
-         "        file.seek(start - 1)\n        start += len(file.readline()) - 1\n",
-         "        file.seek(start)\n        start += len(file.readline())\n"),
-        ("a range's last line is cut",
-         '        if not left and not piece.endswith(b"\\n"):\n            piece += file.readline()\n', ""),
+        ("a range loses its first line if it begins after a line feed", "max(start - 1, 0)", "start"),
+        ("a range's last line is cut", 'while not piece.endswith(b"\\n") and (piece :=', "while False and (piece :="),
         ("pipes are read", "if not stat.S_ISREG(there.st_mode):", "if False:"),
         ("a gzip file that is cut is whole",
          '        raise OSError(f"{it.path}: not a whole gzip file: {error}") from error\n', "        return\n"),
@@ -61,7 +72,6 @@ WRONG = {
         ("a part has the files of ranges that have none of it",
          "for each in pieces if each.sizes[number]]", "for each in pieces]"),
         ("a range has the sizes of its last block", "list(map(operator.add, sizes, found.sizes))", "found.sizes"),
-        ("pages of a text stay in memory", "            self._data.madvise(mmap.MADV_DONTNEED)", "            pass"),
         ("a text stays in the folder", "        os.unlink(path)\n", ""),
         ("attempts at a task share a file", '{name}.{os.getpid()}-{secrets.token_hex(8)}")', '{name}")'),
         ("scratch files stay in the folder",
@@ -72,6 +82,15 @@ WRONG = {
         ("the folder is there before it is full",
          'beside = f"{target}.unfinished-{secrets.token_hex(8)}"', "beside = target"),
         ("a folder that is there is taken", "    if os.path.lexists(target):\n", "    if False:\n"),
+        ("a dangling link is no folder", "    if os.path.lexists(target):\n", "    if os.path.exists(target):\n"),
+        ("the late of two builds has another error",
+         "            _check_absent(target)  # (another", "            pass  # (another"),
+        ("the folder's name isn't synced", "        _sync(os.path.dirname(target))\n", ""),
+        ("the folder isn't synced", "        _sync(self.made)\n", ""),
+        ("a part isn't synced", "            os.fsync(out.fileno())\n", ""),
+        ("paths of inputs are absolute", "zip(self._names, sizes)", "zip(self._paths, sizes)"),
+        ("65,536 parts are too many", "<= count <= MOST_PARTS", "<= count < MOST_PARTS"),
+        ("a block size is looked at late", "<= size <= 65_535", "<= size <= 65_536"),
         ("parts without triples are forgotten",
          "return [found.get(number, Part()) for number in range(self._parts)]", "return list(found.values())"),
         ("no triples are a graph", "if not any(row.triples for row in rows):", "if False:"),
@@ -103,7 +122,7 @@ WRONG = {
         ("parts one after another in place of merged",
          "iter(heapq.merge(*map(_sorted, streams)))", "(row for it in map(_sorted, streams) for row in it)"),
         ("subjects are one stream", "middles = list(results(", "middles = [None for _ in numbers] or list(results("),
-        ("a subject asks all parts", "        if pattern[0] is None:\n", "        if True:\n"),
+        ("a subject asks all parts", "        if not isinstance(terms[0], str):\n", "        if True:\n"),
         ("a subject asks the wrong part", "return [home] if", "return [home - 1] if"),
         ("what is left out counts for each part", "            skip -= count\n", "            pass\n"),
         ("what is left out, is in each part", "                skip = 0\n", "                pass\n"),
@@ -111,8 +130,10 @@ WRONG = {
     ],
     "_files": [
         ("a stream goes on over its middle", "if stop is not None and", "if False and"),
-        ("no checksum is looked at",
-         "if len(data) == part.bytes and hashlib.sha256(data).hexdigest() == part.sha256:", "if True:"),
+        ("no checksum is looked at", "if hashlib.sha256(data).hexdigest() != part.sha256:", "if False:"),
+        ("no size is looked at", "            if size == part.bytes:\n", "            if True:\n"),
+        ("a file is closed, though it is used",
+         "self._graphs.popitem(last=False)  #", "self._graphs.popitem(last=False)[1].close()  #"),
         ("counts aren't compared", "if graph.counts != part.counts:", "if False:"),
         ("verify looks at what is open", "    with opened(folder, part) as graph:\n        for subject",
          "    graph = _kept.graph(folder, part)\n    if True:\n        for subject"),
@@ -121,9 +142,10 @@ WRONG = {
         ("what is kept open has no bound", "while len(self._graphs) > self._most:", "while False:"),
         ("the oldest file is closed, though it is used", "                self._graphs.move_to_end(key)\n", ""),
         ("a closed folder has files open", "        for graph in graphs:\n            graph.close()\n", ""),
-        ("a forked process has the lock of before", "os.register_at_fork(after_in_child=_after_fork)\n", ""),
+        ("a forked process has the lock of before",
+         "super().__init__()\n", "import threading\n        self._lock = threading.Lock()\n"),
     ],
 }
 
 if __name__ == "__main__":
-    sys.exit(judge("python/hdt/parts", WRONG, lambda it: ORDERS.get(it, [BUILD, SEARCH, WORKERS])))
+    sys.exit(judge("python/hdt/parts", WRONG, lambda it: ORDERS.get(it, [BUILD, SEARCH, HOSTILE, WORKERS])))

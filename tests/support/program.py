@@ -4,6 +4,7 @@ from __future__ import annotations
 
 import hashlib
 import os
+import re
 import subprocess
 import threading
 from collections.abc import Iterable, Mapping, Sequence
@@ -35,6 +36,20 @@ def failed(status: int, line: str) -> Result:
     return Result(status, b"", b"hdt: " + line.encode() + b"\n")
 
 
+class InputOutputError(bytes):
+    """Standard error of a command whose input or output failed: equal to this line and one with the system's reason."""
+
+    def __eq__(self, other: object) -> bool:
+        if not isinstance(other, bytes) or not other.startswith(self):
+            return False
+        return re.fullmatch(rb"  [^\n]*: [^\n]+\n", other[len(self):]) is not None
+
+    def __ne__(self, other: object) -> bool:
+        return not self == other
+
+    __hash__ = bytes.__hash__
+
+
 def fault(number: int, name: str, offset: int) -> Result:
     """The result of a command whose input has an error: its number, its name and its byte offset."""
     return failed(1, f"fault {number} {name} at {offset}")
@@ -44,8 +59,8 @@ NO_TRIPLES = failed(1, "no triples")
 NO_SUCH_TERM = failed(1, "no such term")
 NO_SUCH_NUMBER = failed(1, "no such number")
 BAD_OPTIONS = failed(2, "bad options")
-READING_FAILED = failed(3, "reading failed")
-WRITING_FAILED = failed(3, "writing failed")
+READING_FAILED = Result(3, b"", InputOutputError(b"hdt: reading failed\n"))
+WRITING_FAILED = Result(3, b"", InputOutputError(b"hdt: writing failed\n"))
 OUT_OF_MEMORY = failed(4, "out of memory")
 
 

@@ -6,7 +6,12 @@ import sys
 
 from support.package_mutants import judge
 
-TESTS = [f"tests/test_python{name}.py" for name in ("_calls", "_terms", "_files", "")]
+TESTS = [f"tests/test_python{name}.py"
+         for name in ("_calls", "_terms", "_files", "", "_lines", "_memory", "_sharing", "_threads")]
+# The tests that are run first for a module.
+FIRST = {"_handle": "_memory", "_handles": "_sharing", "_library": "_sharing", "_brief": "_sharing",
+         "_forks": "_threads", "_columns": "_memory", "_files": "_files", "_lines": "_lines", "_terms": "_terms",
+         "_calls": "_terms", "_rdflib_terms": "_terms", "_faults": ""}
 
 WRONG = {
     "_handle": [
@@ -33,8 +38,17 @@ WRONG = {
         ("prefixes are in one section",
          "(range(*ranges.first), range(*ranges.second)) if ids]", "(range(*ranges.first),) if ids]"),
         ("a range of a prefix may be empty", "range(*ranges.second)) if ids]", "range(*ranges.second))]"),
-        ("a role lacks its last string",
-         "for first in range(1, count + 1, _PORTION):", "for first in range(1, count, _PORTION):"),
+        ("a role lacks its last string", "while first <= count:", "while first < count:"),
+        ("a text of no memory is empty",
+         "        if outcome.reason == _library.OUT_OF_MEMORY:\n            raise MemoryError\n", ""),
+        ("an answer of no memory is none",
+         "    if answer == _library.NO_MEMORY:\n        raise MemoryError\n", ""),
+        ("no answer is an ID", "if answer < _library.CLOSED:", "if answer <= _library.ABSENT:"),
+        ("a search has more matches in memory", "_MOST_MATCHES = 4_096", "_MOST_MATCHES = 16_384"),
+        ("objects are those that are no subjects", "counts.shared + counts.objects)[role]", "counts.objects)[role]"),
+        ("strings of a closed graph are counted", "        self._check_open()\n        counts = ", "        counts = "),
+        ("a role is looked up by more strings", "_PORTION = 4_096", "_PORTION = 65_536"),
+        ("portions of a role always grow", "if sum(map(len, strings)) < _PORTION_BYTES else max(size // 4, 1)", ""),
         ("pieces begin again", "piece, start = self._page_text(pattern, start, _LINES)",
          "piece, start = self._page_text(pattern, start - start % 3, _LINES)"),
         ("the last piece is lost", "            if piece:\n", "            if piece and start is not None:\n"),
@@ -42,7 +56,81 @@ WRONG = {
         ("a page of text has a next one at the end",
          "return text, None if following[0] == _library.ABSENT else following[0]", "return text, following[0] % 2**63"),
     ],
+    "_handles": [
+        ("a closed graph is asked",
+         "                if self._is_closed:\n                    raise closed()\n                return",
+         "                return"),
+        ("a closed graph is asked for strings",
+         "                if self._is_closed:\n                    raise closed()\n                size",
+         "                size"),
+        ("closing doesn't wait", "            with shared._lock:\n                library.hdt_close",
+         "            if True:\n                library.hdt_close"),
+        ("closing leaves a handle", "for shared in self._shared:", "for shared in self._shared[1:]:"),
+        ("closing leaves the first handle", "                library.hdt_close(self._first)", "                pass"),
+        ("calls that begin wait for the end of closing", "        self._is_closed = True\n", "        pass\n"),
+        ("all calls have one handle", "shared = self._free.pop()\n", "shared = self._shared[0]\n"),
+        ("each call has a new handle", "            self._free.append(shared)\n", "            pass\n"),
+        ("a handle without a graph is used", "library.hdt_share(self._first, shared.handle) != _library.DONE", "False"),
+        ("a handle without a graph is kept", "                self._shared.pop()\n", ""),
+        ("handles are made at the same time", "with self._lock, shared._lock:", "with shared._lock:"),
+        ("a child closes a handle that was made", "with self._lock, shared._lock:", "with self._lock:"),
+        ("a child closes a handle that was in use", "and never closed.\"\"\"\n        self.handle = Handle()\n",
+         "and never closed.\"\"\"\n"),
+        ("a child shares a handle that was in use", "again to share it.\"\"\"\n        self._first = None\n",
+         "again to share it.\"\"\"\n"),
+        ("room for a long string is kept", "if most <= _MOST_BYTES:", "if True:"),
+        ("a long string is cut", "if most < size < _library.CLOSED:", "if False:"),
+        ("a long string is put into the room of before", "larger = room, at, room_size = room_for(size)",
+         "larger = room, _, room_size = room_for(size)"),
+        ("the room that is kept has the size of before",
+         "shared.room = larger", "shared.room = larger[0], larger[1], shared.room[2]"),
+        ("a string of no memory is none",
+         "        if size == _library.NO_MEMORY:\n            raise MemoryError\n", ""),
+    ],
+    "_library": [
+        ("brief calls give up the lock", "held = ctypes.PyDLL", "held = ctypes.CDLL"),
+        ("large texts are freed with the lock", "(held if self.len <= _SMALL else library)", "held"),
+        ("small texts are freed without the lock", "(held if self.len <= _SMALL else library)", "library"),
+        ("handles are side by side", ', ("rest", ctypes.c_uint64 * 6)]', "]"),
+    ],
+    "_brief": [
+        ("brief calls that take long keep the lock", "if perf_counter() - begun > _LONG:", "if False:"),
+        ("every second long call keeps the lock", "_AFTER_LONG = 100", "_AFTER_LONG = 1"),
+        ("once a call took long all give up the lock", "            self._left -= 1\n", ""),
+        ("all calls keep the lock", "return self._gives_up(", "return self._keeps("),
+    ],
+    "_forks": [
+        ("a child has the lock of before", "            it._lock = threading.Lock()\n", ""),
+        ("a child opens every graph again", "if it._lock.acquire(blocking=False):", "if False:"),
+    ],
+    "_lines": [
+        ("CR ends no line", 'max(text.rfind(b"\\n", *window), text.rfind(b"\\r", *window))',
+         'text.rfind(b"\\n", *window)'),
+        ("LF ends no line", 'max(text.rfind(b"\\n", *window), text.rfind(b"\\r", *window))',
+         'text.rfind(b"\\r", *window)'),
+        ("a line may have no byte more", "begin > longest:", "begin >= longest:"),
+        ("a line may have a byte more", "begin + longest + 1\n", "begin + longest + 2\n"),
+        ("lines before are not checked", "        while begin < self._begin:\n", "        while False:\n"),
+        ("CR and LF are parted", 'end + int(text[end - 1 : end + 1] == b"\\r\\n")', "end"),
+        ("a line before is counted from its piece", "lines + report.line, report.column", "report.line, report.column"),
+        ("a text is read whole", "while piece := file.read1(_PIECE):", "while piece := file.read():"),
+        ("a pipe is waited for", "while piece := file.read1(_PIECE):", "while piece := file.read(_PIECE):"),
+        ("no memory is an error of the text",
+         "            if report.reason == OUT_OF_MEMORY:\n                raise MemoryError\n", ""),
+    ],
+    "_faults": [
+        ("a pickle lacks the path", "return type(self), (self.reason, self.place, self.path)",
+         "return type(self), (self.reason, self.place)"),
+        ("a pickle of a line lacks the path", "return type(self), (self.reason, self.line, self.column, self.path)",
+         "return type(self), (self.reason, self.line, self.column)"),
+        ("the path is not shown", 'return what if path is None else f"{path}: {what}"', "return what"),
+    ],
     "_calls": [
+        ("a question mark is searched for", 'if term in ("", "?"):', 'if term == "":'),
+        ("an empty string is searched for", 'if term in ("", "?"):', 'if term == "?":'),
+        ("bytes are in a graph", "isinstance(term, (str, Term)) for term in it)", "term for term in it)"),
+        ("an error has no path", "name = None if path is None else os.fsdecode(path)", "name = None"),
+        ("an error has the path as bytes", "os.fsdecode(path)", "os.fspath(path)"),
         ("an ID of a pattern of no string is a string's",
          "number if 0 <= number < 2**64 else 0, _ADDRESS", "number if 0 <= number < 2**64 else 1, _ADDRESS"),
         ("IDs of a pattern wrap", "number if 0 <= number < 2**64 else 0, _ADDRESS", "number % 2**64, _ADDRESS"),
@@ -52,8 +140,10 @@ WRONG = {
     "_columns": [
         ("portions overlap", "at += 3 * size\n", "at += 3 * size - 3 * (size > 4)\n"),
         ("a role is kept past its bound", "if taken > _WHOLE_BYTES:", "if False:"),
-        ("a role lacks its last portion", "min(first + _LEAST, count + 1)", "min(first + _LEAST, count)"),
-        ("a given term keeps its class", "str.__str__(term) for", "term for"),
+        ("portions always grow", "if self._taken >= _BYTES:", "if False:"),
+        ("the rest of a page makes portions grow", "elif len(portion) == 3 * size:", "else:"),
+        ("a role is looked up whole for a small limit",
+         "return self._matches if self._limit is None else min(self._limit, self._matches)", "return self._matches"),
         ("a role is looked up by another one",
          "strings = self._graph._strings(role, distinct) or []", "strings = self._graph._strings(0, distinct) or []"),
         ("strings of a page are by role 0",
@@ -63,20 +153,33 @@ WRONG = {
         ("a page takes IDs", "self._checked(matched(s, p, o)), window(start, operator.index(limit))",
          "self._checked(pattern_of(s, p, o)), window(start, operator.index(limit))"),
         ("text is written as text only", "is_text = isinstance(file, io.TextIOBase)", "is_text = True"),
-        ("another file is taken", "if found != identity:", "if False:"),
+        ("another file is taken", "if wanted not in (None, identity):", "if False:"),
         ("a graph is opened again by a relative path",
-         "graph._origin = os.path.abspath(os.fsdecode(path)), copy, identity",
-         "graph._origin = os.fsdecode(path), copy, identity"),
+         "graph._origin = os.path.abspath(name), copy, identity", "graph._origin = name, copy, identity"),
+        ("a fault of a file has no path", "raise Fault(fault.reason, fault.place, name) from None", "raise"),
         ("a graph of a pipe is pickled",
          "if self._origin is None or self._origin[2] is None:", "if self._origin is None:"),
         ("the option is forgotten in a pickle",
-         "graph._origin = path, copy, identity", "graph._origin = path, None, identity"),
+         "= os.path.abspath(name), copy, identity", "= os.path.abspath(name), None, identity"),
     ],
     "_files": [
         ("a file is known by its size",
          "Identity(there.st_ino, there.st_size, there.st_mtime_ns)", "Identity(0, there.st_size, 0)"),
         ("a file is known by its date",
          "Identity(there.st_ino, there.st_size, there.st_mtime_ns)", "Identity(0, there.st_size, there.st_mtime_ns)"),
+        ("an interrupt leaves a file", "except BaseException:", "except Exception:"),
+        ("one device is one file", "return stat.S_ISREG(there.st_mode) and os.path", "return os.path"),
+        ("setuid bits are taken over", "mode = replaced.st_mode & 0o777", "mode = replaced.st_mode & 0o7777"),
+        ("the group is not taken over", "os.fchown(descriptor, -1, replaced.st_gid)", "pass"),
+        ("the owner is taken over",
+         "os.fchown(descriptor, -1, replaced.st_gid)", "os.fchown(descriptor, 0, replaced.st_gid)"),
+        ("another group gets the permissions", "if os.fstat(descriptor).st_gid != replaced.st_gid:", "if False:"),
+        ("others get more than the group had", "both << 3 | both", "both << 3 | mode & 0o7"),
+        ("permissions are of another moment",
+         "            os.fsync(descriptor)\n            _take_over(descriptor, target)\n",
+         "            _take_over(descriptor, target)\n            os.fsync(descriptor)\n"),
+        ("a mapped text may have longer lines", "                lines.check(data)\n", "                pass\n"),
+        ("the longest line may be negative", "    if number < 0:\n", "    if False:\n"),
     ],
     "_ids": [
         ("a slice of an array is by IDs", "self.array[3 * first : 3 * last]", "self.array[first : last]"),
@@ -91,8 +194,19 @@ WRONG = {
         ("xsd:string is kept", "None if kind == _XSD_STRING else kind", "kind"),
         ("a carriage return isn't escaped", ', "\\r": "\\\\r"})', "})"),
         ("an IRI isn't escaped", "else _ESCAPED_IN_IRI)", "else {})"),
+        ("a term keeps its class", "return str.__str__(term)", "return term"),
+        ("a term of rdflib is its text", 'getattr(sys.modules.get("rdflib.term"), "Identifier", ())', "()"),
+        ("a Variable is a ValueError", "if isinstance(term, _rdflib_terms.TERMS):", "if True:"),
+        ("a number is parsed", "string = string_of(string)", "pass"),
     ],
 }
 
+
+def tests_of(module: str) -> list[str]:
+    """All tests, those first that are likely to see a wrong body of a module."""
+    first = f"tests/test_python{FIRST.get(module, '_calls')}.py"
+    return [first, *(tests for tests in TESTS if tests != first)]
+
+
 if __name__ == "__main__":
-    sys.exit(judge("python/hdt", WRONG, lambda _: TESTS))
+    sys.exit(judge("python/hdt", WRONG, tests_of))

@@ -8,8 +8,7 @@ from __future__ import annotations
 import tempfile
 import warnings
 from collections.abc import Callable, Iterable, Iterator
-from contextlib import contextmanager, nullcontext
-from functools import partial
+from contextlib import ExitStack, contextmanager
 from pathlib import Path
 from typing import Any, NamedTuple, Optional
 from unittest import mock
@@ -20,11 +19,11 @@ from rdflib import BNode, Graph, Literal, URIRef
 from rdflib.plugins.sparql import CUSTOM_EVALS
 
 from reference import hdt as reference
-from support.rdflib_package import plan, store
+from support.rdflib_package import options, paths, store
 
 XSD = "http://www.w3.org/2001/XMLSchema#"
 RDF = "http://www.w3.org/1999/02/22-rdf-syntax-ns#"
-MODES = ["rdflib", "terms", "ids", "tables"]
+MODES = ["rdflib", "ids", "tables"]
 
 
 class Drawn(NamedTuple):
@@ -141,7 +140,7 @@ def stored(triples: Iterable[Row], **options: Any) -> Iterator[Graph]:
 
 @contextmanager
 def evaluated(mode: str) -> Iterator[None]:
-    """Queries are evaluated in a mode: by rdflib alone, planned over terms, or planned over IDs where they can be.
+    """Queries are evaluated in a mode: by rdflib alone, or over IDs.
 
     In the mode `tables` the triples of a pattern are read into a table at its first search for a bound term.
     """
@@ -149,12 +148,11 @@ def evaluated(mode: str) -> Iterator[None]:
     CUSTOM_EVALS.pop("hdt", None)
     if mode in ("ids", "tables"):
         store.plan_sparql()
-    elif mode == "terms":
-        CUSTOM_EVALS["hdt"] = partial(plan.evaluated, over_ids=False)
-    due: dict[str, Any] = {"_DUE": 1, "_READ": 100_000} if mode == "tables" else {}
-    patched: Any = mock.patch.multiple(plan, **due) if due else nullcontext()
+    due: dict[str, Any] = {"_DUE": 1, "_READ": 100_000}
     try:
-        with patched:
+        with ExitStack() as stack:
+            for module in [options, paths] if mode == "tables" else []:
+                stack.enter_context(mock.patch.multiple(module, **due))
             yield
     finally:
         CUSTOM_EVALS.clear()

@@ -15,6 +15,6 @@ from support.python_package import PACKAGE, hdt
 
 with mock.patch.object(sys, "dont_write_bytecode", True), mock.patch.object(sys, "path", [str(PACKAGE), *sys.path]):
     import hdt.rdflib as store
-    from hdt.rdflib import _plan as plan
+    from hdt.rdflib import _join as join, _options as options, _paths as paths
 
-__all__ = ["hdt", "plan", "store"]
+__all__ = ["hdt", "join", "options", "paths", "store"]

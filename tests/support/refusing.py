@@ -5,7 +5,7 @@ from __future__ import annotations
 import os
 import struct
 import subprocess
-from collections.abc import Callable, Iterator, Sequence
+from collections.abc import Callable, Iterable, Iterator, Sequence
 from pathlib import Path
 from typing import NamedTuple
 
@@ -40,6 +40,19 @@ class Refusals(NamedTuple):
     refused: list[Refused]
 
 
+class Ended(NamedTuple):
+    """How a program ended after an allocation was refused: its exit status, and what it wrote before and after that.
+
+    `printed` and `reported` are how many bytes of standard output and error were written before the allocation.
+    """
+
+    status: int
+    printed: int
+    reported: int
+    out: bytes
+    err: bytes
+
+
 class Refuser:
     """Runs programs with each of their allocations refused in turn."""
 
@@ -52,6 +65,12 @@ class Refuser:
     def run(self, command: Sequence[Word], *, stdin: bytes = b"", env: dict[str, str] | None = None,
             cwd: Path | None = None, seconds: float = SECONDS) -> Refusals:
         """Run a command, and a copy of it for each of its allocations."""
+        ample, ends = self.run_long(command, stdin=stdin, env=env, cwd=cwd, seconds=seconds)
+        return Refusals(ample, list(records(ends, ample)))
+
+    def run_long(self, command: Sequence[Word], *, stdin: bytes = b"", env: dict[str, str] | None = None,
+                 cwd: Path | None = None, seconds: float = SECONDS) -> tuple[Result, list[Ended]]:
+        """Do the same as `run`, with no copy of what was printed before each allocation: for long outputs."""
         self.runs += 1
         given, log, out, err = (self.folder / f"{self.runs}.{kind}" for kind in ("in", "log", "out", "err"))
         given.write_bytes(stdin)
@@ -62,38 +81,72 @@ class Refuser:
                                   env={**os.environ, **(env or {}), "LD_PRELOAD": os.fspath(self.library),
                                        "REFUSE_LOG": os.fspath(log)})
         ample = Result(done.returncode, out.read_bytes(), err.read_bytes())
-        refused = list(records(log.read_bytes(), ample))
+        ends = list(logged(log.read_bytes()))
         for path in (given, log, out, err):
             path.unlink()
-        return Refusals(ample, refused)
+        return ample, ends
 
 
-def records(log: bytes, ample: Result) -> Iterator[Refused]:
+def line_out_of_memory(result: Result, ample: Result, message: str) -> str:
+    """The name of the line that reports that memory ran out; empty if the result is another one.
+
+    The program prints a line for each call, which begins with its name. One line has this message after its name, and
+    the others are as in ample memory.
+    """
+    lines, wanted = result.out.decode().splitlines(), ample.out.decode().splitlines()
+    changed = [(was.partition(" ")[0], line) for line, was in zip(lines, wanted) if line != was]
+    if (result.status, result.err, len(lines), len(changed)) != (0, b"", len(wanted), 1):
+        return ""
+    ((name, line),) = changed
+    return name if line == f"{name} {message}" else ""
+
+
+def logged(log: bytes) -> Iterator[Ended]:
     """The records of a log of `refuse.c`, one for each allocation."""
-    at, last = 0, Refused(ample, 0)
+    at, last = 0, Ended(0, 0, 0, b"", b"")
     while at < len(log):
         kind = log[at:at + 1]
         at += 1
         if kind == b"N":
-            status, out_before, err_before, out_after, err_after = struct.unpack_from("=5i", log, at)
+            status, printed, reported, out_after, err_after = struct.unpack_from("=5i", log, at)
             at += 20
-            out = ample.out[:out_before] + log[at:at + out_after]
-            at += out_after
-            err = ample.err[:err_before] + log[at:at + err_after]
-            at += err_after
-            last = Refused(Result(status, out, err), out_before)
+            out, at = log[at:at + out_after], at + out_after
+            err, at = log[at:at + err_after], at + err_after
+            last = Ended(status, printed, reported, out, err)
         yield last
+
+
+def records(ends: Iterable[Ended], ample: Result) -> Iterator[Refused]:
+    """The same with what was printed before the allocations. Equal ones in turn are one object."""
+    before, last = None, Refused(ample, 0)
+    for it in ends:
+        if it is not before:
+            out, err = ample.out[:it.printed] + it.out, ample.err[:it.reported] + it.err
+            before, last = it, Refused(Result(it.status, out, err), it.printed)
+        yield last
+
+
+_CONTEXTS = 16  # allocations for the line that follows the message of an error
+
+
+def message(result: Result) -> Result:
+    """A result without the indented lines that follow the message of an error, which are printed if there is memory."""
+    lines = result.err.splitlines(keepends=True)
+    return result._replace(err=b"".join(line for line in lines if not line.startswith(b"  ")))
 
 
 def wrong(refusals: Refusals, accepts: Callable[[Result], bool], unchanged: int = 0) -> list[tuple[int, Result]]:
     """The allocations, counted from 1, whose refusal gave a result that is not accepted, with that result.
 
-    At most `unchanged` refusals may give the result of ample memory.
+    At most `unchanged` refusals may give the result of ample memory. If that is an error, some may also change nothing
+    but the line after its message.
     """
     found = []
+    if refusals.ample.status in (1, 3):
+        unchanged += _CONTEXTS
     for number, (result, _) in enumerate(refusals.refused, 1):
-        if result == refusals.ample and unchanged > 0:
+        if message(result) == message(refusals.ample) and unchanged > 0:
             unchanged -= 1
-        elif not accepts(result):
+        elif not accepts(message(result)):
             found.append((number, result))
     return found

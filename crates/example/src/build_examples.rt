@@ -1,8 +1,8 @@
 //! The examples in the documentation of hdt_build.
 
 use crate::example_fault::ExampleFault;
-use hdt_build::{Options, build_bytes, rewrite_bytes};
-use hdt_file::open;
+use hdt_build::{Merger, Options, build_bytes, merge_bytes, rewrite_bytes};
+use hdt_file::{Graph, open};
 use hdt_wire::Counted;
 use std::alloc::Global;
 
@@ -48,4 +48,29 @@ pub(crate) fn rewrite_bytes_example(
     let graph = open(alloc, bytes)?;
     let (canonical, report) = rewrite_bytes(alloc, &graph, &options)?;
     Ok((canonical, report.triples))
+}
+
+/// Of `merge_bytes`.
+pub(crate) fn merge_bytes_example(
+    alloc: Global,
+    old: &[u8],
+    new: &[u8],
+    options: Options,
+) -> Result<(Vec<u8>, u64), ExampleFault> {
+    let graphs = [open(alloc, old)?, open(alloc, new)?];
+    let (merged, report) = merge_bytes(alloc, &graphs, &options)?; // all triples of both
+    Ok((merged, report.triples))
+}
+
+/// Of `Merger`.
+pub(crate) fn merger_example(
+    alloc: Global,
+    old: Graph<'_>,
+    new: Graph<'_>,
+    options: Options,
+) -> Result<(Vec<u8>, u64), ExampleFault> {
+    let merger = Merger::new(alloc)?.with(alloc, &old)?;
+    let merger = merger.with(alloc, &new)?;
+    let (merged, report) = merger.finish(alloc, &options)?;
+    Ok((merged, report.triples))
 }

@@ -55,6 +55,21 @@ pub(crate) fn strings_example(
     Ok(())
 }
 
+/// Of `RoleSeeker`.
+pub(crate) fn seeker_example(
+    alloc: Global,
+    dictionary: Dictionary<'_>,
+    ids: &[u64],
+) -> Result<Vec<u8>, ExampleFault> {
+    let mut text = Vec::new(alloc);
+    let mut objects = dictionary.seeker(alloc, Role::Object);
+    for id in ids {
+        text.clear();
+        objects.append_string(*id, &mut text)?;
+    }
+    Ok(text)
+}
+
 /// Of `Arena`.
 pub(crate) fn arena_example(alloc: Global, out: &mut Vec<u8>) -> Result<(), ExampleFault> {
     let mut arena = Arena::new(alloc)?;

@@ -4,7 +4,7 @@ use crate::example_fault::ExampleFault;
 use hdt_dict::Role;
 use hdt_file::{
     Graph, Layout, TermWriter, file_info, layout_text, open, open_tight, read_dictionary,
-    write_graph,
+    stream_graph, stream_writable, write_graph,
 };
 use hdt_seq::Steps;
 use hdt_triples::Pattern;
@@ -136,4 +136,28 @@ pub(crate) fn write_graph_example<W: Write + Drop>(
     let pattern = graph.pattern([None, Some(b"u:p"), None], &mut Steps::new());
     let len = write_graph(alloc, &graph, pattern, &mut out)?;
     Ok(len)
+}
+
+/// Of `stream_graph`.
+pub(crate) fn stream_graph_example<W: Write + Drop>(
+    alloc: Global,
+    graph: Graph<'_>,
+    writer: W,
+) -> Result<u64, ExampleFault> {
+    let mut out = Counted::new(writer);
+    let pattern = graph.pattern([None, Some(b"u:p"), None], &mut Steps::new());
+    let len = stream_graph(alloc, &graph, pattern, None, &mut out)?;
+    Ok(len)
+}
+
+/// Of `stream_writable`.
+pub(crate) fn stream_writable_example<W: Write + Drop>(
+    alloc: Global,
+    layout: Layout<'_>,
+    pattern: Option<Pattern>,
+    writer: W,
+) -> Result<u64, ExampleFault> {
+    let mut out = Counted::new(writer);
+    let skipped = stream_writable(alloc, &layout, pattern, None, &mut out)?;
+    Ok(skipped)
 }

@@ -8,6 +8,7 @@ pub mod Layouts
 pub mod NoTriples
 pub mod OneDocument
 pub mod Order
+pub mod GraphIndices
 pub mod IndexTriples
 pub mod StringsOfIds
 mod SectionFilling
@@ -15,6 +16,7 @@ mod FilteredSections
 pub mod EntrySorting
 pub mod Deduplication
 pub mod DocumentReading
+pub mod Unions
 pub mod Unique
 mod PrefixOrder
 mod CursorSteps
@@ -24,3 +26,4 @@ mod RewrittenSections
 mod RunOrder
 mod DenotedStrings
 mod RewrittenFiles
+pub mod MergedFiles

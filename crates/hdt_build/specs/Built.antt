@@ -1,15 +1,18 @@
 -- The files that are built from a document and rewritten from a graph.
-use Rattle.std.specs.Prelude.{◌≡◌, ℕ, ◌<◌, List, length, take, Option}
+use Rattle.std.specs.Prelude.{◌≡◌, ℕ, ◌<◌, ◌^◌, List, length, map, take, Option}
+use Rattle.std.specs.List.{flat_map}
 use Rattle.std.specs.Io.KnownBytes.{Appends}
+use Rattle.hdt_wire.specs.Checks.{IsBytes}
 use Rattle.hdt_dict.specs.Dictionary.{SectionLists}
 use Rattle.hdt_triples.specs.TripleSequences.{Triple}
 use Rattle.hdt_build.specs.declared.options.Options.{Options}
 use Rattle.hdt_build.specs.declared.options.Report.{Report}
 use Rattle.hdt_build.specs.Canonical.{IsCanonical}
 use Rattle.hdt_file.specs.Denoted.{StringTriple}
-use Rattle.hdt_file.specs.File.{GraphParts}
+use Rattle.hdt_file.specs.File.{GraphParts, IsLayout}
 use Rattle.hdt_build.specs.Header.{header_body}
-use Rattle.hdt_build.specs.Layouts.{denoted_by}
+use Rattle.hdt_build.specs.Layouts.{denoted_by, union_of}
+use Rattle.hdt_build.specs.Options.{AreValidOptions}
 use Rattle.hdt_build.specs.Reading.{IsInputGraph}
 
 -- the report of a file with these sections, triples and bytes
@@ -74,3 +77,43 @@ pub record WritesRewrittenPrefix (b : ℕ) (graph : GraphParts) (before after : 
   pub rewritten : IsRewritten b graph bytes report
   pub part : n < length bytes
   pub written : Appends before after (take n bytes)
+
+-- ---- merging
+
+-- all bytes of the canonical file of all triples of these graphs were written
+pub record WritesMerged (options : Options) (graphs : List GraphParts) (before after : Option (List ℕ))
+    (report : Report) : Type 0 where
+  pub bytes : List ℕ
+  pub merged : IsBuilt options (union_of graphs) bytes report
+  pub written : Appends before after bytes
+
+-- only its first n bytes were written
+pub record WritesMergedPrefix (options : Options) (graphs : List GraphParts) (before after : Option (List ℕ))
+    (n : ℕ) : Type 0 where
+  pub bytes : List ℕ
+  pub report : Report
+  pub merged : IsBuilt options (union_of graphs) bytes report
+  pub part : n < length bytes
+  pub written : Appends before after (take n bytes)
+
+-- string triples, and the graph of a file that was built from them under valid options
+pub record BuiltGraph : Type 0 where
+  pub triples : List StringTriple
+  pub options : Options
+  pub bytes : List ℕ
+  pub report : Report
+  pub graph : GraphParts
+  pub right : AreValidOptions options
+  pub built : IsBuilt options triples bytes report
+  pub are_bytes : IsBytes bytes
+  pub small : length bytes < 2 ^ 64
+  pub few : report.triples < 2 ^ 64
+  pub layout : IsLayout bytes graph
+
+-- the triples of all documents, one document after another
+abbrev pub joined_triples : List BuiltGraph → List StringTriple
+joined_triples fs = flat_map (λ f. f.triples) fs
+
+-- the graphs of their files
+abbrev pub graphs_of : List BuiltGraph → List GraphParts
+graphs_of fs = map (λ f. f.graph) fs

@@ -1,5 +1,6 @@
 -- What reading a canonical file gives.
 use Rattle.std.specs.Prelude.{◌≡◌, ℕ, List, [], ◌∷◌, length, Ok}
+use Rattle.std.specs.List.{flat_map}
 use Rattle.hdt_wire.specs.Exact.{viewed}
 use Rattle.hdt_dict.specs.Dictionary.{SectionLists}
 use Rattle.hdt_dict.specs.Strings.{SameMembers}
@@ -14,6 +15,10 @@ use Rattle.hdt_build.specs.declared.options.Report.{Report}
 -- the graph that a file denotes: its triples, with the string of each ID
 abbrev pub denoted_by : GraphParts → List StringTriple
 denoted_by g = denoted g g.triples
+
+-- the triples of all graphs, one graph after another, with duplicates
+abbrev pub union_of : List GraphParts → List StringTriple
+union_of gs = flat_map denoted_by gs
 
 -- a graph of a header body, a dictionary and ID triples
 abbrev pub graph_parts_of : List ℕ → SectionLists → List Triple → GraphParts

@@ -19,7 +19,7 @@ use std::alloc::{AllocError, Global};
 use std::io::{Read, Write};
 
 /// Encodes the graph of collected triples as its canonical file; returns the bytes and the counts.
-fn built(
+pub(crate) fn built(
     alloc: Global,
     collector: TripleCollector,
     options: &Options,

@@ -1,6 +1,7 @@
-//! The errors of building and rewriting.
+//! The errors of building, merging and rewriting.
 ghost use Rattle.std.specs.Prelude.{◌≡◌};
 ghost use Rattle.hdt_build.specs.declared.fault.BuildFault.TheVariants as faults;
+ghost use Rattle.hdt_build.specs.declared.fault.MergeFault.TheVariants as merges;
 ghost use Rattle.hdt_build.specs.declared.fault.RewriteFault.TheVariants as rewrites;
 
 use hdt_terms::LineFault;
@@ -40,6 +41,36 @@ impl<T: Drop> From<AllocFailed<T>> for BuildFault {
 
     fn from(_error: AllocFailed<T>) -> BuildFault {
         BuildFault::OutOfMemory
+    }
+}
+
+/// Why graphs were not merged, or why the file was not written completely.
+#[derive(Clone, Copy, Debug, PartialEq, Eq, Error)]
+pub enum MergeFault {
+    /// The block size or the base is not valid; nothing was read or written.
+    #[error("the options are not ones that can be taken")]
+    BadOptions,
+    /// Memory ran out; nothing was written.
+    #[error("out of memory")]
+    OutOfMemory,
+    /// The writer failed after this number of bytes, which are the first ones of the file.
+    #[error("writing failed after {0} bytes")]
+    Write(u64),
+}
+
+impl From<AllocError> for MergeFault {
+    ghost from_gives = { λ _ e. e ≡ merges.OutOfMemory };
+
+    fn from(_error: AllocError) -> MergeFault {
+        MergeFault::OutOfMemory
+    }
+}
+
+impl<T: Drop> From<AllocFailed<T>> for MergeFault {
+    ghost from_gives = { λ _ e. e ≡ merges.OutOfMemory };
+
+    fn from(_error: AllocFailed<T>) -> MergeFault {
+        MergeFault::OutOfMemory
     }
 }
 

@@ -1,15 +1,15 @@
 //! Laws of canonical files: functions that do nothing, whose contracts are theorems.
-ghost use Rattle.std.specs.Prelude.{◌≡◌, ◌≤◌, ◌<◌, ◌^◌, ◌⊎◌, ℕ, List, [], Option, Some, length};
+ghost use Rattle.std.specs.Prelude.{◌≡◌, ◌≤◌, ◌<◌, ◌^◌, ◌⊎◌, ◌++◌, ◌∷◌, ℕ, List, [], Option, Some, length};
 ghost use Rattle.hdt_wire.specs.Checks.{IsBytes};
 ghost use Rattle.hdt_dict.specs.Strings.{SameMembers};
 ghost use Rattle.hdt_terms.specs.declared.triple.Triple.{Triple};
 ghost use Rattle.hdt_terms.specs.Lines.{Document};
-ghost use Rattle.hdt_build.specs.Built.{IsBuilt, Builds, IsRewritten};
+ghost use Rattle.hdt_build.specs.Built.{IsBuilt, Builds, IsRewritten, BuiltGraph, joined_triples, graphs_of};
 ghost use Rattle.hdt_build.specs.Canonical.{IsCanonical};
 ghost use Rattle.hdt_file.specs.Denoted.{StringTriple};
 ghost use Rattle.hdt_file.specs.File.{GraphParts, IsLayout};
 ghost use Rattle.hdt_build.specs.Header.{header_body};
-ghost use Rattle.hdt_build.specs.Layouts.{IsLayoutOf, IsVerified, denoted_by};
+ghost use Rattle.hdt_build.specs.Layouts.{IsLayoutOf, IsVerified, denoted_by, union_of};
 ghost use Rattle.hdt_build.specs.Options.{AreValidOptions, IsBlockSize};
 ghost use Rattle.hdt_build.specs.Reading.{most, IsBuildFaultOf, ReadFailed};
 ghost use Rattle.hdt_build.specs.declared.fault.BuildFault.{BuildFault};
@@ -97,3 +97,26 @@ pub fn rewriting_again_changes_nothing()
 {
     one_layout();
 }
+
+/// Merging files that were built from documents gives the file that is built from all documents together, as if they
+/// were one after another. Merging a file that was itself merged, or built, gives what merging its inputs does.
+pub fn merging_is_building()
+    ensures built { (options : Options) (files : List BuiltGraph) (x y : List ℕ) (r s : Report)
+        → IsBuilt options (union_of (graphs_of files)) x r → IsBuilt options (joined_triples files) y s → x ≡ y }
+    ensures merged { (options : Options) (file : BuiltGraph) (inputs others : List GraphParts) (x y : List ℕ)
+        (r s : Report) → file.triples ≡ union_of inputs
+        → IsBuilt options (union_of (file.graph ∷ others)) x r → IsBuilt options (union_of (inputs ++ others)) y s
+        → x ≡ y }
+{
+    one_layout();
+}
+
+/// The order of the inputs and duplicates make no difference to the file. Merging one graph gives what rewriting it
+/// does, if it has the header of a merged file.
+pub fn merging_is_a_union()
+    ensures order { (options : Options) (gs hs : List GraphParts) (x y : List ℕ) (r s : Report) → SameMembers gs hs
+        → IsBuilt options (union_of gs) x r → IsBuilt options (union_of hs) y s → x ≡ y }
+    ensures one { (options : Options) (g : GraphParts) (x y : List ℕ) (r s : Report)
+        → IsBuilt options (union_of (g ∷ [])) x r → IsRewritten options.block_size g y s
+        → g.header ≡ header_body options.base.items r.triples → x ≡ y }
+{}

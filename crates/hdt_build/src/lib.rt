@@ -1,4 +1,4 @@
-//! Building HDT files (HDT format version 1) in canonical form, from N-Triples or from another HDT file.
+//! Building HDT files (HDT format version 1) in canonical form, from N-Triples or from other HDT files.
 //!
 //! [`build`] writes the canonical file of the document's graph: its bytes don't depend on the order of the lines or on
 //! duplicates. `open` of hdt_file accepts it, and its graph has exactly the document's triples, each once.
@@ -21,12 +21,15 @@
 //! let (canonical, report) = rewrite_bytes(alloc, &graph, &options)?; // without unused strings
 //! ```
 //!
+//! [`merge`] writes the canonical file of all triples of several graphs; [`Merger`] takes them one after another.
+//!
 //! Modules, in reading order. Building: `options` and `fault`; `interner`, the list of strings; `queue` and
 //! `collector`, triples as indices of strings; `reading`, the lines of the input; `string_sort` and `dedup`, the
 //! strings in order, each once; `prefetch`; `section_filter`, the four sections and the IDs; `triples` and `encoding`,
 //! the encoded graph; `header` and `file`, its bytes; `building`.
 //! Rewriting: `retained`, which strings remain; `section_run`, a cursor over them; `sections` and `id_map`, the new
-//! sections and IDs; `rewriting`. `laws`: properties of both.
+//! sections and IDs; `rewriting`. Merging: `graph_strings`, the strings of a graph as indices; `merging`. `laws`:
+//! properties of all three.
 #![tactic(auto)]
 
 mod building;
@@ -35,10 +38,12 @@ mod dedup;
 mod encoding;
 mod fault;
 mod file;
+mod graph_strings;
 mod header;
 mod id_map;
 mod interner;
 mod laws;
+mod merging;
 mod options;
 mod prefetch;
 mod queue;
@@ -52,11 +57,12 @@ mod string_sort;
 mod triples;
 
 pub use building::{build, build_bytes};
-pub use fault::{BuildFault, RewriteFault};
+pub use fault::{BuildFault, MergeFault, RewriteFault};
 pub use laws::{
-    canonical_files_are_layouts, equal_graphs_equal_files, no_triples_is_reported,
-    one_canonical_file, one_document, reports_are_verified, rewriting_again_changes_nothing,
-    rewriting_keeps_the_graph,
+    canonical_files_are_layouts, equal_graphs_equal_files, merging_is_a_union, merging_is_building,
+    no_triples_is_reported, one_canonical_file, one_document, reports_are_verified,
+    rewriting_again_changes_nothing, rewriting_keeps_the_graph,
 };
+pub use merging::{Merger, merge, merge_bytes};
 pub use options::{Options, Report};
 pub use rewriting::{rewrite, rewrite_bytes};

@@ -88,24 +88,25 @@ pub(crate) fn sort_dedup_triples(triples: &mut Vec<(u64, u64, u64)>)
     triples.dedup();
 }
 
-/// The triples of a graph with new IDs, not sorted again.
-fn mapped_triples(
-    alloc: Global,
+/// Appends the triples of a graph with new IDs, in the order of the old ones.
+pub(crate) fn extend_with_graph(
+    out: &mut Vec<(u64, u64, u64)>,
     graph: &Graph<'_>,
     ids: &NewIds,
-) -> Result<Vec<(u64, u64, u64)>, AllocError>
-    ensures { IfOk result (λ made. made.items ≡ map (with_new_ids ids.now) (graph_view graph.now).triples) }
+) -> Result<(), AllocError>
+    ensures { OnOk result (out.new.items
+        ≡ out.old.items ++ map (with_new_ids ids.now) (graph_view graph.now).triples) }
 {
-    let mut made = Vec::with_capacity(alloc, graph.len() as usize)?;
+    out.reserve(graph.len() as usize)?;
     let mut triples = graph.search(ANY);
     'triples: while let Some((s, p, o)) = triples.next() {
-        made.push((
+        out.push((
             ids.subjects.new_id(s),
             ids.predicates.new_id(p),
             ids.objects.new_id(o),
         ))?;
     }
-    Ok(made)
+    Ok(())
 }
 
 /// The triples of a graph with new IDs, ascending.
@@ -118,7 +119,8 @@ pub(crate) fn rewrite_triples(
     ensures same { IfOk result
         (λ made. SameMembers made.items (map (with_new_ids ids.now) (graph_view graph.now).triples)) }
 {
-    let mut triples = mapped_triples(alloc, graph, ids)?;
+    let mut triples = Vec::new(alloc);
+    extend_with_graph(&mut triples, graph, ids)?;
     sort_dedup_triples(&mut triples);
     Ok(triples)
 }

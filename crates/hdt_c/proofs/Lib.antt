@@ -1,5 +1,7 @@
 mod AsBox
 mod JoinLaws
+mod MergeLaws
+mod OptionLaws
 pub mod Counting
 pub mod HandleLaws
 pub mod MatchLaws

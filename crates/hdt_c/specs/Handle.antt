@@ -5,7 +5,7 @@ use Rattle.hdt_file.specs.declared.graph.Graph.{Graph}
 use Rattle.hdt_file.specs.File.{GraphParts, IsLayout}
 use Rattle.hdt_file.specs.Graph.{graph_view}
 use Rattle.hdt_c.specs.declared.handle.HdtGraph.{HdtGraph}
-use Rattle.hdt_c.specs.declared.handle.Resource.TheVariants as resources
+use Rattle.hdt_c.specs.Inside.ResourceKind.{graph_of}
 
 -- the graph is open
 abbrev pub IsOpen : HdtGraph → Type 0
@@ -23,7 +23,7 @@ pub record IsZeroed (h : HdtGraph) : Type 0 where
 
 -- the handle is open, and has this graph
 abbrev pub HoldsGraph : HdtGraph → Graph → Type 0
-HoldsGraph h g = IsOpen h × (h.resource.value ≡ Some (resources.Graph g))
+HoldsGraph h g = IsOpen h × (graph_of h.resource.value ≡ Some g)
 
 -- if the handle is open, P is true of its graph
 abbrev pub IfOpen : HdtGraph → (GraphParts → Type 0) → Type 0
@@ -31,7 +31,7 @@ IfOpen h P = (g : Graph) → HoldsGraph h g → P (graph_view g)
 
 -- the handle is open or closed as before, and has the same graph
 abbrev pub SameGraph : HdtGraph → HdtGraph → Type 0
-SameGraph old new = (new.state ≡ old.state) × (new.resource.value ≡ old.resource.value)
+SameGraph old new = (new.state ≡ old.state) × (graph_of new.resource.value ≡ graph_of old.resource.value)
 
 -- the handle is open, and has the graph that the bytes encode
 pub record IsOpened (bytes : List ℕ) (h : HdtGraph) : Type 0 where

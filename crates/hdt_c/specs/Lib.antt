@@ -1,5 +1,6 @@
 pub mod Counts
 pub mod LookUps
+pub mod Merging
 pub mod Names
 pub mod Building
 pub mod Bytes

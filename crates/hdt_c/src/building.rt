@@ -11,10 +11,10 @@ use hdt_wire::Counted;
 use std::alloc::Global;
 
 /// `HDT_NO_TRIPLES`: the document has no triples.
-const NO_TRIPLES: u32 = 251;
+pub(crate) const NO_TRIPLES: u32 = 251;
 
 /// A report with a reason but no line.
-fn report_for(reason: u32) -> HdtReport
+pub(crate) fn report_for(reason: u32) -> HdtReport
     ensures { result ≡ report_for reason }
 {
     HdtReport {
@@ -26,7 +26,7 @@ fn report_for(reason: u32) -> HdtReport
 }
 
 /// The report on a file that was built.
-fn built_report(report: Report) -> HdtReport
+pub(crate) fn built_report(report: Report) -> HdtReport
     ensures { result ≡ built_report report }
 {
     HdtReport {

@@ -1,24 +1,24 @@
 //! Handles of graphs.
 ghost use Rattle.std.specs.Prelude.{◌≡◌, true, Option, Some, None, IsSome, ◌≢◌, IfSome};
 ghost use Rattle.std.specs.Box.Ownership.{box_owns};
-ghost use Rattle.hdt_c.specs.Inside.ResourceKind.{is_graph};
+ghost use Rattle.hdt_c.specs.Inside.ResourceKind.{graph_of, is_graph};
 ghost use Rattle.hdt_c.specs.declared.handle.Resource.{Resource};
 ghost use Rattle.hdt_c.specs.ResourceOwnership.{coded_resource, resource_ptr_owns};
-ghost use Rattle.hdt_c.specs.declared.handle.Resource.TheVariants as resources;
 ghost use denote.RawPtr.{null_ptr};
 
 use std::alloc::{Allocator, Global};
-use std::marker::Model;
+use std::marker::{Model, Send};
 use std::mem::replace;
 use std::ptr::null_mut;
+use std::sync::Arc;
 
-/// `hdt_graph`: an open graph; or zeros, before it is opened and after it is closed.
+/// `hdt_graph`: a handle of an open graph; or zeros, before it is opened and after it is closed.
 #[repr(C)]
 #[derive(Drop)]
 pub struct HdtGraph {
     /// 1 if the graph is open, else 0.
     pub(crate) state: u64,
-    /// What owns the graph.
+    /// What owns the graph, or a share of it.
     pub(crate) resource: ResourcePtr,
     ghost is_open: { state ≡ 1 → is_graph resource.value ≡ true },
 }
@@ -26,8 +26,8 @@ pub struct HdtGraph {
 /// The value that a handle owns.
 #[derive(Drop)]
 pub(crate) enum Resource {
-    /// An open graph.
-    Graph(hdt_file::Graph<'static>),
+    /// A share of an open graph, which is freed with its last share.
+    Graph(Arc<hdt_file::Graph<'static>, Global>),
     /// Bytes that the library made.
     Bytes(Vec<u8>),
 }
@@ -77,6 +77,11 @@ pub struct ResourcePtr {
 impl Model for ResourcePtr {
     ghost also_owns = { λ h. resource_ptr_owns h.alloc h.at h.value };
 }
+
+// A pointer may go to another thread, since what it owns may: bytes, or a share of a graph, which nothing writes to and
+// whose count of shares is atomic. A type with `also_owns` isn't `Send` without this line. The check wants a proof of
+// it: proofs/handle/ResourcePtr/TheSendSync/Send.antt.
+unsafe impl Send for ResourcePtr {}
 
 impl ResourcePtr {
     /// The null pointer.
@@ -159,7 +164,7 @@ impl HdtGraph {
 /// The graph that was taken out of a handle.
 pub(crate) fn graph_ref(taken: &Box<Resource, Global>) -> &hdt_file::Graph<'static>
     requires { is_graph (Some taken.now.value) ≡ true }
-    ensures { taken.now.value ≡ resources.Graph result.now }
+    ensures { graph_of (Some taken.now.value) ≡ Some result.now }
 {
     match &**taken {
         Resource::Graph(graph) => graph,

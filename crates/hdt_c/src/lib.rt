@@ -4,8 +4,9 @@
 //! the graph unchanged, or reports that it isn't open. Bytes that the library makes stay at the address in their handle
 //! until they are freed.
 //!
-//! A graph or a vector of bytes is boxed, and its handle owns the pointer. A query takes the graph out of its handle
-//! and puts it back.
+//! A handle owns the pointer to a box, which has a vector of bytes or a share of a graph: an `Arc`, so that several
+//! handles may have one graph. A query takes the box out of its handle and puts it back. Nothing in a graph is written
+//! once it is open, so different threads may ask it at the same time, each with a handle of its own.
 #![tactic(auto)]
 
 mod building;
@@ -14,6 +15,7 @@ mod bytes_access;
 mod finding;
 mod handle;
 mod look_ups;
+mod merging;
 mod names;
 mod opening;
 mod paging;
@@ -23,6 +25,7 @@ mod predicates;
 mod prefix;
 mod report;
 mod rewriting;
+mod sharing;
 mod splitting;
 mod strings;
 mod terms;

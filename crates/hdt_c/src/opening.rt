@@ -13,9 +13,10 @@ use crate::handle::{HdtGraph, Resource};
 use crate::verdict::{HdtVerdict, verdict_for, verdict_of_result};
 use hdt_file::{Graph, OpenFault, open};
 use std::alloc::Global;
+use std::sync::Arc;
 
-/// `HDT_IS_OPEN`: the graph is open already.
-const IS_OPEN: u32 = 254;
+/// `HDT_IS_OPEN`: the handle that is to be opened is open already.
+pub(crate) const IS_OPEN: u32 = 254;
 
 /// The number of triples, and of strings in each section.
 fn graph_counts(graph: &Graph<'static>) -> [u64; 5]
@@ -25,7 +26,7 @@ fn graph_counts(graph: &Graph<'static>) -> [u64; 5]
     [graph.len(), shared, subjects, predicates, objects]
 }
 
-/// Opens a file, and puts its graph into a closed handle.
+/// Opens a file, and puts the first share of its graph into a closed handle.
 fn open_into(
     alloc: Global,
     bytes: &'static [u8],
@@ -37,7 +38,10 @@ fn open_into(
 {
     let opened = open(alloc, bytes)?;
     let counts = graph_counts(&opened);
-    match Box::new(alloc, Resource::Graph(opened)) {
+    let Ok(share) = Arc::new(alloc, opened) else {
+        return Err(OpenFault::OutOfMemory);
+    };
+    match Box::new(alloc, Resource::Graph(share)) {
         Ok(kept) => {
             graph.put(kept);
             Ok(counts)
@@ -46,7 +50,7 @@ fn open_into(
     }
 }
 
-/// `hdt_open`: opens a file, as `hdt_file::open` does. The graph borrows the bytes until it is closed.
+/// `hdt_open`: opens a file, as `hdt_file::open` does. The graph borrows the bytes until its last handle is closed.
 #[unsafe(no_mangle)]
 pub extern "C" fn hdt_open(
     alloc: Global,
@@ -72,7 +76,7 @@ pub extern "C" fn hdt_open(
     }
 }
 
-/// `hdt_close`: closes a graph, and frees its indexes. A closed graph stays closed.
+/// `hdt_close`: closes a handle, and with the last one of a graph frees its indexes. A closed handle stays closed.
 #[unsafe(no_mangle)]
 pub extern "C" fn hdt_close(alloc: Global, graph: &mut HdtGraph)
     ensures closed { IsClosed graph.new }

@@ -23,7 +23,7 @@ use std::alloc::Global;
 pub(crate) const NOT_A_TERM: u32 = 250;
 
 /// `HDT_IS_CLOSED`: the graph is not open.
-const IS_CLOSED: u32 = 253;
+pub(crate) const IS_CLOSED: u32 = 253;
 
 /// A result with a reason but no string.
 pub(crate) fn text_result_for(reason: u32) -> HdtTextResult

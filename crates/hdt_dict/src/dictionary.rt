@@ -25,6 +25,7 @@ ghost use Rattle.hdt_wire.specs.declared.Role.{Role};
 use crate::disjoint::check_disjoint;
 use crate::role_iter::RoleIter;
 use crate::role_sections::RoleSections;
+use crate::role_seeker::RoleSeeker;
 use crate::string_batch::{append_batch, are_ids};
 use hdt_front::{ReadFault, Section, SectionIter};
 use hdt_seq::Steps;
@@ -301,6 +302,13 @@ impl<'a> Dictionary<'a> {
         } }
     {
         RoleIter::new(alloc, &self.sections_of(role))
+    }
+
+    /// Returns a cursor with random access to the strings of a role. Allocates nothing yet.
+    pub fn seeker(&self, alloc: Global, role: Role) -> RoleSeeker<'a>
+        ensures { result ≡ role_strings (lists_of_dictionary (dictionary_of self.now)) role }
+    {
+        RoleSeeker::new(alloc, &self.sections_of(role))
     }
 
     /// Returns the front-coded bytes of the block that has the string of a role with ID n, from 1, borrowed from the

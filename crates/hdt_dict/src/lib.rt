@@ -31,6 +31,7 @@ mod parts;
 mod prefix;
 mod role_iter;
 mod role_sections;
+mod role_seeker;
 mod string_batch;
 mod writing;
 
@@ -44,4 +45,5 @@ pub use hdt_wire::Role;
 pub use parts::{Parts, split};
 pub use prefix::PrefixRanges;
 pub use role_iter::RoleIter;
+pub use role_seeker::RoleSeeker;
 pub use writing::{finish_dictionary, put_dictionary};

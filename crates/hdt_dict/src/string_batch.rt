@@ -28,7 +28,7 @@ pub(crate) fn are_ids(ids: &[u64], count: u64) -> bool
 }
 
 /// Appends the string with ID n of two consecutive sections, the first of which has `many` strings.
-fn append_next(
+pub(crate) fn append_next(
     first: &mut Seeker<'_>,
     second: &mut Seeker<'_>,
     many: u64,

@@ -11,8 +11,8 @@ use Rattle.hdt_triples.specs.TripleSequences.{Triple}
 use Rattle.hdt_triples.specs.Uses.{role_component}
 use Rattle.hdt_file.specs.Denoted.{denoted_triple, string_of}
 use Rattle.hdt_file.specs.File.{GraphParts}
-use Rattle.hdt_file.specs.Writable.{DecidesWritable}
-use Rattle.hdt_file.specs.Text.{Pairwise}
+use Rattle.hdt_file.specs.Writable.{DecidesWritable, IsWritable}
+use Rattle.hdt_file.specs.Text.{HasTerm, IsEarlierRole, IsFirstNonTermOfTriple, Pairwise}
 use Rattle.hdt_file.specs.TextWriting.{AppendsTerm}
 use Rattle.hdt_file.specs.TermFlags.{IsTermFlag, AreTermFlags, term_flag, is_writable}
 use Rattle.hdt_file.specs.declared.term_flags.TermFlags.{TermFlags}
@@ -52,7 +52,7 @@ flag flags t Subject = term_flag flags.subjects.items t.0
 flag flags t Predicate = term_flag flags.predicates.items t.1
 flag flags t Object = term_flag flags.objects.items t.2
 
-told : (g : GraphParts) (flags : TermFlags) (t : Triple) → AreTermFlags g flags → (role : Role) (b : Bool)
+pub told : (g : GraphParts) (flags : TermFlags) (t : Triple) → AreTermFlags g flags → (role : Role) (b : Bool)
     → flag flags t role ≡ b → IsTermFlag role (role_component role (denoted_triple g t)) b
 told g flags t h Subject b e =
     subst (IsTermFlag Subject (string_of g Subject t.0)) e
@@ -88,3 +88,48 @@ tells g flags h = record {
   some = λ t e role. told g flags t h role true (each_flag flags t e role);
   none = λ t e. let f = false_flag flags t e in (f.0, told g flags t h f.0 false f.1);
 }
+
+-- ---- the first flag of a triple that is not true
+
+none_earlier : (other : Role) → IsEarlierRole other Subject → ⊥
+none_earlier Subject h = h
+none_earlier Predicate h = h
+none_earlier Object h = h
+
+pub first_subject : (g : GraphParts) (flags : TermFlags) (t : Triple) → AreTermFlags g flags
+    → term_flag flags.subjects.items t.0 ≡ false → IsFirstNonTermOfTriple (denoted_triple g t) Subject
+first_subject g flags t h e =
+    record { none = told g flags t h Subject false e; earlier = λ other before. absurd (none_earlier other before) }
+
+subject_earlier : (g : GraphParts) (flags : TermFlags) (t : Triple) → AreTermFlags g flags
+    → term_flag flags.subjects.items t.0 ≡ true → (other : Role) → IsEarlierRole other Predicate
+    → HasTerm other (role_component other (denoted_triple g t))
+subject_earlier g flags t h a Subject before = told g flags t h Subject true a
+subject_earlier g flags t h a Predicate before = absurd before
+subject_earlier g flags t h a Object before = absurd before
+
+pub first_predicate : (g : GraphParts) (flags : TermFlags) (t : Triple) → AreTermFlags g flags
+    → term_flag flags.subjects.items t.0 ≡ true → term_flag flags.predicates.items t.1 ≡ false
+    → IsFirstNonTermOfTriple (denoted_triple g t) Predicate
+first_predicate g flags t h a e =
+    record { none = told g flags t h Predicate false e; earlier = subject_earlier g flags t h a }
+
+both_earlier : (g : GraphParts) (flags : TermFlags) (t : Triple) → AreTermFlags g flags
+    → term_flag flags.subjects.items t.0 ≡ true → term_flag flags.predicates.items t.1 ≡ true → (other : Role)
+    → IsEarlierRole other Object → HasTerm other (role_component other (denoted_triple g t))
+both_earlier g flags t h a b Subject before = told g flags t h Subject true a
+both_earlier g flags t h a b Predicate before = told g flags t h Predicate true b
+both_earlier g flags t h a b Object before = absurd before
+
+pub first_object : (g : GraphParts) (flags : TermFlags) (t : Triple) → AreTermFlags g flags
+    → term_flag flags.subjects.items t.0 ≡ true → term_flag flags.predicates.items t.1 ≡ true
+    → term_flag flags.objects.items t.2 ≡ false → IsFirstNonTermOfTriple (denoted_triple g t) Object
+first_object g flags t h a b e =
+    record { none = told g flags t h Object false e; earlier = both_earlier g flags t h a b }
+
+pub each_is_term : (g : GraphParts) (flags : TermFlags) (t : Triple) → AreTermFlags g flags
+    → term_flag flags.subjects.items t.0 ≡ true → term_flag flags.predicates.items t.1 ≡ true
+    → term_flag flags.objects.items t.2 ≡ true → IsWritable g t
+each_is_term g flags t h a b e Subject = told g flags t h Subject true a
+each_is_term g flags t h a b e Predicate = told g flags t h Predicate true b
+each_is_term g flags t h a b e Object = told g flags t h Object true e

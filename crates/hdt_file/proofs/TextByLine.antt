@@ -92,8 +92,8 @@ joined_terms g [] ys (t ∷ ts) us h k = absurd h
 joined_terms g (x ∷ xs) ys [] us h k = absurd h
 joined_terms g (x ∷ xs) ys (t ∷ ts) us h k = (h.0, joined_terms g xs ys ts us h.1 k)
 
-joined : (g : GraphParts) (xs ys : List Triple) (a b : List ℕ) → IsTextOf (denoted g xs) a → IsTextOf (denoted g ys) b
-    → IsTextOf (denoted g (xs ++ ys)) (a ++ b)
+pub joined : (g : GraphParts) (xs ys : List Triple) (a b : List ℕ) → IsTextOf (denoted g xs) a
+    → IsTextOf (denoted g ys) b → IsTextOf (denoted g (xs ++ ys)) (a ++ b)
 joined g xs ys a b h k =
     record {
       terms = h.terms ++ k.terms;

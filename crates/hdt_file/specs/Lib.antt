@@ -18,3 +18,4 @@ pub mod Tight
 pub mod Laws
 pub mod Inside
 pub mod CachedTerms
+pub mod TextStreaming

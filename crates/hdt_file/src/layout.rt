@@ -7,7 +7,7 @@ ghost use Rattle.hdt_file.specs.File.{dictionary_counts};
 use crate::dictionary::read_dictionary;
 use crate::fault::OpenFault;
 use crate::head::Head;
-use hdt_dict::{Dictionary, PrefixRanges, Role, RoleIter};
+use hdt_dict::{Dictionary, PrefixRanges, Role, RoleIter, RoleSeeker};
 use hdt_seq::Steps;
 use hdt_triples::{Counts, Matches, Pattern, Triples};
 use hdt_wire::{Reason, demand};
@@ -118,6 +118,13 @@ impl<'a> Layout<'a> {
         } }
     {
         self.dictionary.strings(alloc, role)
+    }
+
+    /// A cursor with random access to the strings of a role.
+    pub(crate) fn seeker(&self, alloc: Global, role: Role) -> RoleSeeker<'a>
+        ensures { result ≡ role_strings (layout_view self.now).dictionary role }
+    {
+        self.dictionary.seeker(alloc, role)
     }
 
     /// Returns the ID of a string in a role, from 1, or `None` if the role has no such string. It costs a binary search

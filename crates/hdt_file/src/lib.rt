@@ -8,7 +8,8 @@
 //!
 //! Modules, in reading order: `head`, `dictionary`, `layout` (a file without indexes), `graph` (a file with indexes),
 //! `opening`, `tight` (files without unused strings), `search` (matches and their pages), `fault`. N-Triples:
-//! `term_writing` (a term, a line), `term_tables` (many lines), `rendering` (chooses one of these), `text`;
+//! `term_writing` (a term, a line), `term_tables` (many lines), `rendering` (chooses one of these), `text`; text in
+//! pieces: `pending_text`, `window_terms`, `short_text`, `windows`, `streaming`;
 //! `term_flags`, `writable` (matches that have a line), `non_terms` (strings that are not terms). `info` (sizes);
 //! `laws`.
 //!
@@ -39,13 +40,18 @@ mod laws;
 mod layout;
 mod non_terms;
 mod opening;
+mod pending_text;
 mod rendering;
 mod search;
+mod short_text;
+mod streaming;
 mod term_flags;
 mod term_tables;
 mod term_writing;
 mod text;
 mod tight;
+mod window_terms;
+mod windows;
 mod writable;
 
 pub use dictionary::{head_and_dictionary_are_exact, read_dictionary};
@@ -57,6 +63,7 @@ pub use laws::{denoted_triples_are_distinct, one_text, search_is_a_filter, text_
 pub use layout::Layout;
 pub use non_terms::{NonTerm, TermVerdict, verify_terms};
 pub use opening::{layouts_are_graphs, one_layout, open, verify};
+pub use streaming::{stream_graph, stream_layout, stream_writable};
 pub use term_flags::TermFlags;
 pub use term_writing::TermWriter;
 pub use text::{append_graph_text, graph_text, layout_text, write_graph};

@@ -65,7 +65,7 @@ fn with_block_len(
 
 /// The blocks of the objects of triples; `None` if decoding the complete dictionary once is cheaper than decoding the
 /// blocks of all strings of the triples. Cached predicates cost nothing.
-fn object_blocks_if_few<'a>(
+pub(crate) fn object_blocks_if_few<'a>(
     alloc: Global,
     layout: &Layout<'a>,
     triples: &[(u64, u64, u64)],
@@ -146,7 +146,7 @@ fn prefetch_block(block: &[u8]) -> usize {
 }
 
 /// Prefetches several blocks. The loads don't depend on each other, so they overlap.
-fn prefetch_blocks(blocks: &[&[u8]]) -> usize {
+pub(crate) fn prefetch_blocks(blocks: &[&[u8]]) -> usize {
     let mut sum: usize = 0;
     for block in blocks {
         sum = sum.wrapping_add(prefetch_block(block));

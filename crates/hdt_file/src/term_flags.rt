@@ -57,7 +57,13 @@ fn term_flag(flags: &[bool], n: u64) -> bool
 }
 
 impl TermFlags {
+    ghost use Rattle.std.specs.Prelude.{None, IfSome};
+    ghost use Rattle.hdt_triples.specs.Uses.{role_component};
+    ghost use Rattle.hdt_file.specs.Denoted.{denoted_triple};
+    ghost use Rattle.hdt_file.specs.File.{GraphParts};
     ghost use Rattle.hdt_file.specs.TermFlags.{is_writable};
+    ghost use Rattle.hdt_file.specs.Text.{IsFirstNonTermOfTriple};
+    ghost use Rattle.hdt_file.specs.Writable.{IsWritable};
 
     /// Returns the flags of a file. Time linear in the dictionary, however it is front-coded: each string of each role
     /// is decoded once. Memory: one byte for each, while the flags are kept, and the longest string and its term.
@@ -79,5 +85,25 @@ impl TermFlags {
         term_flag(&self.subjects, subject)
             && term_flag(&self.predicates, predicate)
             && term_flag(&self.objects, object)
+    }
+
+    /// The role and the ID of the first string of a triple whose flag is not true.
+    pub(crate) fn first_non_term(&self, triple: (u64, u64, u64)) -> Option<(Role, u64)>
+        ensures first { (g : GraphParts) → AreTermFlags g self.now
+            → IfSome result (λ p. IsFirstNonTermOfTriple (denoted_triple g triple) p.0
+            × (p.1 ≡ role_component p.0 triple)) }
+        ensures none { (g : GraphParts) → AreTermFlags g self.now → result ≡ None → IsWritable g triple }
+    {
+        let (subject, predicate, object) = triple;
+        if !term_flag(&self.subjects, subject) {
+            return Some((Role::Subject, subject));
+        }
+        if !term_flag(&self.predicates, predicate) {
+            return Some((Role::Predicate, predicate));
+        }
+        if !term_flag(&self.objects, object) {
+            return Some((Role::Object, object));
+        }
+        None
     }
 }

@@ -1,10 +1,11 @@
 //! The matches of a pattern that have a line of N-Triples, and their text.
-ghost use Rattle.std.specs.Prelude.{◌≡◌, ◌<◌, ◌^◌, OnOk, OnErr, IfOk, length};
+ghost use Rattle.std.specs.Prelude.{◌≡◌, ◌<◌, ◌≤◌, ◌+◌, ◌^◌, ◌++◌, ◌⊎◌, [], ℕ, OnOk, OnErr, IfOk, length, take};
+ghost use Rattle.std.specs.Prelude.{drop};
 ghost use Rattle.std.specs.List.{filter};
 ghost use Rattle.hdt_triples.specs.Remaining.{remaining_matches};
 ghost use Rattle.hdt_file.specs.CachedTerms.{CachesTerms};
 ghost use Rattle.hdt_file.specs.Graph.{graph_view, layout_view};
-ghost use Rattle.hdt_file.specs.Writable.{AreWritableTriples, SkipsNonTerms, skipped_among};
+ghost use Rattle.hdt_file.specs.Writable.{AreWritableTriples, SkipsNonTerms, skipped_among, skipped_before};
 ghost use Rattle.hdt_file.specs.TermFlags.{AreTermFlags, is_writable};
 ghost use Rattle.hdt_file.specs.TextWriting.{AppendsText, limited, matches_if_given};
 
@@ -29,6 +30,42 @@ pub struct WritableMatches {
     pub skipped: u64,
 }
 
+/// Appends the next `most` matches that have a line to a list, or all of them. Returns how many were skipped.
+pub(crate) fn append_writable(
+    flags: &TermFlags,
+    matches: &mut Matches<'_>,
+    most: u64,
+    triples: &mut Vec<(u64, u64, u64)>,
+) -> Result<u64, AllocError>
+    requires fits { length (remaining_matches matches.old) < 2 ^ 64 }
+    ensures kept { OnOk result (triples.new.items
+        ≡ triples.old.items ++ take most (filter (is_writable flags.now) (remaining_matches matches.old))) }
+    ensures left { OnOk result (filter (is_writable flags.now) (remaining_matches matches.new)
+        ≡ drop most (filter (is_writable flags.now) (remaining_matches matches.old))) }
+    ensures all { OnOk result ((remaining_matches matches.new ≡ [])
+        ⊎ (length triples.new.items ≡ length triples.old.items + most)) }
+    ensures skipped { IfOk result (λ n. (k : ℕ)
+        → skipped_before (is_writable flags.now) (most + k) (remaining_matches matches.old)
+        ≡ n + skipped_before (is_writable flags.now) k (remaining_matches matches.new)) }
+    ensures fits { IfOk result (λ n. n + length (remaining_matches matches.new)
+        ≤ length (remaining_matches matches.old)) }
+{
+    let mut wanted = most;
+    let mut skipped = 0;
+    'triples: while wanted > 0 {
+        let Some(triple) = matches.next() else {
+            return Ok(skipped);
+        };
+        if flags.is_writable(triple) {
+            triples.push(triple)?;
+            wanted -= 1;
+        } else {
+            skipped += 1;
+        }
+    }
+    Ok(skipped)
+}
+
 /// The first `most` matches that have a line, or all of them.
 fn collect_writable(
     alloc: Global,
@@ -43,20 +80,8 @@ fn collect_writable(
         ≡ skipped_among (is_writable flags.now) most (remaining_matches found.entry)) }
 {
     let mut matches = found;
-    let mut remaining = most.unwrap_or(u64::MAX);
     let mut triples = Vec::with_capacity(alloc, LIST_CAPACITY)?;
-    let mut skipped = 0;
-    'triples: while remaining > 0 {
-        let Some(triple) = matches.next() else {
-            return Ok(WritableMatches { triples, skipped });
-        };
-        if flags.is_writable(triple) {
-            triples.push(triple)?;
-            remaining -= 1;
-        } else {
-            skipped += 1;
-        }
-    }
+    let skipped = append_writable(flags, &mut matches, most.unwrap_or(u64::MAX), &mut triples)?;
     Ok(WritableMatches { triples, skipped })
 }
 

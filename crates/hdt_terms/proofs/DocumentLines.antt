@@ -15,8 +15,9 @@ use Rattle.hdt_terms.specs.LinesReader.{LinesState, Takes, left, line_number, st
 use Rattle.hdt_terms.specs.LinesTexts.{TakesWholeLine, IsNextLineError}
 use Rattle.hdt_terms.specs.Documents.{AreDocumentLines, AreEndedLines, BeginsWithLines, DocumentLine}
 use Rattle.hdt_terms.specs.Documents.{FaultAfterDocumentLines, document_lines}
-use Rattle.hdt_terms.specs.Lint.{GainsAllBut, GainsBytes, GainsPrefix, LintsUntilFault, fault_of_line, fault_reports}
-use Rattle.hdt_terms.specs.Lint.{faulty_lines, kept_if, kept_line, kept_lines, last_faulty, last_faulty_of}
+use Rattle.hdt_terms.specs.Lint.{GainsAllBut, GainsBytes, GainsPrefix, LintsUntilFault, fault_of_line_within}
+use Rattle.hdt_terms.specs.Lint.{fault_reports}
+use Rattle.hdt_terms.specs.Lint.{faulty_lines_within, kept_if, kept_line, kept_lines, last_faulty, last_faulty_of}
 use Rattle.hdt_terms.specs.Lint.{lines_without_faults, numbered, report_if_faulty}
 use Rattle.hdt_terms.specs.declared.fault.LineFault.{LineFault}
 use Rattle.hdt_terms.specs.declared.lint.LintFault.{LintFault}
@@ -216,31 +217,35 @@ fault_behind fault s input mid given lines r going h =
 
 -- ---- one more line
 
-last_on : (before : ℕ) (xs ys : List DocumentLine)
-    → last_faulty_of before (xs ++ ys) ≡ last_faulty_of (last_faulty_of before xs) ys
-last_on before [] ys = refl
-last_on before (x ∷ xs) ys = last_on (last_faulty before (fault_of_line x)) xs ys
+last_on : (longest before : ℕ) (xs ys : List DocumentLine)
+    → last_faulty_of longest before (xs ++ ys) ≡ last_faulty_of longest (last_faulty_of longest before xs) ys
+last_on longest before [] ys = refl
+last_on longest before (x ∷ xs) ys = last_on longest (last_faulty before (fault_of_line_within longest x)) xs ys
 
-without_on : (before : ℕ) (xs ys : List DocumentLine)
-    → lines_without_faults before (xs ++ ys) ≡ lines_without_faults before xs
-    ++ lines_without_faults (last_faulty_of before xs) ys
-without_on before [] ys = refl
-without_on before (x ∷ xs) ys =
-    rw (without_on (last_faulty before (fault_of_line x)) xs ys)
-    (sym (append_assoc (kept_line (last_faulty before (fault_of_line x)) x)
-    (lines_without_faults (last_faulty before (fault_of_line x)) xs)
-    (lines_without_faults (last_faulty_of (last_faulty before (fault_of_line x)) xs) ys)))
+without_on : (longest before : ℕ) (xs ys : List DocumentLine)
+    → lines_without_faults longest before (xs ++ ys) ≡ lines_without_faults longest before xs
+    ++ lines_without_faults longest (last_faulty_of longest before xs) ys
+without_on longest before [] ys = refl
+without_on longest before (x ∷ xs) ys =
+    rw (without_on longest (last_faulty before (fault_of_line_within longest x)) xs ys)
+    (sym (append_assoc (kept_line (last_faulty before (fault_of_line_within longest x)) x)
+    (lines_without_faults longest (last_faulty before (fault_of_line_within longest x)) xs)
+    (lines_without_faults longest
+    (last_faulty_of longest (last_faulty before (fault_of_line_within longest x)) xs) ys)))
 
-kept_on : (keep : Bool) (lines : List DocumentLine) (line : DocumentLine)
-    → kept_lines keep (lines ++ line ∷ []) ≡ kept_lines keep lines
-    ++ kept_if keep (last_faulty (last_faulty_of 0 lines) (fault_of_line line)) line
-kept_on false lines line = refl
-kept_on true lines line = without_on 0 lines (line ∷ []) ∙ ap (λ t. lines_without_faults 0 lines ++ t) (append-nil _)
+kept_on : (longest : ℕ) (keep : Bool) (lines : List DocumentLine) (line : DocumentLine)
+    → kept_lines longest keep (lines ++ line ∷ []) ≡ kept_lines longest keep lines
+    ++ kept_if keep (last_faulty (last_faulty_of longest 0 lines) (fault_of_line_within longest line)) line
+kept_on longest false lines line = refl
+kept_on longest true lines line =
+    without_on longest 0 lines (line ∷ []) ∙ ap (λ t. lines_without_faults longest 0 lines ++ t) (append-nil _)
 
-reported_on : (lines : List DocumentLine) (line : DocumentLine)
-    → fault_reports (lines ++ line ∷ []) ≡ fault_reports lines ++ report_if_faulty (fault_of_line line)
-reported_on lines line = flat_map-append (λ line. report_if_faulty (fault_of_line line)) lines (line ∷ [])
-    ∙ ap (λ t. fault_reports lines ++ t) (append-nil (report_if_faulty (fault_of_line line)))
+reported_on : (longest : ℕ) (lines : List DocumentLine) (line : DocumentLine)
+    → fault_reports longest (lines ++ line ∷ [])
+    ≡ fault_reports longest lines ++ report_if_faulty (fault_of_line_within longest line)
+reported_on longest lines line =
+    flat_map-append (λ line. report_if_faulty (fault_of_line_within longest line)) lines (line ∷ [])
+    ∙ ap (λ t. fault_reports longest lines ++ t) (append-nil (report_if_faulty (fault_of_line_within longest line)))
 
 -- A writer takes a part of the pending output.
 pub wrote : (a b c : Option (List ℕ)) (text pending new : List ℕ) → GainsAllBut a b text pending
@@ -277,77 +282,84 @@ grown a b text pending more new (gone, is, gained) e =
     (gone, ap (λ t. t ++ more) is ∙ append_assoc gone pending more ∙ ap (λ t. gone ++ t) (sym e), gained)
 
 -- What the writers have gained for these lines, and what is pending.
-pub record Linted (keep : Bool) (lines : List DocumentLine) (a b c d : Option (List ℕ)) (kept reported : List ℕ)
+pub record Linted (longest : ℕ) (keep : Bool) (lines : List DocumentLine) (a b c d : Option (List ℕ))
+    (kept reported : List ℕ)
     (faulty : ℕ) : Type 0 where
-  pub kept_is : GainsAllBut a b (kept_lines keep lines) kept
-  pub reported_is : GainsAllBut c d (fault_reports lines) reported
-  pub faulty_is : faulty ≡ last_faulty_of 0 lines
+  pub kept_is : GainsAllBut a b (kept_lines longest keep lines) kept
+  pub reported_is : GainsAllBut c d (fault_reports longest lines) reported
+  pub faulty_is : faulty ≡ last_faulty_of longest 0 lines
 
-pub none_linted : (keep : Bool) (a c : Option (List ℕ)) (kept reported : List ℕ) (faulty : ℕ) → kept ≡ []
-    → reported ≡ [] → faulty ≡ 0 → Linted keep [] a a c c kept reported faulty
-none_linted false a c kept reported faulty k t f =
+pub none_linted : (longest : ℕ) (keep : Bool) (a c : Option (List ℕ)) (kept reported : List ℕ) (faulty : ℕ) → kept ≡ []
+    → reported ≡ [] → faulty ≡ 0 → Linted longest keep [] a a c c kept reported faulty
+none_linted longest false a c kept reported faulty k t f =
     record { kept_is = ([], sym k, Appends-nil a); reported_is = ([], sym t, Appends-nil c); faulty_is = f }
-none_linted true a c kept reported faulty k t f =
+none_linted longest true a c kept reported faulty k t f =
     record { kept_is = ([], sym k, Appends-nil a); reported_is = ([], sym t, Appends-nil c); faulty_is = f }
 
-pub linted_on : (keep : Bool) (lines : List DocumentLine) (line : DocumentLine) (a b c d : Option (List ℕ))
+pub linted_on : (longest : ℕ) (keep : Bool) (lines : List DocumentLine) (line : DocumentLine)
+    (a b c d : Option (List ℕ))
     (kept reported new_kept new_reported : List ℕ) (faulty new_faulty : ℕ)
-    → Linted keep lines a b c d kept reported faulty
-    → new_kept ≡ kept ++ kept_if keep (last_faulty faulty (fault_of_line line)) line
-    → new_reported ≡ reported ++ report_if_faulty (fault_of_line line)
-    → new_faulty ≡ last_faulty faulty (fault_of_line line)
-    → Linted keep (lines ++ line ∷ []) a b c d new_kept new_reported new_faulty
-linted_on keep lines line a b c d kept reported new_kept new_reported faulty new_faulty h k t f = record {
+    → Linted longest keep lines a b c d kept reported faulty
+    → new_kept ≡ kept ++ kept_if keep (last_faulty faulty (fault_of_line_within longest line)) line
+    → new_reported ≡ reported ++ report_if_faulty (fault_of_line_within longest line)
+    → new_faulty ≡ last_faulty faulty (fault_of_line_within longest line)
+    → Linted longest keep (lines ++ line ∷ []) a b c d new_kept new_reported new_faulty
+linted_on longest keep lines line a b c d kept reported new_kept new_reported faulty new_faulty h k t f = record {
   kept_is =
-      subst (λ text. GainsAllBut a b text new_kept) (sym (kept_on keep lines line))
-      (grown a b (kept_lines keep lines) kept _ new_kept h.kept_is (k
-      ∙ ap (λ n. kept ++ kept_if keep (last_faulty n (fault_of_line line)) line) h.faulty_is));
-  reported_is = subst (λ text. GainsAllBut c d text new_reported) (sym (reported_on lines line))
-      (grown c d (fault_reports lines) reported _ new_reported h.reported_is t);
-  faulty_is = f ∙ ap (λ n. last_faulty n (fault_of_line line)) h.faulty_is ∙ sym (last_on 0 lines (line ∷ []));
+      subst (λ text. GainsAllBut a b text new_kept) (sym (kept_on longest keep lines line))
+      (grown a b (kept_lines longest keep lines) kept _ new_kept h.kept_is (k
+      ∙ ap (λ n. kept ++ kept_if keep (last_faulty n (fault_of_line_within longest line)) line) h.faulty_is));
+  reported_is = subst (λ text. GainsAllBut c d text new_reported) (sym (reported_on longest lines line))
+      (grown c d (fault_reports longest lines) reported _ new_reported h.reported_is t);
+  faulty_is = f ∙ ap (λ n. last_faulty n (fault_of_line_within longest line)) h.faulty_is
+      ∙ sym (last_on longest 0 lines (line ∷ []));
 }
 
-pub counted_on : (lines : List DocumentLine) (line : DocumentLine) (n one new : ℕ) → n ≡ length (faulty_lines lines)
-    → one ≡ length (faulty_lines (line ∷ [])) → new ≡ n + one → new ≡ length (faulty_lines (lines ++ line ∷ []))
-counted_on lines line n one new h o is =
+pub counted_on : (longest : ℕ) (lines : List DocumentLine) (line : DocumentLine) (n one new : ℕ)
+    → n ≡ length (faulty_lines_within longest lines)
+    → one ≡ length (faulty_lines_within longest (line ∷ [])) → new ≡ n + one
+    → new ≡ length (faulty_lines_within longest (lines ++ line ∷ []))
+counted_on longest lines line n one new h o is =
     omega (
       arith,
       h,
       o,
       is,
-      ap length (filter_map-append fault_of_line lines (line ∷ [])),
-      length-append (faulty_lines lines) (faulty_lines (line ∷ [])),
+      ap length (filter_map-append (fault_of_line_within longest) lines (line ∷ [])),
+      length-append (faulty_lines_within longest lines) (faulty_lines_within longest (line ∷ [])),
     )
 
 -- Before the first of no lines there is none.
-pub none_before : (most : ℕ) (before : List DocumentLine) (last : DocumentLine) → [] ≡ before ++ last ∷ []
-    → length (faulty_lines before) < most
-none_before most [] last h = absurd cc
-none_before most (x ∷ before) last h = absurd cc
+pub none_before : (longest most : ℕ) (before : List DocumentLine) (last : DocumentLine) → [] ≡ before ++ last ∷ []
+    → length (faulty_lines_within longest before) < most
+none_before longest most [] last h = absurd cc
+none_before longest most (x ∷ before) last h = absurd cc
 
 -- Fewer than `most` lines before this one are faulty.
-pub fewer_before : (lines : List DocumentLine) (line : DocumentLine) (count most : ℕ)
-    → count ≡ length (faulty_lines lines) → count < most → (before : List DocumentLine) (last : DocumentLine)
-    → lines ++ line ∷ [] ≡ before ++ last ∷ [] → length (faulty_lines before) < most
-fewer_before lines line count most is fewer before last h =
+pub fewer_before : (longest : ℕ) (lines : List DocumentLine) (line : DocumentLine) (count most : ℕ)
+    → count ≡ length (faulty_lines_within longest lines) → count < most
+    → (before : List DocumentLine) (last : DocumentLine)
+    → lines ++ line ∷ [] ≡ before ++ last ∷ [] → length (faulty_lines_within longest before) < most
+fewer_before longest lines line count most is fewer before last h =
     let equal : length before ≡ length lines =
     omega (arith, ap length h, length-append lines (line ∷ []), length-append before (last ∷ [])) in
     let same : before ≡ lines = sym (take-append_seam before (last ∷ [])) ∙ ap (take (length before)) (sym h)
     ∙ ap (λ n. take n (lines ++ line ∷ [])) equal ∙ take-append_seam lines (line ∷ []) in
-    omega (arith, is, fewer, ap (λ xs. length (faulty_lines xs)) same)
+    omega (arith, is, fewer, ap (λ xs. length (faulty_lines_within longest xs)) same)
 
 -- ---- errors
 
 -- An error of writing, or lack of memory.
-pub cut_short : (keep : Bool) (s : LinesState) (input mid given a b c d : Option (List ℕ)) (lines : List DocumentLine)
+pub cut_short : (longest : ℕ) (keep : Bool) (s : LinesState) (input mid given a b c d : Option (List ℕ))
+    (lines : List DocumentLine)
     (fault : LintFault) → HasReadLines s input mid lines → (fault ≡ OutOfMemory) ⊎ ((n : ℕ) × (fault ≡ Write n))
-    → GainsPrefix a b (kept_lines keep lines) → GainsPrefix c d (fault_reports lines)
-    → LintsUntilFault keep input given a b c d fault
-cut_short keep s input mid given a b c d lines fault r (inl is) kept reported =
-    subst (LintsUntilFault keep input given a b c d) (sym is)
+    → GainsPrefix a b (kept_lines longest keep lines) → GainsPrefix c d (fault_reports longest lines)
+    → LintsUntilFault longest keep input given a b c d fault
+cut_short longest keep s input mid given a b c d lines fault r (inl is) kept reported =
+    subst (LintsUntilFault longest keep input given a b c d) (sym is)
     (record { lines = lines; are = begins_with s input mid lines r; behind = tt; kept = kept; reported = reported })
-cut_short keep s input mid given a b c d lines fault r (inr (n, is)) kept reported =
-    subst (LintsUntilFault keep input given a b c d) (sym is)
+cut_short longest keep s input mid given a b c d lines fault r (inr (n, is)) kept reported =
+    subst (LintsUntilFault longest keep input given a b c d) (sym is)
     (record { lines = lines; are = begins_with s input mid lines r; behind = tt; kept = kept; reported = reported })
 
 pub writer_failed : (fault : LintFault) (k l m r s t v w : ℕ) (a b c d e f : Option (List ℕ)) → l ≡ k → s ≡ r
@@ -365,10 +377,10 @@ writer_failed fault k l m r s t v w a b c d e f kept reported kept_count reporte
     inr (one.0 ∙ kept, one.1 ∙ ap (λ x. x + 1) reported, subst (λ x. GainsBytes x d f) equal (one.2 d reported_count))
 
 -- Before the first line.
-pub nothing_linted : (keep : Bool) (input given a c : Option (List ℕ))
-    → LintsUntilFault keep input given a a c c OutOfMemory
-nothing_linted keep input given a c =
-    let none = none_linted keep a c [] [] 0 refl refl refl in
+pub nothing_linted : (longest : ℕ) (keep : Bool) (input given a c : Option (List ℕ))
+    → LintsUntilFault longest keep input given a a c c OutOfMemory
+nothing_linted longest keep input given a c =
+    let none = none_linted longest keep a c [] [] 0 refl refl refl in
     record {
       lines = [];
       are =

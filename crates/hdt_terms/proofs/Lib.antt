@@ -46,6 +46,7 @@ pub mod WholeLines
 pub mod TripleRuns
 pub mod LineRuns
 pub mod DocumentLines
+pub mod LineStarts
 pub mod LineCompleteness
 pub mod LineLaws
 pub mod PatternTerms

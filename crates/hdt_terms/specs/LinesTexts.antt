@@ -1,5 +1,6 @@
 -- The texts of lines, valid or not, that a reader of lines consumes of its remaining input.
-use Rattle.std.specs.Prelude.{◌≡◌, ℕ, ◌+◌, ◌≤◌, Bool, true, false, List, [], length, take, Option, Result, Ok, Err}
+use Rattle.std.specs.Prelude.{◌≡◌, ℕ, ◌+◌, ◌≤◌, Bool, true, false, List, [], ◌∷◌, ◌++◌, length, take, Option, Result}
+use Rattle.std.specs.Prelude.{Ok, Err, if◌then◌else◌}
 use Rattle.hdt_terms.specs.declared.fault.LineFault.{LineFault}
 use Rattle.hdt_terms.specs.declared.fault.LineReason.{LineReason}
 use Rattle.hdt_terms.specs.declared.fault.LineReason.TheVariants.{Read, OutOfMemory, TooLong}
@@ -21,6 +22,20 @@ pub record TakesWholeLine (n : ℕ) (old new : LinesState) (before after : Optio
 abbrev pub TakesLinePrefix : ℕ → LinesState → LinesState → Option (List ℕ) → Option (List ℕ) → List ℕ → Type 0
 TakesLinePrefix most old new before after front = (text : List ℕ) × TakesText old new before after text
     × (front ≡ take most text)
+
+-- The end of the line that was consumed last: nothing if the input ended there.
+abbrev pub last_end : LinesState → List ℕ
+last_end s = if s.ended then [] else if s.after_cr then 13 ∷ [] else 10 ∷ []
+
+-- One line was consumed: bytes has the first n bytes of its text, at most `most`, and its end.
+pub record TakesLineStart (most n : ℕ) (old new : LinesState) (before after : Option (List ℕ))
+    (bytes : List ℕ) : Type 0 where
+  pub text : List ℕ
+  pub end : List ℕ
+  pub takes : Takes old new before after (text ++ end)
+  pub is : IsTakenLineText text (text ++ end) new after
+  pub len : n ≡ length (take most text)
+  pub bytes_are : bytes ≡ take most text ++ end
 
 -- The text of the line that starts after taken bytes is unavailable: reading failed, it is too long, or memory ran out.
 abbrev pub IsUnreadLineError : LineReason → ℕ → ℕ → Option (List ℕ) → Option (List ℕ) → Type 0

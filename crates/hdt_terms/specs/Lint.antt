@@ -1,6 +1,7 @@
 -- Checking every line of a document: the reports of the faulty lines, and the bytes of the others.
-use Rattle.std.specs.Prelude.{◌≡◌, ℕ, ◌-◌, ◌<◌, ◌^◌, ◌==◌, ◌⊎◌, if◌then◌else◌, Bool, true, false, List, [], ◌∷◌, ◌++◌}
-use Rattle.std.specs.Prelude.{length, min, take, drop, Option, None, Some, Result, Ok, Err, codes, option_map}
+use Rattle.std.specs.Prelude.{◌≡◌, ℕ, ◌+◌, ◌-◌, ◌<◌, ◌^◌, ◌==◌, ◌⊎◌, if◌then◌else◌, Bool, true, false, List, []}
+use Rattle.std.specs.Prelude.{◌∷◌, ◌++◌}
+use Rattle.std.specs.Prelude.{length, min, take, drop, Option, None, Some, Result, Ok, Err, codes, option_map, nat_lt}
 use Rattle.std.specs.Fmt.{decimal}
 use Rattle.std.specs.Io.KnownBytes.{Appends}
 use Rattle.std.specs.List.{filter_map, flat_map}
@@ -8,7 +9,7 @@ use Rattle.hdt_terms.specs.declared.fault.LineFault.{LineFault}
 use Rattle.hdt_terms.specs.declared.fault.TermFault.{TermFault}
 use Rattle.hdt_terms.specs.declared.lint.LintFault.{LintFault}
 use Rattle.hdt_terms.specs.declared.lint.LintFault.TheVariants as faults
-use Rattle.hdt_terms.specs.declared.fault.LineReason.TheVariants.{Read}
+use Rattle.hdt_terms.specs.declared.fault.LineReason.TheVariants.{Read, TooLong}
 use Rattle.hdt_terms.specs.Documents.{AreDocumentLines, BeginsWithLines, DocumentLine, FaultAfterDocumentLines}
 use Rattle.hdt_terms.specs.LineParsing.{line_in}
 use Rattle.hdt_terms.specs.Reasons.{line_reason_number, line_reason_name}
@@ -23,6 +24,11 @@ fault_of (Err fault) = Some fault
 abbrev pub text_fault : List ℕ → Option TermFault
 text_fault text = fault_of (line_in text)
 
+-- The first error of the text of a line that may have up to `longest` bytes: a longer one is too long, whatever it has.
+abbrev pub text_fault_within : ℕ → List ℕ → Option TermFault
+text_fault_within longest text =
+    if nat_lt longest (length text) then Some (record { column = longest + 1; reason = TooLong }) else text_fault text
+
 abbrev pub at_line : ℕ → TermFault → LineFault
 at_line n fault = record { line = n; column = fault.column; reason = fault.reason }
 
@@ -33,6 +39,13 @@ fault_of_line line = option_map (at_line line.number) (text_fault line.text)
 -- The errors of the lines that have one, in order.
 abbrev pub faulty_lines : List DocumentLine → List LineFault
 faulty_lines lines = filter_map fault_of_line lines
+
+-- The same for lines that may have up to `longest` bytes of text.
+abbrev pub fault_of_line_within : ℕ → DocumentLine → Option LineFault
+fault_of_line_within longest line = option_map (at_line line.number) (text_fault_within longest line.text)
+
+abbrev pub faulty_lines_within : ℕ → List DocumentLine → List LineFault
+faulty_lines_within longest lines = filter_map (fault_of_line_within longest) lines
 
 -- ---- the output
 
@@ -46,8 +59,8 @@ report_if_faulty None = []
 report_if_faulty (Some fault) = fault_report fault
 
 -- The reports of the errors of lines.
-abbrev pub fault_reports : List DocumentLine → List ℕ
-fault_reports lines = flat_map (λ line. report_if_faulty (fault_of_line line)) lines
+abbrev pub fault_reports : ℕ → List DocumentLine → List ℕ
+fault_reports longest lines = flat_map (λ line. report_if_faulty (fault_of_line_within longest line)) lines
 
 -- The number of the last faulty line: this line, or the one before.
 abbrev pub last_faulty : ℕ → Option LineFault → ℕ
@@ -55,9 +68,10 @@ last_faulty before None = before
 last_faulty before (Some fault) = fault.line
 
 -- The number of the last faulty line; before is that of the lines before.
-abbrev pub last_faulty_of : ℕ → List DocumentLine → ℕ
-last_faulty_of before [] = before
-last_faulty_of before (line ∷ lines) = last_faulty_of (last_faulty before (fault_of_line line)) lines
+abbrev pub last_faulty_of : ℕ → ℕ → List DocumentLine → ℕ
+last_faulty_of longest before [] = before
+last_faulty_of longest before (line ∷ lines) =
+    last_faulty_of longest (last_faulty before (fault_of_line_within longest line)) lines
 
 -- A line is kept with its end, unless it is the last faulty one.
 abbrev pub kept_line : ℕ → DocumentLine → List ℕ
@@ -73,16 +87,16 @@ abbrev pub numbered : ℕ → ℕ → List ℕ → DocumentLine
 numbered number n bytes = record { number = number; text = take n bytes; end = drop n bytes }
 
 -- The lines without an error, with their ends. U+000A after U+000D has the number of its line, so it goes with it.
-abbrev pub lines_without_faults : ℕ → List DocumentLine → List ℕ
-lines_without_faults before [] = []
-lines_without_faults before (line ∷ lines) =
-    kept_line (last_faulty before (fault_of_line line)) line
-    ++ lines_without_faults (last_faulty before (fault_of_line line)) lines
+abbrev pub lines_without_faults : ℕ → ℕ → List DocumentLine → List ℕ
+lines_without_faults longest before [] = []
+lines_without_faults longest before (line ∷ lines) =
+    kept_line (last_faulty before (fault_of_line_within longest line)) line
+    ++ lines_without_faults longest (last_faulty before (fault_of_line_within longest line)) lines
 
 -- With `keep`, the lines without an error, byte for byte; else nothing.
-abbrev pub kept_lines : Bool → List DocumentLine → List ℕ
-kept_lines false lines = []
-kept_lines true lines = lines_without_faults 0 lines
+abbrev pub kept_lines : ℕ → Bool → List DocumentLine → List ℕ
+kept_lines longest false lines = []
+kept_lines longest true lines = lines_without_faults longest 0 lines
 
 -- ---- what the writers have gained
 
@@ -100,17 +114,18 @@ GainsPrefix before after text = (more : List ℕ) × GainsAllBut before after te
 
 -- ---- complete and interrupted runs
 
--- All lines of the input, or its first lines up to the last of `most` faulty ones, were checked: n are faulty, and the
--- two writers have gained the kept lines and the reports. Before the last of these lines fewer than `most` are faulty.
-pub record LintsInput (keep : Bool) (most : ℕ)
+-- All lines of the input, or its first lines up to the last of `most` faulty ones, were checked: n are faulty, among
+-- them those of more than `longest` bytes, and the two writers have gained the kept lines and the reports. Before the
+-- last of these lines fewer than `most` are faulty.
+pub record LintsInput (longest : ℕ) (keep : Bool) (most : ℕ)
     (input kept_before kept_after reported_before reported_after : Option (List ℕ)) (n : ℕ) : Type 0 where
   pub lines : List DocumentLine
   pub are : AreDocumentLines input lines ⊎ ((n ≡ most) × BeginsWithLines input lines)
-  pub count : n ≡ length (faulty_lines lines)
+  pub count : n ≡ length (faulty_lines_within longest lines)
   pub fewer : (before : List DocumentLine) (last : DocumentLine) → lines ≡ before ++ last ∷ []
-      → length (faulty_lines before) < most
-  pub kept : Appends kept_before kept_after (kept_lines keep lines)
-  pub reported : Appends reported_before reported_after (fault_reports lines)
+      → length (faulty_lines_within longest before) < most
+  pub kept : Appends kept_before kept_after (kept_lines longest keep lines)
+  pub reported : Appends reported_before reported_after (fault_reports longest lines)
 
 -- The reader failed.
 abbrev pub IsReadFault : LintFault → Type 0
@@ -124,11 +139,11 @@ FollowsDocumentLines fault input given lines = Unit {0}
 
 -- An error ended the run after some lines: the two writers have gained a prefix of the kept lines and of the reports.
 -- If a line could not be read, these are all lines before it; `given` is what the reader still yields after it.
-pub record LintsUntilFault (keep : Bool)
+pub record LintsUntilFault (longest : ℕ) (keep : Bool)
     (input given kept_before kept_after reported_before reported_after : Option (List ℕ))
     (fault : LintFault) : Type 0 where
   pub lines : List DocumentLine
   pub are : BeginsWithLines input lines
   pub behind : FollowsDocumentLines fault input given lines
-  pub kept : GainsPrefix kept_before kept_after (kept_lines keep lines)
-  pub reported : GainsPrefix reported_before reported_after (fault_reports lines)
+  pub kept : GainsPrefix kept_before kept_after (kept_lines longest keep lines)
+  pub reported : GainsPrefix reported_before reported_after (fault_reports longest lines)

@@ -15,6 +15,9 @@ use std::marker::Model;
 /// The initial capacity in bytes.
 const BUFFER_CAPACITY: usize = 65536;
 
+/// A full buffer grows by its length divided by this, and by [`BUFFER_CAPACITY`].
+const GROWTH_DIVISOR: usize = 8;
+
 /// A buffer: the bytes of a vector from `start` to `end`. Contracts see only these bytes.
 #[derive(Drop)]
 pub(crate) struct Buffer {
@@ -46,7 +49,7 @@ fn make_free_space(bytes: &mut Vec<u8>, start: usize, end: usize) -> Result<(), 
     if start > 0 {
         bytes.copy_within(start..end, 0);
     } else if end == bytes.len() {
-        bytes.resize(2 * end, 0)?;
+        bytes.resize(end + end / GROWTH_DIVISOR + BUFFER_CAPACITY, 0)?;
     }
     Ok(())
 }

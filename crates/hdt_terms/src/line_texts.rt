@@ -15,7 +15,7 @@ use std::io::Read;
 
 impl Lines {
     ghost use Rattle.hdt_terms.specs.LinesTexts.{TakesLinePrefix, TakesWholeLine, IsNextLineError, ReturnsNextPrefix};
-    ghost use Rattle.hdt_terms.specs.LinesTexts.{TextClearedUnlessFound};
+    ghost use Rattle.hdt_terms.specs.LinesTexts.{TakesLineStart, TextClearedUnlessFound, last_end};
     ghost use Rattle.hdt_terms.specs.LinesReader.{HasBufferedLine, left};
 
     /// Returns whether a complete line with its end is buffered. If so, the next call of [`Lines::next_prefix`] reads
@@ -183,17 +183,52 @@ impl Lines {
         ensures failed { IfErr result (λ f. f.reason ≡ Read → failures input.new ≡ failures input.old + 1) }
         ensures still { IfErr result (λ f. f.reason ≢ Read → failures input.new ≡ failures input.old) }
     {
-        let n = match self.buffer_line(input) {
-            Ok((n, _)) => n,
-            Err(reason) => return Err(self.fault(0, reason)),
-        };
+        // Brings the invariant of the type into the proof.
+        let _ = &self.alloc;
+        self.next_line_start(usize::MAX, input, bytes)
+    }
+
+    /// Consumes the next line and replaces the contents of `bytes` by the first `most` bytes of its text and its end.
+    /// Returns the number of these bytes of its text. Memory only for `bytes`, however long the line is.
+    pub(crate) fn next_line_start<R: Read>(
+        &mut self,
+        most: usize,
+        input: &mut Counted<R>,
+        bytes: &mut Vec<u8>,
+    ) -> Result<usize, LineFault>
+        requires { self.old.ended ≡ false }
+        ensures does { IfOk result
+            (λ n. TakesLineStart most n self.old self.new (left self.old (R.remaining (inner input.old)))
+            (left self.new (R.remaining (inner input.new))) bytes.new.items) }
+        ensures fault { IfErr result
+            (λ f. IsNextLineError f self.old (left self.old (R.remaining (inner input.old)))
+            (R.remaining (inner input.new))) }
+        ensures count { OnOk result (failures input.new ≡ failures input.old) }
+        ensures failed { IfErr result (λ f. f.reason ≡ Read → failures input.new ≡ failures input.old + 1) }
+        ensures still { IfErr result (λ f. f.reason ≢ Read → failures input.new ≡ failures input.old) }
+    {
+        let without_memory = self.fault(0, LineReason::OutOfMemory);
         bytes.clear();
-        match bytes.extend_from_slice(with_end(self.buffered.as_slice(), n)) {
+        match self.take_prefix(most, input, bytes) {
             Ok(()) => {}
-            Err(AllocError) => return Err(self.fault(0, LineReason::OutOfMemory)),
+            Err(fault) => return Err(fault),
         }
-        self.take(n);
-        Ok(n)
+        let n = bytes.len();
+        match self.put_end(bytes) {
+            Ok(()) => Ok(n),
+            Err(AllocError) => Err(without_memory),
+        }
+    }
+
+    /// Appends the end of the line that was consumed last.
+    fn put_end(&self, bytes: &mut Vec<u8>) -> Result<(), AllocError>
+        ensures { OnOk result (bytes.new.items ≡ bytes.old.items ++ last_end self.now) }
+    {
+        if self.ended {
+            return Ok(());
+        }
+        bytes.push(if self.after_cr { b'\r' } else { b'\n' })?;
+        Ok(())
     }
 }
 
@@ -203,12 +238,4 @@ fn append_up_to(most: usize, bytes: &[u8], text: &mut Vec<u8>) -> Result<(), All
 {
     let missing = most.saturating_sub(text.len());
     text.extend_from_slice(bytes.get(..missing).unwrap_or(bytes))
-}
-
-/// The first n bytes and the one after them, if there is one.
-fn with_end(bytes: &[u8], n: usize) -> &[u8]
-    requires { n ≤ length bytes.now }
-    ensures { result.now ≡ take (n + 1) bytes.now }
-{
-    bytes.get(..n + 1).unwrap_or(bytes)
 }

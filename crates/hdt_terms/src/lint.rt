@@ -1,11 +1,12 @@
 //! Every faulty line of a document.
 ghost use Rattle.std.specs.Prelude.{◌≡◌, ◌+◌, ◌++◌, ◌∷◌, ◌⊎◌, ◌<◌, ◌≤◌, ℕ, [], OnOk, OnErr, IfOk, IfErr, Some};
-ghost use Rattle.std.specs.Prelude.{length, true, false};
+ghost use Rattle.std.specs.Prelude.{length, true, false, ◌^◌};
 ghost use Rattle.std.specs.Int.{from_bool};
 ghost use Rattle.hdt_wire.specs.Counted.{inner, failures};
 ghost use Rattle.hdt_terms.specs.Lint.{LintsInput, LintsUntilFault, GainsAllBut, GainsBytes, GainsPrefix, IsReadFault};
-ghost use Rattle.hdt_terms.specs.Lint.{at_line, fault_of_line, fault_report, faulty_lines, kept_if, last_faulty};
-ghost use Rattle.hdt_terms.specs.Lint.{numbered, report_if_faulty, text_fault};
+ghost use Rattle.hdt_terms.specs.Lint.{at_line, fault_of_line_within, fault_report, faulty_lines_within, kept_if};
+ghost use Rattle.hdt_terms.specs.Lint.{last_faulty};
+ghost use Rattle.hdt_terms.specs.Lint.{numbered, report_if_faulty, text_fault_within};
 ghost use Rattle.hdt_terms.specs.declared.lint.LintFault.TheVariants.{OutOfMemory, Write as write_failed};
 
 use crate::fault::{LineFault, LineReason, TermFault};
@@ -72,15 +73,23 @@ fn put_report(
     out.extend_from_slice(report.as_bytes())
 }
 
-/// The first error of the text of a line, if it has one. The three buffers are for its strings.
+/// The first error of the text of a line, if it has one: that it has more than `longest` bytes comes first. The three
+/// buffers are for its strings.
 fn find_fault(
+    longest: u64,
     text: &[u8],
     s: &mut Vec<u8>,
     p: &mut Vec<u8>,
     o: &mut Vec<u8>,
 ) -> Result<Option<TermFault>, AllocError>
-    ensures { IfOk result (λ fault. fault ≡ text_fault text.now) }
+    ensures { IfOk result (λ fault. fault ≡ text_fault_within longest text.now) }
 {
+    if text.len() as u64 > longest {
+        return Ok(Some(TermFault {
+            column: longest + 1,
+            reason: LineReason::TooLong,
+        }));
+    }
     match parse_line_strings(text, s, p, o) {
         Ok(_) => Ok(None),
         Err(fault) => match fault.reason {
@@ -126,19 +135,20 @@ impl Linter {
     }
 
     /// Reports the line if it is faulty, and returns whether it is. Its first `n` bytes are its text.
-    fn report(&mut self, number: u64, n: usize) -> Result<bool, AllocError>
+    fn report(&mut self, longest: u64, number: u64, n: usize) -> Result<bool, AllocError>
         requires { n ≤ length self.old.line.items }
         ensures reported { OnOk result (self.new.reported.items ≡ self.old.reported.items
-            ++ report_if_faulty (fault_of_line (numbered number n self.old.line.items))) }
+            ++ report_if_faulty (fault_of_line_within longest (numbered number n self.old.line.items))) }
         ensures faulty { OnOk result (self.new.faulty
-            ≡ last_faulty self.old.faulty (fault_of_line (numbered number n self.old.line.items))) }
+            ≡ last_faulty self.old.faulty (fault_of_line_within longest (numbered number n self.old.line.items))) }
         ensures count { IfOk result (λ faulty. from_bool faulty
-            ≡ length (faulty_lines (numbered number n self.old.line.items ∷ []))) }
+            ≡ length (faulty_lines_within longest (numbered number n self.old.line.items ∷ []))) }
         ensures line { OnOk result (self.new.line.items ≡ self.old.line.items) }
         ensures kept { OnOk result (self.new.kept.items ≡ self.old.kept.items) }
         ensures keep { OnOk result (self.new.keep ≡ self.old.keep) }
     {
         match find_fault(
+            longest,
             &self.line[..n],
             &mut self.subject,
             &mut self.predicate,
@@ -154,20 +164,21 @@ impl Linter {
     }
 
     /// Appends what is kept of a line and what is reported of it. Returns whether it is faulty.
-    fn lint_line(&mut self, number: u64, n: usize) -> Result<bool, AllocError>
+    fn lint_line(&mut self, longest: u64, number: u64, n: usize) -> Result<bool, AllocError>
         requires { n ≤ length self.old.line.items }
         ensures reported { OnOk result (self.new.reported.items ≡ self.old.reported.items
-            ++ report_if_faulty (fault_of_line (numbered number n self.old.line.items))) }
+            ++ report_if_faulty (fault_of_line_within longest (numbered number n self.old.line.items))) }
         ensures faulty { OnOk result (self.new.faulty
-            ≡ last_faulty self.old.faulty (fault_of_line (numbered number n self.old.line.items))) }
+            ≡ last_faulty self.old.faulty (fault_of_line_within longest (numbered number n self.old.line.items))) }
         ensures count { IfOk result (λ faulty. from_bool faulty
-            ≡ length (faulty_lines (numbered number n self.old.line.items ∷ []))) }
+            ≡ length (faulty_lines_within longest (numbered number n self.old.line.items ∷ []))) }
         ensures kept { OnOk result (self.new.kept.items ≡ self.old.kept.items
             ++ kept_if self.old.keep (last_faulty self.old.faulty
-            (fault_of_line (numbered number n self.old.line.items))) (numbered number n self.old.line.items)) }
+            (fault_of_line_within longest (numbered number n self.old.line.items)))
+            (numbered number n self.old.line.items)) }
         ensures keep { OnOk result (self.new.keep ≡ self.old.keep) }
     {
-        let is_faulty = self.report(number, n)?;
+        let is_faulty = self.report(longest, number, n)?;
         if self.keep && self.faulty != number {
             self.kept.extend_from_slice(&self.line)?;
         }
@@ -274,9 +285,11 @@ fn is_another_wanted(count: u64, most: u64, lines: &Lines) -> bool
 /// Checks every line of a document, and reports each faulty one to `reported`, in a line with the number of the line,
 /// the column in bytes, and the number and the name of the reason. Returns how many there are. With `keep`, writes the
 /// lines without an error to `kept`, byte for byte, with their ends; so a document without errors is copied. Stops
-/// after `most` faulty lines.
+/// after `most` faulty lines. A line whose text has more than `longest` bytes is faulty: [`LineReason::TooLong`] at
+/// column `longest + 1`, whatever it contains. [`MAX_INPUT_LEN`] for no limit.
 ///
-/// Linear time. Memory: the longest line, twice, and 64 KiB for each of the input and both outputs.
+/// Linear time. Memory: the longest line, or `longest` bytes of it, and its strings; and 64 KiB for each of the input
+/// and both outputs.
 ///
 /// # Errors
 ///
@@ -285,14 +298,16 @@ fn is_another_wanted(count: u64, most: u64, lines: &Lines) -> bool
 /// failed. [`LintFault::OutOfMemory`].
 pub fn lint_document<R: Read, K: Write, T: Write>(
     alloc: Global,
+    longest: u64,
     keep: bool,
     most: u64,
     input: &mut Counted<R>,
     kept: &mut Counted<K>,
     reported: &mut Counted<T>,
 ) -> Result<u64, LintFault>
+    requires { longest < 2 ^ 63 }
     // All lines were checked, or those up to the last of `most` faulty ones; the result is how many are faulty.
-    ensures ok { IfOk result (LintsInput keep most (R.remaining (inner input.old)) (K.contents (inner kept.old))
+    ensures ok { IfOk result (LintsInput longest keep most (R.remaining (inner input.old)) (K.contents (inner kept.old))
         (K.contents (inner kept.new)) (T.contents (inner reported.old)) (T.contents (inner reported.new))) }
     ensures writers_well { OnOk result ((failures kept.new ≡ failures kept.old)
         × (failures reported.new ≡ failures reported.old)) }
@@ -306,7 +321,7 @@ pub fn lint_document<R: Read, K: Write, T: Write>(
         × (failures reported.new ≡ failures reported.old)) }
     // The writers have gained a prefix of the output for some first lines; all lines before one that cannot be read.
     ensures stopped { IfErr result
-        (LintsUntilFault keep (R.remaining (inner input.old)) (R.remaining (inner input.new))
+        (LintsUntilFault longest keep (R.remaining (inner input.old)) (R.remaining (inner input.new))
         (K.contents (inner kept.old)) (K.contents (inner kept.new)) (T.contents (inner reported.old))
         (T.contents (inner reported.new))) }
     // The reader failed if the error says so, and only then.
@@ -319,7 +334,7 @@ pub fn lint_document<R: Read, K: Write, T: Write>(
     let mut written = (0, 0);
     let mut count = 0;
     'lines: while is_another_wanted(count, most, &lines) {
-        let n = match lines.next_whole_line(input, &mut linter.line) {
+        let n = match lines.next_line_start(longest as usize + 1, input, &mut linter.line) {
             Ok(n) => n,
             Err(fault) => {
                 flush_before_error(&mut linter, written, kept, reported);
@@ -327,7 +342,7 @@ pub fn lint_document<R: Read, K: Write, T: Write>(
             }
         };
         let number = lines.line_number();
-        count += u64::from(linter.lint_line(number, n)?);
+        count += u64::from(linter.lint_line(longest, number, n)?);
         written = write_both_if_long(FLUSH_LEN, &mut linter, written, kept, reported)?;
     }
     write_both_if_long(0, &mut linter, written, kept, reported)?;

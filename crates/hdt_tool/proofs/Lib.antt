@@ -17,3 +17,4 @@ pub mod Dialogues
 mod NonTermLaws
 mod FindActions
 mod Escaping
+mod StreamedTriples

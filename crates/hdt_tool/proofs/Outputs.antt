@@ -1,5 +1,6 @@
 -- The output and the new file of a run, by kind of command.
-use Rattle.std.proofs.Common.{◌≡◌, ◌≢◌, ◌+◌, ◌++◌, ◌∙◌, ℕ, Bool, List, [], Option, Result, Ok, Err, length, take, refl}
+use Rattle.std.proofs.Common.{◌≡◌, ◌≢◌, ◌+◌, ◌++◌, ◌∙◌, ℕ, Bool, true, false, List, [], Option, Result, Ok, Err, length}
+use Rattle.std.proofs.Common.{take, refl}
 use Rattle.std.proofs.Common.{sym, ap, subst}
 use Rattle.std.specs.Prelude.{IfErr, IsErrOf, OnErr, OnOk}
 use Rattle.std.specs.Io.KnownBytes.{Appends}
@@ -8,13 +9,18 @@ use Rattle.hdt_build.specs.Reading.{ReadFailed}
 use Rattle.hdt_build.specs.declared.fault.BuildFault.{BuildFault}
 use Rattle.hdt_build.specs.declared.fault.BuildFault.TheVariants as building
 use Rattle.hdt_build.specs.declared.options.Options.{Options}
-use Rattle.hdt_wire.specs.declared.Role.{Role}
 use Rattle.hdt_tool.specs.declared.fault.ToolFault.{ToolFault}
 use Rattle.hdt_tool.specs.declared.fault.ToolFault.TheVariants.{BadOptions, Read, Write}
 use Rattle.hdt_tool.specs.declared.request.Action.{Action}
-use Rattle.hdt_tool.specs.declared.request.Action.TheVariants.{Build, Rewrite, SkipNonTerms, Strings, VerifyTerms}
+use Rattle.hdt_tool.specs.declared.request.Action.TheVariants.{Build, Find, Rewrite, Search, SkipNonTerms, Strings}
+use Rattle.hdt_tool.specs.declared.request.Action.TheVariants.{VerifyTerms}
+use Rattle.hdt_tool.specs.declared.request.OutputFormat.TheVariants.{Count}
+use Rattle.hdt_file.specs.File.{GraphParts, IsLayout}
+use Rattle.hdt_tool.specs.NonTermText.{PrintsKept}
 use Rattle.hdt_tool.specs.Outcomes.{Completes, FailsAfter, IfBuild, IsReadOnly, Prints}
-use Rattle.hdt_tool.specs.Outcomes.{PrintsCountingNonTerms, PrintsText, PrintsWithCount, ReadsAll, ReadsWith}
+use Rattle.hdt_tool.specs.Outcomes.{CountsNonTerms, PrintsCountingNonTerms, PrintsInPieces, PrintsText}
+use Rattle.hdt_tool.specs.Outcomes.{PrintsWithCount, ReadsAll}
+use Rattle.hdt_tool.specs.Outcomes.{ReadsWith}
 use Rattle.hdt_tool.specs.Outcomes.{RewritesFile, WritesOutputPrefix, Yields, YieldsAppended}
 use Rattle.hdt_tool.specs.TriplesText.{GivenStrings}
 use Rattle.hdt_tool.specs.Faults.{build_fault_of, fault_of_reason}
@@ -66,14 +72,38 @@ counts_nothing (SkipNonTerms given count most) bytes text is h = absurd is
 counts_nothing (VerifyTerms tight) bytes text is h = absurd is
 counts_nothing action bytes text is h = (h, refl)
 
-pub prints_text : (action : Action) → IsReadOnly action → ((role : Role) → action ≢ Strings role)
+pub reads_only : (action : Action) → PrintsInPieces action → IsReadOnly action
+reads_only (Build options) is = absurd is
+reads_only (Rewrite b) is = absurd is
+reads_only action is = tt
+
+pub not_in_pieces : (action : Action) (b : Bool) → (PrintsInPieces action → b ≡ true) → b ≡ false
+    → PrintsInPieces action → ⊥
+not_in_pieces action b told fails is = let holds = told is in absurd cc
+
+-- A command that counts, and does not print in pieces.
+pub counts_skipped : (given : GivenStrings) (count : Bool) (most : Option ℕ)
+    → (PrintsInPieces (SkipNonTerms given count most) → ⊥) → CountsNonTerms (SkipNonTerms given count most)
+counts_skipped given true most not_pieces = tt
+counts_skipped given false most not_pieces = not_pieces tt
+
+pub counts_kept : (given : GivenStrings) (count : Bool) (most : Option ℕ) (bytes text : List ℕ) (n : ℕ)
+    (graph : GraphParts) → CountsNonTerms (SkipNonTerms given count most) → IsLayout bytes graph
+    → PrintsKept graph given Count most text n
+    → PrintsCountingNonTerms (SkipNonTerms given count most) bytes text n
+counts_kept given true most bytes text n graph is encoded h = record { graph = graph; encoded = encoded; holds = h }
+counts_kept given false most bytes text n graph is encoded h = absurd is
+
+pub prints_text : (action : Action) → IsReadOnly action → (PrintsInPieces action → ⊥)
     → ((given : GivenStrings) (count : Bool) (most : Option ℕ) → action ≢ SkipNonTerms given count most)
     → ((tight : Bool) → action ≢ VerifyTerms tight) → PrintsText action
-prints_text (Strings role) is not_strings not_skipping not_terms = absurd (not_strings role refl)
-prints_text (SkipNonTerms given count most) is not_strings not_skipping not_terms =
+prints_text (Strings role) is not_pieces not_skipping not_terms = absurd (not_pieces tt)
+prints_text (Find given numbers) is not_pieces not_skipping not_terms = absurd (not_pieces tt)
+prints_text (Search given format most) is not_pieces not_skipping not_terms = absurd (not_pieces tt)
+prints_text (SkipNonTerms given count most) is not_pieces not_skipping not_terms =
     absurd (not_skipping given count most refl)
-prints_text (VerifyTerms tight) is not_strings not_skipping not_terms = absurd (not_terms tight refl)
-prints_text action is not_strings not_skipping not_terms = is
+prints_text (VerifyTerms tight) is not_pieces not_skipping not_terms = absurd (not_terms tight refl)
+prints_text action is not_pieces not_skipping not_terms = is
 
 -- `rewrite` of the bytes that were read.
 pub rewrites : (b : ℕ) (before after : Option (List ℕ)) (bytes seen text made more : List ℕ)

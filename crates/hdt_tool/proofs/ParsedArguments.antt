@@ -15,8 +15,10 @@ use Rattle.hdt_build.specs.declared.options.Options.{Options}
 use Rattle.hdt_tool.specs.declared.request.Action.{Action}
 use Rattle.hdt_tool.specs.declared.request.Request.{Request}
 use Rattle.hdt_tool.specs.declared.request.Action.TheVariants as action
+use Rattle.hdt_tool.specs.declared.request.MergeOptions.{MergeOptions}
 use Rattle.hdt_tool.specs.declared.request.SplitOptions.{SplitOptions}
-use Rattle.hdt_tool.specs.CommandLine.{IsQueryAction, ParsesAsSplitOptions, IsRequestOf, IsQueryRequest}
+use Rattle.hdt_tool.specs.CommandLine.{IsQueryAction, ParsesAsMergeOptions, ParsesAsSplitOptions, IsRequestOf}
+use Rattle.hdt_tool.specs.CommandLine.{IsQueryRequest}
 use Rattle.hdt_tool.specs.CommandLine.{IsOutputRequest, IsOutputAction, Refutes, RefutesOrInvalidTerm}
 use Rattle.hdt_tool.specs.CommandLine.{IsFaultOfArgument, IsInvalidTerm, IsInvalidPatternTerm, IsUsed, HasInvalidTerm}
 use Rattle.hdt_tool.specs.CommandLine.{ParsesAsBuildOptions, IsFaultOfTerm}
@@ -164,3 +166,21 @@ split_needed name rows is (action.Build options) h = absurd h
 split_needed name rows is (action.Rewrite b) h = absurd h
 split_needed name rows is (action.Split options) h = (options, h.1)
 split_needed name rows is a h = differ name _ _ is h.0 refl
+
+-- ---- `merge`
+
+-- `merge` needs its options.
+pub merge_needed : (name : Text) (rows : List Row) → name ≡ codes "merge" → (a : Action) → IsQueryAction name rows a
+    → (options : MergeOptions) × ParsesAsMergeOptions rows options
+merge_needed name rows is action.Head h = differ name _ _ is h refl
+merge_needed name rows is (action.Find given numbers) (inl h) = differ name _ _ is h.named refl
+merge_needed name rows is (action.Find given numbers) (inr h) = differ name _ _ is h.0 refl
+merge_needed name rows is (action.SkipNonTerms given count most) (inl h) = differ name _ _ is h.named refl
+merge_needed name rows is (action.SkipNonTerms given count most) (inr h) = differ name _ _ is h.0 refl
+merge_needed name rows is (action.Search given format most) h = differ name _ _ is h.named refl
+merge_needed name rows is (action.Count role top raw) h = differ name _ _ is h.named refl
+merge_needed name rows is (action.Answer options) h = differ name _ _ is h.named refl
+merge_needed name rows is (action.Build options) h = absurd h
+merge_needed name rows is (action.Rewrite b) h = absurd h
+merge_needed name rows is (action.Merge options) h = (options, h.1)
+merge_needed name rows is a h = differ name _ _ is h.0 refl

@@ -1,5 +1,6 @@
 -- Writing a text in pieces: its first n bytes have been written, and the buffer holds the next ones.
-use Rattle.std.proofs.Common.{◌≡◌, ◌≤◌, ◌+◌, ◌++◌, ◌∙◌, ◌⊎◌, ◌≢◌, ℕ, List, [], Option, length, take, drop, refl, sym}
+use Rattle.std.proofs.Common.{◌≡◌, ◌≤◌, ◌+◌, ◌++◌, ◌∙◌, ◌⊎◌, ◌≢◌, ℕ, Bool, true, false, List, []}
+use Rattle.std.proofs.Common.{Option, None, length, take, drop, refl, sym}
 use Rattle.std.proofs.Common.{ap, subst, arith, append_assoc, take-append-drop, inl, inr}
 use Rattle.std.specs.Io.KnownBytes.{Appends}
 use Rattle.std.proofs.lemmas.List.{length-drop, length-append, take_at, drop_at, drop-drop, take-append-le}
@@ -7,28 +8,21 @@ use Rattle.std.proofs.Math.Seq.{take-add}
 use Rattle.std.proofs.KnownBytes.{Appends-trans}
 use Rattle.hdt_tool.specs.declared.fault.ToolFault.{ToolFault}
 use Rattle.hdt_tool.specs.declared.fault.ToolFault.TheVariants.{Write, OutOfMemory}
-use Rattle.hdt_tool.specs.declared.request.Action.TheVariants.{Strings}
+use Rattle.hdt_tool.specs.declared.request.Action.{Action}
+use Rattle.hdt_tool.specs.declared.request.Action.TheVariants.{Find, Search, SkipNonTerms, Strings}
+use Rattle.hdt_tool.specs.declared.request.OutputFormat.{OutputFormat}
+use Rattle.hdt_tool.specs.declared.request.OutputFormat.TheVariants.{NTriples}
+use Rattle.hdt_tool.specs.StringsText.{string_lines}
+use Rattle.hdt_tool.specs.NonTermText.{PrintsKept}
+use Rattle.hdt_tool.specs.TriplesText.{GivenStrings, IsFindFault, PrintsFound, find_format}
 use Rattle.hdt_wire.specs.declared.Role.{Role}
 use Rattle.hdt_file.specs.File.{GraphParts, IsLayout}
 use Rattle.hdt_dict.specs.Dictionary.{role_strings}
-use Rattle.hdt_tool.specs.Outcomes.{AppendsPrefix, WritesOutputPrefix, HasRoleStringsWith, FailsAfter}
-use Rattle.hdt_tool.specs.Outcomes.{InterruptsStrings, IsCutShort, IsFaultOfBytes, IsFaultOfInput, Prints, ReadsAll}
-use Rattle.hdt_tool.specs.Outcomes.{ReadsWith}
-use Rattle.hdt_tool.specs.StringsText.{string_lines}
-use Rattle.hdt_tool.proofs.InputFaults.{fault_of_input, not_write}
-
--- The lines of a role's strings are the output of `strings`.
-pub all_lines : (role : Role) (before after : Option (List ℕ)) (bytes seen : List ℕ) → ReadsAll before after bytes
-    → seen ≡ bytes → (graph : GraphParts) → IsLayout seen graph
-    → ReadsWith before after (λ bytes. Prints (Strings role) bytes
-    (string_lines 1 (role_strings graph.dictionary role)))
-all_lines role before after bytes seen read is graph encoded =
-    record {
-      bytes = bytes;
-      read = read;
-      holds =
-          record { graph = graph; encoded = subst (λ (b : List ℕ). IsLayout b graph) is encoded; holds = refl };
-    }
+use Rattle.hdt_tool.specs.Outcomes.{AppendsPrefix, WritesOutputPrefix, FailsAfter, PrintsInPieces}
+use Rattle.hdt_tool.specs.Outcomes.{InterruptsOutput, IsCutShort, IsFaultOfBytes, IsFaultOfInput, Prints, ReadsAll}
+use Rattle.hdt_tool.specs.Outcomes.{PrintsCountingNonTerms}
+use Rattle.hdt_tool.proofs.InputFaults.{fault_of_input, no_find, no_text, not_write}
+use Rattle.hdt_tool.proofs.Outputs.{nothing_built, reads_only}
 
 -- An error other than a write error.
 memory_cut : (fault : ToolFault) (text : List ℕ) (a b : Option (List ℕ)) (f g : ℕ) → IsCutShort fault text a b f g
@@ -96,66 +90,139 @@ cut_by contents failed fault start out new all part behind n k within e one same
     (fails_behind (contents start) (contents out) (contents new) all part behind n some.0 (failed start) (failed out)
     (failed new) within e one same some.2)
 
--- A run of `strings` with incomplete output.
-pub role_writes : (role : Role) (before after : Option (List ℕ)) (bytes seen : List ℕ) (a b : Option (List ℕ)) (f g : ℕ)
-    (fault : ToolFault) (Same : Type 0) → ReadsAll before after bytes → seen ≡ bytes
-    → (IsFaultOfBytes (Strings role) seen fault × Same)
-    ⊎ HasRoleStringsWith seen role (λ strings. IsCutShort fault (string_lines 1 strings) a b f g)
-    → (n : ℕ) → fault ≡ Write n → (g ≡ f + 1) × WritesOutputPrefix (Strings role) before after a b n
-role_writes role before after bytes seen a b f g fault Same read is (inl told) n e =
-    absurd (not_write (Strings role) seen fault n told.0 e)
-role_writes role before after bytes seen a b f g fault Same read is (inr h) n e =
-    let lines = string_lines 1 (role_strings h.graph.dictionary role) in
-    let cut : FailsAfter n lines a b f g = subst (λ (t : ToolFault). IsCutShort t lines a b f g) e h.holds in (
+-- The last bytes of the text are written.
+pub whole_gained : (a b c : Option (List ℕ)) (all bytes : List ℕ) (n : ℕ) → Appends a b (take n all)
+    → drop n all ≡ bytes → Appends b c bytes → Appends a c all
+whole_gained a b c all bytes n gained behind h =
+    subst (Appends a c) (ap (λ (t : List ℕ). take n all ++ t) (sym behind) ∙ take-append-drop n all)
+    (Appends-trans a b c (take n all) bytes gained h)
+
+-- A run with incomplete output.
+pub pieces_write : (action : Action) (before after : Option (List ℕ)) (bytes seen : List ℕ) (a b : Option (List ℕ))
+    (f g : ℕ) (fault : ToolFault) (Same : Type 0) → PrintsInPieces action → ReadsAll before after bytes → seen ≡ bytes
+    → (IsFaultOfBytes action seen fault × Same)
+    ⊎ ((text : List ℕ) × Prints action seen text × IsCutShort fault text a b f g)
+    → (n : ℕ) → fault ≡ Write n → (g ≡ f + 1) × WritesOutputPrefix action before after a b n
+pieces_write action before after bytes seen a b f g fault Same asked read is (inl told) n e =
+    absurd (not_write action seen fault n told.0 e)
+pieces_write action before after bytes seen a b f g fault Same asked read is (inr h) n e =
+    let cut : FailsAfter n h.0 a b f g = subst (λ (t : ToolFault). IsCutShort t h.0 a b f g) e h.2 in
+    let makes = nothing_built action (reads_only action asked) before after h.0 []
+    (record { bytes = bytes; read = read; holds = subst (λ (x : List ℕ). Prints action x h.0) is h.1 }) in (
       cut.failed,
       record {
-        text = lines;
-        built = [];
-        yields =
-            (all_lines role before after bytes seen read is h.graph h.encoded, refl);
+        text = h.0;
+        built = makes.built;
+        yields = makes.yields;
         within = cut.within;
-        written =
-            cut.written;
+        written = cut.written;
       },
     )
 
 -- An error that cuts the output short says nothing of the input.
-cut_reported : (role : Role) (before after : Option (List ℕ)) (fault : ToolFault) (text : List ℕ)
-    (a b : Option (List ℕ)) (f g : ℕ) → IsCutShort fault text a b f g → IsFaultOfInput (Strings role) before after fault
-cut_reported role before after (Write n) text a b f g h = tt
-cut_reported role before after OutOfMemory text a b f g h = tt
-cut_reported role before after fault text a b f g h = absurd h
+cut_reported : (action : Action) (before after : Option (List ℕ)) (fault : ToolFault) (text : List ℕ)
+    (a b : Option (List ℕ)) (f g : ℕ) → IsCutShort fault text a b f g → IsFaultOfInput action before after fault
+cut_reported action before after (Write n) text a b f g h = tt
+cut_reported action before after OutOfMemory text a b f g h = tt
+cut_reported action before after fault text a b f g h = absurd h
 
-pub role_reported : (role : Role) (before after : Option (List ℕ)) (bytes seen : List ℕ) (a b : Option (List ℕ))
+pub pieces_reported : (action : Action) (before after : Option (List ℕ)) (bytes seen : List ℕ) (a b : Option (List ℕ))
     (f g : ℕ) (fault : ToolFault) (Same : Type 0) → ReadsAll before after bytes → seen ≡ bytes
-    → (IsFaultOfBytes (Strings role) seen fault × Same)
-    ⊎ HasRoleStringsWith seen role (λ strings. IsCutShort fault (string_lines 1 strings) a b f g)
-    → IsFaultOfInput (Strings role) before after fault
-role_reported role before after bytes seen a b f g fault Same read is (inl told) =
-    fault_of_input (Strings role) before after bytes fault read
-    (subst (λ (text : List ℕ). IsFaultOfBytes (Strings role) text fault) is told.0)
-role_reported role before after bytes seen a b f g fault Same read is (inr h) =
-    cut_reported role before after fault (string_lines 1 (role_strings h.graph.dictionary role)) a b f g h.holds
+    → (IsFaultOfBytes action seen fault × Same)
+    ⊎ ((text : List ℕ) × Prints action seen text × IsCutShort fault text a b f g)
+    → IsFaultOfInput action before after fault
+pieces_reported action before after bytes seen a b f g fault Same read is (inl told) =
+    fault_of_input action before after bytes fault read
+    (subst (λ (text : List ℕ). IsFaultOfBytes action text fault) is told.0)
+pieces_reported action before after bytes seen a b f g fault Same read is (inr h) =
+    cut_reported action before after fault h.0 a b f g h.2
 
-pub role_halts : (role : Role) (before after : Option (List ℕ)) (bytes seen : List ℕ) (a b : Option (List ℕ)) (f g : ℕ)
-    (fault : ToolFault) (Same : Type 0) → ReadsAll before after bytes → seen ≡ bytes
-    → (IsFaultOfBytes (Strings role) seen fault × Same)
-    ⊎ HasRoleStringsWith seen role (λ strings. IsCutShort fault (string_lines 1 strings) a b f g)
+pub pieces_halt : (action : Action) (before after : Option (List ℕ)) (bytes seen : List ℕ) (a b : Option (List ℕ))
+    (f g : ℕ) (fault : ToolFault) (Same : Type 0) → PrintsInPieces action → ReadsAll before after bytes → seen ≡ bytes
+    → (IsFaultOfBytes action seen fault × Same)
+    ⊎ ((text : List ℕ) × Prints action seen text × IsCutShort fault text a b f g)
     → ((n : ℕ) → fault ≢ Write n)
-    → Same ⊎ ((fault ≡ OutOfMemory) × InterruptsStrings (Strings role) before after a b f g)
-role_halts role before after bytes seen a b f g fault Same read is (inl told) none = inl told.1
-role_halts role before after bytes seen a b f g fault Same read is (inr h) none =
-    let lines = string_lines 1 (role_strings h.graph.dictionary role) in
-    let cut = memory_cut fault lines a b f g h.holds none in
+    → Same ⊎ ((fault ≡ OutOfMemory) × InterruptsOutput action before after a b f g)
+pieces_halt action before after bytes seen a b f g fault Same asked read is (inl told) none = inl told.1
+pieces_halt action before after bytes seen a b f g fault Same asked read is (inr h) none =
+    let cut = memory_cut fault h.0 a b f g h.2 none in
     inr (
       cut.0,
       record {
-        role = role;
-        asked = refl;
-        text = lines;
-        printed =
-            all_lines role before after bytes seen read is h.graph h.encoded;
+        asked = asked;
+        text = h.0;
+        printed = record { bytes = bytes; read = read; holds = subst (λ (x : List ℕ). Prints action x h.0) is h.1 };
         well = cut.1;
         written = cut.2;
       },
     )
+
+-- ---- commands that print in pieces
+
+pub strings_print : (role : Role) (bytes : List ℕ) (graph : GraphParts) → IsLayout bytes graph
+    → Prints (Strings role) bytes (string_lines 1 (role_strings graph.dictionary role))
+strings_print role bytes graph encoded = record { graph = graph; encoded = encoded; holds = refl }
+
+pub find_prints : (given : GivenStrings) (numbers : Bool) (format : OutputFormat) (bytes text : List ℕ)
+    (graph : GraphParts) → format ≡ find_format numbers → IsLayout bytes graph
+    → PrintsFound graph given format None text → Prints (Find given numbers) bytes text
+find_prints given numbers format bytes text graph same encoded h = record {
+  graph = graph;
+  encoded = encoded;
+  holds = subst (λ (f : OutputFormat). PrintsFound graph given f None text) same h;
+}
+
+-- What printing triples reports, as an outcome of the command.
+abbrev pub FindOutcome : GivenStrings → OutputFormat → Option ℕ → GraphParts → ToolFault → Type 0 → Option (List ℕ)
+    → Option (List ℕ) → ℕ → ℕ → Type 0
+FindOutcome given format most graph e Same a b f g = (IsFindFault graph given format most e × Same)
+    ⊎ ((text : List ℕ) × PrintsFound graph given format most text × IsCutShort e text a b f g)
+
+abbrev pub PiecesOutcome : Action → List ℕ → ToolFault → Type 0 → Option (List ℕ) → Option (List ℕ) → ℕ → ℕ → Type 0
+PiecesOutcome action bytes e Same a b f g = (IsFaultOfBytes action bytes e × Same)
+    ⊎ ((text : List ℕ) × Prints action bytes text × IsCutShort e text a b f g)
+
+pub find_told : (given : GivenStrings) (numbers : Bool) (format : OutputFormat) (bytes : List ℕ) (graph : GraphParts)
+    (e : ToolFault) (Same : Type 0) (a b : Option (List ℕ)) (f g : ℕ) → format ≡ find_format numbers
+    → IsLayout bytes graph → FindOutcome given format None graph e Same a b f g
+    → PiecesOutcome (Find given numbers) bytes e Same a b f g
+find_told given numbers format bytes graph e Same a b f g same encoded (inl h) =
+    inl (no_find given numbers format bytes e same (no_text given format None bytes graph e encoded h.0), h.1)
+find_told given numbers format bytes graph e Same a b f g same encoded (inr h) =
+    inr (h.0, find_prints given numbers format bytes h.0 graph same encoded h.1, h.2)
+
+pub search_told : (given : GivenStrings) (format : OutputFormat) (most : Option ℕ) (bytes : List ℕ)
+    (graph : GraphParts) (e : ToolFault) (Same : Type 0) (a b : Option (List ℕ)) (f g : ℕ) → IsLayout bytes graph
+    → FindOutcome given format most graph e Same a b f g → PiecesOutcome (Search given format most) bytes e Same a b f g
+search_told given format most bytes graph e Same a b f g encoded (inl h) =
+    inl (no_text given format most bytes graph e encoded h.0, h.1)
+search_told given format most bytes graph e Same a b f g encoded (inr h) =
+    inr (h.0, record { graph = graph; encoded = encoded; holds = h.1 }, h.2)
+
+pub kept_prints : (given : GivenStrings) (count : Bool) (most : Option ℕ) (bytes text : List ℕ) (n : ℕ)
+    (graph : GraphParts) → PrintsInPieces (SkipNonTerms given count most) → IsLayout bytes graph
+    → PrintsKept graph given NTriples most text n → PrintsCountingNonTerms (SkipNonTerms given count most) bytes text n
+kept_prints given false most bytes text n graph is encoded h = record { graph = graph; encoded = encoded; holds = h }
+kept_prints given true most bytes text n graph is encoded h = absurd is
+
+pub kept_told : (given : GivenStrings) (count : Bool) (most : Option ℕ) (bytes : List ℕ) (graph : GraphParts)
+    (e : ToolFault) (Same : Type 0) (a b : Option (List ℕ)) (f g : ℕ)
+    → PrintsInPieces (SkipNonTerms given count most) → IsLayout bytes graph
+    → ((e ≡ OutOfMemory) × Same)
+    ⊎ ((text : List ℕ) × (n : ℕ) × PrintsKept graph given NTriples most text n × IsCutShort e text a b f g)
+    → PiecesOutcome (SkipNonTerms given count most) bytes e Same a b f g
+kept_told given count most bytes graph e Same a b f g is encoded (inl h) =
+    inl (subst (λ (x : ToolFault). IsFaultOfBytes (SkipNonTerms given count most) bytes x) (sym h.0) tt, h.1)
+kept_told given count most bytes graph e Same a b f g is encoded (inr h) =
+    inr (h.0, (h.1, kept_prints given count most bytes h.0 h.1 graph is encoded h.2), h.3)
+
+pub only_pieces : (action : Action) → PrintsInPieces action → ((role : Role) → action ≢ Strings role)
+    → ((given : GivenStrings) (numbers : Bool) → action ≢ Find given numbers)
+    → ((given : GivenStrings) (format : OutputFormat) (most : Option ℕ) → action ≢ Search given format most)
+    → ((given : GivenStrings) (count : Bool) (most : Option ℕ) → action ≢ SkipNonTerms given count most) → ⊥
+only_pieces (Strings role) is not_strings not_find not_search not_skip = not_strings role refl
+only_pieces (Find given numbers) is not_strings not_find not_search not_skip = not_find given numbers refl
+only_pieces (Search given format most) is not_strings not_find not_search not_skip = not_search given format most refl
+only_pieces (SkipNonTerms given count most) is not_strings not_find not_search not_skip =
+    not_skip given count most refl
+only_pieces action is not_strings not_find not_search not_skip = is

@@ -1,5 +1,5 @@
 -- Usage errors, derived from the contracts of `clap`.
-use Rattle.std.proofs.Common.{◌≡◌, List, [], ◌∷◌, true, Option, Some, Result, Ok, Err, codes, refl, sym, subst}
+use Rattle.std.proofs.Common.{◌≡◌, List, [], ◌∷◌, true, Option, None, Some, Result, Ok, Err, codes, refl, sym, subst}
 use Rattle.std.proofs.Common.{string_bytes, inl, inr}
 use Rattle.std.specs.Prelude.{◌≢◌, IfOk, IfErr, IsSomeAnd}
 use Rattle.clap.specs.Words.{App, Row, Text, HasKind, HasMatchesOf, IsAmong, fault_of, found_of, is_simple}
@@ -16,30 +16,33 @@ use Rattle.hdt_tool.specs.declared.request.Action.TheVariants as action
 use Rattle.hdt_tool.specs.declared.request.Invocation.{Invocation}
 use Rattle.hdt_tool.specs.declared.request.Request.{Request}
 use Rattle.hdt_usage.specs.CommandTable.{Names, AreRoles, table}
+use Rattle.hdt_usage.proofs.Simple.{simple, simple_and_free}
 use Rattle.hdt_tool.specs.CommandLine.{IsRequestOfCommand, IsRequestOf, IsQueryAction, IsOutputAction, HasInvalidTerm}
-use Rattle.hdt_tool.specs.CommandLine.{HasInvalidTermIn, ParsesAsFlag, ParsesAsProgress, ParsesToRequest}
+use Rattle.hdt_tool.specs.CommandLine.{HasInvalidTermIn, ParsesAsFlag, ParsesAsNumberOrNone, ParsesAsProgress}
+use Rattle.hdt_tool.specs.CommandLine.{ParsesToRequest}
 use Rattle.hdt_tool.specs.CommandLine.{ParsesToInvocation, IsExplainCommand, IsExplanation, IsFaultOfCommand, IsRefused}
-use Rattle.hdt_tool.specs.CommandLine.{IsRefusedWithRoles, IsFaultOfKind, RefutesOrInvalidTerm, clap_errors}
+use Rattle.hdt_tool.specs.CommandLine.{IsRefusedWithRoles, IsFaultOfKind, Refutes, RefutesOrInvalidTerm, clap_errors}
 use Rattle.hdt_tool.proofs.ParsedArguments.{differ}
 
 -- The errors of `clap` for the built commands are those for the table.
 pub taken : (names : Names) (app : App) (words : List Text) → app ≡ table names
     → (is_simple_and_free app ≡ true → fault_of app words ≡ []) → clap_errors names words ≡ []
 unfolding clap_errors
-taken names app words is h = (subst (λ (a : App). is_simple_and_free a ≡ true → fault_of a words ≡ []) is h) refl
+taken names app words is h =
+    (subst (λ (a : App). is_simple_and_free a ≡ true → fault_of a words ≡ []) is h) (simple_and_free names)
 
 pub refused_by : (names : Names) (app : App) (words : List Text) (e : Error) → app ≡ table names
     → (is_simple_and_free app ≡ true → HasKind (fault_of app words) e) → HasKind (clap_errors names words) e
 unfolding clap_errors
 refused_by names app words e is h =
-    (subst (λ (a : App). is_simple_and_free a ≡ true → HasKind (fault_of a words) e) is h) refl
+    (subst (λ (a : App). is_simple_and_free a ≡ true → HasKind (fault_of a words) e) is h) (simple_and_free names)
 
 -- What `clap` finds for the built commands is what it finds for the table.
 pub stated : (names : Names) (app : App) (words : List Text) (m : ArgMatches) → app ≡ table names
     → HasMatchesOf app words m → subcommand_rows_of m ≡ subcommand_of (table names) words
 stated names app words m is h =
     (subst (λ (a : App). is_simple a ≡ true → (rows_of (found_of m) ≡ matches_of a words)
-    × (subcommand_rows_of m ≡ subcommand_of a words)) is h refl).1
+    × (subcommand_rows_of m ≡ subcommand_of a words)) is h (simple names)).1
 
 alone : (j k : ErrorKind) → IsAmong k (j ∷ []) → k ≡ j
 alone j k (inl e) = e
@@ -79,8 +82,10 @@ pub wanted : (names : Names) → AreRoles names
     → (words : List Text) (name : Text) (rows : List Row) (r : Result Invocation UsageFault)
     → clap_errors names words ≡ [] → subcommand_of (table names) words ≡ Some (name, rows)
     → IfOk r (λ asked. IsRequestOf name rows asked.request) → IfOk r (λ asked. ParsesAsProgress rows asked.progress)
-    → IfOk r (λ asked. ParsesAsFlag (one_of (codes "verbose") rows) asked.verbose) → IfOk r (ParsesToInvocation words)
-wanted names roles words name rows (Ok asked) none is h progress verbose = record {
+    → IfOk r (λ asked. ParsesAsFlag (one_of (codes "verbose") rows) asked.verbose)
+    → IfOk r (λ asked. ParsesAsNumberOrNone (one_of (codes "longest-line") rows) asked.longest_line)
+    → IfOk r (ParsesToInvocation words)
+wanted names roles words name rows (Ok asked) none is h progress verbose longest = record {
   names = names;
   roles = roles;
   wanted = record {
@@ -92,8 +97,10 @@ wanted names roles words name rows (Ok asked) none is h progress verbose = recor
       (λ command. ParsesAsProgress command.1 asked.progress)) (sym is) progress;
   verbose = subst (λ (o : Option (Text × List Row)). IsSomeAnd o
       (λ command. ParsesAsFlag (one_of (codes "verbose") command.1) asked.verbose)) (sym is) verbose;
+  longest_line = subst (λ (o : Option (Text × List Row)). IsSomeAnd o
+      (λ command. ParsesAsNumberOrNone (one_of (codes "longest-line") command.1) asked.longest_line)) (sym is) longest;
 }
-wanted names roles words name rows (Err fault) none is h progress verbose = tt
+wanted names roles words name rows (Err fault) none is h progress verbose longest = tt
 
 -- The request of an invocation is the request of the command line.
 pub parses_to_request : (words : List Text) (asked : Invocation) → ParsesToInvocation words asked
@@ -167,3 +174,22 @@ pub unwanted : (names : Names) → AreRoles names
 unwanted names roles words name rows (Ok asked) none is h = tt
 unwanted names roles words name rows (Err fault) none is h =
     with names roles words fault (lacking names words name rows fault none is h)
+
+lacking_command : (names : Names) (words : List Text) (fault : UsageFault) → clap_errors names words ≡ []
+    → subcommand_of (table names) words ≡ None → Refutes ⊥ fault → IsRefusedWithRoles names words fault
+lacking_command names words (Help text) none is h = absurd h
+lacking_command names words (Usage text) none is h = (
+  λ only. cc,
+  λ only. cc,
+  λ request w. subst (λ (o : Option (Text × List Row)). IsRequestOfCommand o request) is w.asked,
+  λ text w. subst (λ (o : Option (Text × List Row)). IsExplainCommand o text) is w.asked,
+)
+lacking_command names words (InvalidTerm argument fault) none is h = absurd h
+lacking_command names words OutOfMemory none is h = tt
+
+-- The error for a command line that `clap` accepts without a command.
+pub without_command : (names : Names) → AreRoles names → (words : List Text) (fault : UsageFault)
+    → clap_errors names words ≡ [] → subcommand_of (table names) words ≡ None → Refutes ⊥ fault
+    → IsRefused words fault
+without_command names roles words fault none is h =
+    with names roles words fault (lacking_command names words fault none is h)

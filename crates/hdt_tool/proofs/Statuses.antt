@@ -13,7 +13,7 @@ use Rattle.hdt_tool.specs.ErrorLines.{fault_status}
 use Rattle.hdt_tool.specs.Outcomes.{HasBadOptions, IsFaultOfInput, IsReadOnly}
 use Rattle.hdt_tool.specs.declared.request.Action.{Action}
 use Rattle.hdt_tool.specs.declared.request.Action.TheVariants.{Build, Rewrite}
-use Rattle.hdt_tool.specs.Status.{ExitsWith, IsCommandStatus, IsRefusalStatus, IsActionStatus, IsReportStatus}
+use Rattle.hdt_tool.specs.Status.{ExitsWith, IsCommandStatus, IsRefusalStatus, IsReportStatus}
 use Rattle.hdt_tool.proofs.Refusals.{parses_to_request}
 
 -- An error is a write error or another one.
@@ -240,6 +240,11 @@ count_stopped P B (Ok (suc n)) status of ok unwritten write not = inr (inl (suc 
 count_stopped P B (Err fault) status of ok unwritten write not =
     joined (by_writer fault unwritten (λ n is. let w = write n is in (w.0, n, w.1)))
 
+-- The status if an input is an output, too.
+pub refusal_status : (status : ℕ) → (status ≡ 2) ⊎ (status ≡ 4) → IsCommandStatus status
+refusal_status status (inl h) = inr (BadOptions, h)
+refusal_status status (inr h) = inr (OutOfMemory, h)
+
 -- ---- an input that cannot be opened
 
 pub open_failed_status : (status : ℕ) → (status ≡ 3) ⊎ (status ≡ 4) → IsCommandStatus status
@@ -264,7 +269,7 @@ pub ends : {X E : Type 0} (texts : X
     → List Text) (words : Result X E) (asked : Result Invocation UsageFault) (status : ℕ)
     → IfOk asked (λ asked. MatchResult words (λ w. ParsesToInvocation (texts w) asked) (λ _. ⊥))
     → IfErr asked (λ fault. IfOk words (λ w. IsRefused (texts w) fault))
-    → MatchResult asked (λ asked. IsActionStatus asked.request.action status) (λ fault. IsRefusalStatus fault status)
+    → MatchResult asked (λ asked. IsCommandStatus status) (λ fault. IsRefusalStatus fault status)
     → IfOk words (λ w. ExitsWith (texts w) status)
 ends texts (Ok w) (Ok asked) status wanted refused of =
     inl (record { request = asked.request; wanted = parses_to_request (texts w) asked wanted; ends = of })
@@ -286,8 +291,8 @@ pub ends_with : {X E : Type 0} (texts : X
     → asked ≡ Ok invocation
     → IfOk asked (λ asked. MatchResult words (λ w. ParsesToInvocation (texts w) asked) (λ _. ⊥))
     → IfErr asked (λ fault. IfOk words (λ w. IsRefused (texts w) fault))
-    → IsActionStatus invocation.request.action status → IfOk words (λ w. ExitsWith (texts w) status)
+    → IsCommandStatus status → IfOk words (λ w. ExitsWith (texts w) status)
 ends_with texts words asked invocation status is wanted refused of =
     ends texts words asked status wanted refused
-    (subst (λ (r : Result Invocation UsageFault). MatchResult r (λ asked. IsActionStatus asked.request.action status)
+    (subst (λ (r : Result Invocation UsageFault). MatchResult r (λ asked. IsCommandStatus status)
     (λ fault. IsRefusalStatus fault status)) (sym is) of)

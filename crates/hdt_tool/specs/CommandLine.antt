@@ -31,6 +31,7 @@ use Rattle.hdt_tool.specs.declared.request.Progress.TheVariants.{Automatic, Line
 use Rattle.hdt_tool.specs.declared.request.Request.{Request}
 use Rattle.hdt_tool.specs.declared.request.BlankNodes.{BlankNodes}
 use Rattle.hdt_tool.specs.declared.request.BlankNodes.TheVariants as blank
+use Rattle.hdt_tool.specs.declared.request.MergeOptions.{MergeOptions}
 use Rattle.hdt_tool.specs.declared.request.SplitOptions.{SplitOptions}
 use Rattle.hdt_tool.specs.declared.request.SplitOutput.{SplitOutput}
 use Rattle.hdt_tool.specs.declared.request.SplitOutput.TheVariants as split
@@ -229,6 +230,16 @@ pub record ParsesAsSplitOptions (rows : List Row) (options : SplitOptions) : Typ
   pub output : ParsesAsSplitOutput rows (map string_bytes options.others.items) options.parts options.output
   pub blank_nodes : ParsesAsBlankNodes (first_of (codes "blank-nodes") rows) options.blank_nodes
 
+-- The options of `build` are those of the arguments, or their defaults in the table of commands.
+pub record ParsesAsBuildOptions (rows : List Row) (options : Options) : Type 0 where
+  pub base : first_of (codes "base") rows ≡ Some options.base.items
+  pub block_size : ParsesAsNumber 32 (one_of (codes "block-size") rows) options.block_size
+
+-- The arguments give these options of `merge`: the last path is OUT.
+pub record ParsesAsMergeOptions (rows : List Row) (options : MergeOptions) : Type 0 where
+  pub paths : further_paths rows ≡ map string_bytes options.others.items ++ string_bytes options.out ∷ []
+  pub file : ParsesAsBuildOptions rows options.options
+
 -- ---- commands
 
 -- The command's name and arguments give this action, which writes no file.
@@ -262,17 +273,13 @@ IsQueryAction name rows (action.Lint keep most) = IsLintCommand name rows keep m
 IsQueryAction name rows (action.Build options) = ⊥
 IsQueryAction name rows (action.Rewrite b) = ⊥
 IsQueryAction name rows (action.Split options) = (name ≡ codes "split") × ParsesAsSplitOptions rows options
+IsQueryAction name rows (action.Merge options) = (name ≡ codes "merge") × ParsesAsMergeOptions rows options
 
 -- The request reads FILE and writes no file.
 pub record IsQueryRequest (name : Text) (rows : List Row) (request : Request) : Type 0 where
   pub file : first_of (codes "FILE") rows ≡ Some (string_bytes request.file)
   pub out : option_map string_bytes request.out ≡ None
   pub action : IsQueryAction name rows request.action
-
--- The options of `build` are those of the arguments, or their defaults in the table of commands.
-pub record ParsesAsBuildOptions (rows : List Row) (options : Options) : Type 0 where
-  pub base : first_of (codes "base") rows ≡ Some options.base.items
-  pub block_size : ParsesAsNumber 32 (one_of (codes "block-size") rows) options.block_size
 
 -- The command's name and arguments give this action, which writes a file.
 abbrev pub IsOutputAction : Text → List Row → Action → Type 0
@@ -309,7 +316,8 @@ pub record ParsesToRequest (words : List Text) (request : Request) : Type 0 wher
   pub roles : AreRoles names
   pub wanted : ParsesWithRoles names words request
 
--- The command line gives this request, this way to report progress, and `--verbose` if that is true.
+-- The command line gives this request, this way to report progress, `--verbose` if that is true, and this number of
+-- `--longest-line`.
 pub record ParsesToInvocation (words : List Text) (asked : Invocation) : Type 0 where
   pub names : Names
   pub roles : AreRoles names
@@ -317,6 +325,8 @@ pub record ParsesToInvocation (words : List Text) (asked : Invocation) : Type 0 
   pub progress : IsSomeAnd (subcommand_of (table names) words) (λ command. ParsesAsProgress command.1 asked.progress)
   pub verbose : IsSomeAnd (subcommand_of (table names) words)
       (λ command. ParsesAsFlag (one_of (codes "verbose") command.1) asked.verbose)
+  pub longest_line : IsSomeAnd (subcommand_of (table names) words)
+      (λ command. ParsesAsNumberOrNone (one_of (codes "longest-line") command.1) asked.longest_line)
 
 -- The explanation of the argument REASON is this text.
 abbrev pub IsExplained : List Row → Text → Type 0

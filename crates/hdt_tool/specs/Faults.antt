@@ -1,6 +1,8 @@
 -- How the errors of the libraries become errors of a command.
 use Rattle.hdt_build.specs.declared.fault.BuildFault.{BuildFault}
 use Rattle.hdt_build.specs.declared.fault.BuildFault.TheVariants as building
+use Rattle.hdt_build.specs.declared.fault.MergeFault.{MergeFault}
+use Rattle.hdt_build.specs.declared.fault.MergeFault.TheVariants as merges
 use Rattle.hdt_build.specs.declared.fault.RewriteFault.{RewriteFault}
 use Rattle.hdt_build.specs.declared.fault.RewriteFault.TheVariants as rewriting
 use Rattle.hdt_file.specs.declared.fault.DumpFault.{DumpFault}
@@ -43,3 +45,8 @@ abbrev pub rewrite_fault_of : RewriteFault → ToolFault
 rewrite_fault_of rewriting.BadOptions = BadOptions
 rewrite_fault_of rewriting.OutOfMemory = OutOfMemory
 rewrite_fault_of (rewriting.Write n) = Write n
+
+abbrev pub merge_fault_of : MergeFault → ToolFault
+merge_fault_of merges.BadOptions = BadOptions
+merge_fault_of merges.OutOfMemory = OutOfMemory
+merge_fault_of (merges.Write n) = Write n

@@ -10,6 +10,7 @@ pub mod Outcomes
 pub mod Dialogue
 pub mod Faults
 pub mod Linting
+pub mod LineLimits
 pub mod ErrorLines
 pub mod CommandLine
 pub mod Paths

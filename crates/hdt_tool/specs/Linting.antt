@@ -1,5 +1,6 @@
 -- The outcomes of `lint`. `input` is what its reader yields, and `given` what it still yields after an error.
-use Rattle.std.specs.Prelude.{◌≡◌, ◌<◌, ◌-◌, ◌^◌, ℕ, Bool, true, false, List, Option, None, Some}
+use Rattle.std.specs.Prelude.{◌≡◌, ◌<◌, ◌-◌, ◌^◌, min, ℕ, Bool, true, false, List, Option, None, Some}
+use Rattle.hdt_terms.specs.LinesReader.{max_input_len}
 use Rattle.hdt_terms.specs.Lint.{LintsInput, LintsUntilFault}
 use Rattle.hdt_terms.specs.declared.lint.LintFault.{LintFault}
 use Rattle.hdt_terms.specs.declared.lint.LintFault.TheVariants as linting
@@ -12,6 +13,11 @@ abbrev pub most_faulty : Option ℕ → ℕ
 most_faulty None = 2 ^ 64 - 1
 most_faulty (Some n) = n
 
+-- The greatest number of bytes of a line, without its end: that of `--longest-line`, or the greatest of an input.
+abbrev pub longest_line : Option ℕ → ℕ
+longest_line None = max_input_len
+longest_line (Some n) = min n max_input_len
+
 -- Whether a number is above zero.
 abbrev pub IsAny : ℕ → Bool → Type 0
 IsAny n false = n ≡ 0
@@ -19,11 +25,12 @@ IsAny n true = 0 < n
 
 -- All lines of the input, or its first lines up to the last of `most` faulty ones, were checked, and `faulty` is
 -- whether any of these is faulty. The two writers have gained the kept lines and the reports.
-pub record Lints (keep : Bool) (most : Option ℕ)
+pub record Lints (longest : Option ℕ) (keep : Bool) (most : Option ℕ)
     (input kept_before kept_after reported_before reported_after : Option (List ℕ)) (faulty : Bool) : Type 0 where
   pub count : ℕ
   pub any : IsAny count faulty
-  pub lints : LintsInput keep (most_faulty most) input kept_before kept_after reported_before reported_after count
+  pub lints : LintsInput (longest_line longest) keep (most_faulty most) input kept_before kept_after
+      reported_before reported_after count
 
 -- The error of the command for an error of the library.
 abbrev pub lint_fault_of : LintFault → ToolFault
@@ -33,9 +40,10 @@ lint_fault_of linting.OutOfMemory = OutOfMemory
 
 -- The error ended the run after some lines: the two writers have gained a prefix of the kept lines and of the reports.
 -- If a line could not be read, these are all lines before it.
-pub record LintsUntilError (keep : Bool)
+pub record LintsUntilError (longest : Option ℕ) (keep : Bool)
     (input given kept_before kept_after reported_before reported_after : Option (List ℕ))
     (error : ToolFault) : Type 0 where
   pub fault : LintFault
   pub is : error ≡ lint_fault_of fault
-  pub lints : LintsUntilFault keep input given kept_before kept_after reported_before reported_after fault
+  pub lints : LintsUntilFault (longest_line longest) keep input given kept_before kept_after
+      reported_before reported_after fault

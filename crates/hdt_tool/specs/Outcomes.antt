@@ -28,7 +28,8 @@ use Rattle.hdt_tool.specs.declared.request.Action.{Action}
 use Rattle.hdt_tool.specs.declared.request.Request.{Request}
 use Rattle.hdt_tool.specs.declared.request.Action.TheVariants.{Head, Verify, VerifyTight, VerifyTerms, Strings}
 use Rattle.hdt_tool.specs.declared.request.Action.TheVariants.{ListStrings, Nth, Number, Find, Search, SkipNonTerms}
-use Rattle.hdt_tool.specs.declared.request.Action.TheVariants.{Exists, Count, Answer, Build, Rewrite, Info, Lint, Split}
+use Rattle.hdt_tool.specs.declared.request.Action.TheVariants.{Exists, Count, Answer, Build, Rewrite, Info, Lint}
+use Rattle.hdt_tool.specs.declared.request.Action.TheVariants.{Merge, Split}
 use Rattle.hdt_tool.specs.PrintedReports.{built_line, rewritten_line, head_text, verdict}
 use Rattle.hdt_tool.specs.ErrorLines.{fault_status}
 use Rattle.hdt_tool.specs.Info.{PrintsInfo}
@@ -62,9 +63,10 @@ pub record IsLayoutWith (bytes : List ℕ) (Holds : GraphParts → Type 0) : Typ
 abbrev pub HasRoleStringsWith : List ℕ → Role → (List (List ℕ) → Type 0) → Type 0
 HasRoleStringsWith bytes role Holds = IsLayoutWith bytes (λ graph. Holds (role_strings graph.dictionary role))
 
--- The command counts the triples that `--skip-non-terms` leaves out, or the strings that `verify --terms` prints.
+-- The command counts the triples that `--skip-non-terms` leaves out, beside the number of the others, or the strings
+-- that `verify --terms` prints.
 abbrev pub CountsNonTerms : Action → Type 0
-CountsNonTerms (SkipNonTerms given count most) = Unit {0}
+CountsNonTerms (SkipNonTerms given true most) = Unit {0}
 CountsNonTerms (VerifyTerms tight) = Unit {0}
 CountsNonTerms action = ⊥
 
@@ -99,6 +101,7 @@ Prints (Lint keep most) bytes text = text ≡ []
 Prints (Build options) bytes text = ⊥
 Prints (Rewrite b) bytes text = ⊥
 Prints (Split options) bytes text = text ≡ []
+Prints (Merge options) bytes text = text ≡ []
 
 -- The command reads a file and writes none.
 abbrev pub IsReadOnly : Action → Type 0
@@ -114,9 +117,19 @@ PrintsWithCount (SkipNonTerms given count most) bytes text n =
 PrintsWithCount (VerifyTerms tight) bytes text n = PrintsCountingNonTerms (VerifyTerms tight) bytes text n
 PrintsWithCount action bytes text n = Prints action bytes text × (n ≡ 0)
 
--- The command prints one complete text, counts nothing, and writes no file: `strings` prints in pieces.
+-- The command prints its output in pieces.
+abbrev pub PrintsInPieces : Action → Type 0
+PrintsInPieces (Strings role) = Unit {0}
+PrintsInPieces (Find given numbers) = Unit {0}
+PrintsInPieces (Search given format most) = Unit {0}
+PrintsInPieces (SkipNonTerms given false most) = Unit {0}
+PrintsInPieces action = ⊥
+
+-- The command prints one complete text, counts nothing, and writes no file.
 abbrev pub PrintsText : Action → Type 0
 PrintsText (Strings role) = ⊥
+PrintsText (Find given numbers) = ⊥
+PrintsText (Search given format most) = ⊥
 PrintsText (SkipNonTerms given count most) = ⊥
 PrintsText (VerifyTerms tight) = ⊥
 PrintsText action = IsReadOnly action
@@ -141,6 +154,7 @@ HasFault (VerifyTerms false) bytes fault = decode_graph bytes ≡ Err fault
 HasFault (Build options) bytes fault = ⊥
 HasFault (Lint keep most) bytes fault = ⊥
 HasFault (Split options) bytes fault = ⊥
+HasFault (Merge options) bytes fault = ⊥
 HasFault action bytes fault = decode_graph bytes ≡ Err fault
 
 -- The role has no string with the ID to look up.
@@ -340,13 +354,13 @@ IsCutShort OutOfMemory text written_before written_after failed_before failed_af
     × AppendsPrefix written_before written_after text
 IsCutShort fault text written_before written_after failed_before failed_after = ⊥
 
--- `strings` ran out of memory: the writer has gained a prefix of its output for the input, and did not fail.
-pub record InterruptsStrings (action : Action) (before after written_before written_after : Option (List ℕ))
+-- Memory ran out while a command printed in pieces: the writer has gained a prefix of its output for the input, and did
+-- not fail.
+pub record InterruptsOutput (action : Action) (before after written_before written_after : Option (List ℕ))
     (failed_before failed_after : ℕ) : Type 0 where
-  pub role : Role
-  pub asked : action ≡ Strings role
+  pub asked : PrintsInPieces action
   pub text : List ℕ
-  pub printed : ReadsWith before after (λ bytes. Prints (Strings role) bytes text)
+  pub printed : ReadsWith before after (λ bytes. Prints action bytes text)
   pub well : failed_after ≡ failed_before
   pub written : AppendsPrefix written_before written_after text
 

@@ -5,7 +5,7 @@ use Rattle.hdt_wire.specs.Counted.{inner}
 use Rattle.hdt_wire.specs.declared.counted.Counted.{Counted}
 use Rattle.hdt_tool.specs.declared.request.Request.{Request}
 use Rattle.hdt_tool.specs.declared.request.SplitOptions.{SplitOptions}
-use Rattle.hdt_tool.specs.declared.split_files.PrintedPart.{PrintedPart}
+use Rattle.hdt_tool.specs.declared.split_parts.PrintedPart.{PrintedPart}
 
 -- The path names standard input.
 abbrev pub IsStdinPath : List ℕ → Type 0

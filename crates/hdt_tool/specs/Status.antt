@@ -7,15 +7,13 @@ use Rattle.hdt_tool.specs.ErrorLines.{fault_status}
 use Rattle.hdt_tool.specs.Faults.{line_fault_of}
 use Rattle.hdt_tool.specs.declared.splitting.SplitInputsFault.{SplitInputsFault}
 use Rattle.hdt_tool.specs.declared.splitting.SplitInputsFault.TheVariants as stop
-use Rattle.hdt_tool.specs.declared.request.Action.{Action}
 use Rattle.hdt_tool.specs.declared.request.AnswerReport.{AnswerReport}
-use Rattle.hdt_tool.specs.declared.request.Action.TheVariants.{Build}
 use Rattle.hdt_tool.specs.declared.request.Request.{Request}
 use Rattle.hdt_tool.specs.declared.fault.ToolFault.{ToolFault}
 use Rattle.hdt_tool.specs.declared.fault.UsageFault.{UsageFault}
 use Rattle.hdt_tool.specs.declared.fault.UsageFault.TheVariants as usage
 
--- The status of success, or of some error of a command.
+-- The status of success, or of some error of a command. It is 2, as of bad options, if an input is an output, too.
 abbrev pub IsCommandStatus : ℕ → Type 0
 IsCommandStatus status = (status ≡ 0) ⊎ ((fault : ToolFault) × (status ≡ fault_status fault))
 
@@ -26,14 +24,6 @@ split_fault_status (stop.Input n (splitting.Write part)) = 3
 split_fault_status (stop.Input n splitting.OutOfMemory) = 4
 split_fault_status (stop.BlankNodes one other) = 2
 split_fault_status stop.OutOfMemory = 4
-
-abbrev pub IsBuild : Action → Type 0
-IsBuild (Build options) = Unit {0}
-IsBuild action = ⊥
-
--- The status of a command, or 2 if `build` would overwrite its input.
-abbrev pub IsActionStatus : Action → ℕ → Type 0
-IsActionStatus action status = IsCommandStatus status ⊎ (IsBuild action × (status ≡ 2))
 
 -- The status of complete answers: 0, or 1 if one of them is an error; or if they leave out triples 1, or 4 if there is
 -- no memory for the message.
@@ -53,7 +43,7 @@ IsRefusalStatus usage.OutOfMemory status = status ≡ 4
 pub record ExitsFromCommand (words : List Text) (status : ℕ) : Type 0 where
   pub request : Request
   pub wanted : ParsesToRequest words request
-  pub ends : IsActionStatus request.action status
+  pub ends : IsCommandStatus status
 
 -- The command line is refused, and the status is one of its error.
 pub record ExitsRefused (words : List Text) (status : ℕ) : Type 0 where

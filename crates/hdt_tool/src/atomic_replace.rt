@@ -9,9 +9,9 @@ use crate::session::Session;
 use hdt_wire::Counted;
 use std::alloc::Global;
 use std::env;
-use std::fs::{self, File, Files, OpenFile, OpenOptions, Permissions};
+use std::fs::{self, File, Files, Metadata, OpenFile, OpenOptions, Permissions};
 use std::io::{self, ErrorKind, Write};
-use std::os::unix::fs::OpenOptionsExt;
+use std::os::unix::fs::{MetadataExt, OpenOptionsExt, PermissionsExt, fchown};
 use std::path::PathBuf;
 use std::random::RandomSource;
 use std::time::{SystemTime, UNIX_EPOCH};
@@ -24,6 +24,35 @@ const PRIVATE_MODE: u32 = 0o600;
 
 /// The mode of a new file by default, before the umask or the folder's ACL restricts it.
 const DEFAULT_MODE: u32 = 0o666;
+
+/// The bits of a mode that a new file takes over: not those that run a program as its owner or group.
+const PERMISSION_BITS: u32 = 0o777;
+
+/// The permissions and the group that a new file gets.
+#[derive(Clone, Copy)]
+struct Access {
+    /// The permission bits.
+    mode: u32,
+    /// The number of the group; `None` for that which the system gave it.
+    group: Option<u32>,
+}
+
+impl Access {
+    /// Those of an existing file.
+    fn of(metadata: &Metadata) -> Access {
+        Access {
+            mode: metadata.mode() & PERMISSION_BITS,
+            group: Some(metadata.gid()),
+        }
+    }
+
+    /// The permissions if the file has another group: that group and others may do what both might, so that nobody
+    /// who was kept out is let in.
+    fn for_other_group(&self) -> u32 {
+        let both = (self.mode >> 3) & self.mode & 0o7;
+        (self.mode & 0o700) | (both << 3) | both
+    }
+}
 
 /// The canonical path of the regular file that a link leads to; `None` if it leads to anything else.
 fn linked_path<R: Files>(files: &R, alloc: Global, path: &str) -> io::Result<Option<PathBuf>> {
@@ -85,39 +114,51 @@ fn create_new(rt: &HostRuntime, mode: u32) -> io::Result<(File, String)> {
     Err(io::Error::from(ErrorKind::AlreadyExists))
 }
 
-/// The permissions of the file with this name, if it exists.
-fn permissions_of(rt: &HostRuntime, name: &str) -> io::Result<Option<Permissions>> {
+/// The permissions and the group of the file with this name, if it exists.
+fn access_of(rt: &HostRuntime, name: &str) -> io::Result<Option<Access>> {
     match fs::metadata(rt, name) {
-        Ok(there) => Ok(Some(there.permissions())),
+        Ok(there) => Ok(Some(Access::of(&there))),
         Err(error) if error.kind() == ErrorKind::NotFound => Ok(None),
         Err(error) => Err(error),
     }
 }
 
-/// The permissions of the file with this name, or those that a new file gets in this folder, which are found by
-/// creating and removing an empty one.
-fn wanted_permissions(rt: &HostRuntime, name: &str) -> io::Result<Permissions> {
-    if let Some(permissions) = permissions_of(rt, name)? {
-        return Ok(permissions);
+/// The permissions and the group of the file with this name, or those that a new file gets in this folder, which are
+/// found by creating and removing an empty one.
+fn wanted_access(rt: &HostRuntime, name: &str) -> io::Result<Access> {
+    if let Some(access) = access_of(rt, name)? {
+        return Ok(access);
     }
     let (empty, name) = create_new(rt, DEFAULT_MODE)?;
     let metadata = empty.metadata();
     fs::remove_file(rt, name.as_str())?;
-    Ok(metadata?.permissions())
+    Ok(Access {
+        mode: metadata?.mode() & PERMISSION_BITS,
+        group: None,
+    })
 }
 
-/// Gives the new file the permissions of the existing file with this name, or `fallback` if there is none.
-fn apply_permissions(
-    rt: &HostRuntime,
-    file: &File,
-    name: &str,
-    fallback: Permissions,
-) -> io::Result<()> {
-    let permissions = permissions_of(rt, name)?.unwrap_or(fallback);
-    if file.metadata()?.permissions() == permissions {
+/// Gives the new file the group that is wanted, if the user may do so. Returns the mode that it gets then.
+fn apply_group(file: &File, there: &Metadata, access: &Access) -> u32 {
+    match access.group {
+        Some(group) if group != there.gid() => match fchown(file, None, Some(group)) {
+            Ok(()) => access.mode,
+            Err(_) => access.for_other_group(),
+        },
+        _ => access.mode,
+    }
+}
+
+/// Gives the new file the permissions and the group of the existing file with this name, or `fallback` if there is
+/// none.
+fn apply_access(rt: &HostRuntime, file: &File, name: &str, fallback: Access) -> io::Result<()> {
+    let access = access_of(rt, name)?.unwrap_or(fallback);
+    let there = file.metadata()?;
+    let mode = apply_group(file, &there, &access);
+    if there.mode() & PERMISSION_BITS == mode {
         return Ok(());
     }
-    file.set_permissions(permissions)
+    file.set_permissions(Permissions::from_mode(mode))
 }
 
 /// Writes and syncs a new file.
@@ -139,15 +180,15 @@ fn write_and_sync<F: Write + OpenFile + Drop>(
     }
 }
 
-/// Writes the new file, and gives it the permissions and the name of the old one. Other users cannot open it until it
-/// is complete and synced. A crash between the last two steps leaves its permissions too strict, never too wide.
+/// Writes the new file, and gives it the permissions, the group and the name of the old one. Other users cannot open it
+/// until it is complete and synced. A crash between the last two steps leaves its permissions too strict, not too wide.
 fn write_and_rename(
     rt: &HostRuntime,
     session: &Session<'_>,
     file: File,
     new: &str,
     name: &str,
-    fallback: Permissions,
+    fallback: Access,
     built: &[u8],
 ) -> Result<(), ToolFault>
     ensures fault { IfErr result (IsReplaceFault built.now) }
@@ -155,7 +196,7 @@ fn write_and_rename(
     let moved = session.note_error(move_off_std_streams(file));
     let file = moved.map_err(|error| file_fault(&error, ToolFault::Write(0)))?;
     let whole = write_and_sync(session, file, built)?;
-    let permitted = session.note_error(apply_permissions(rt, &whole, name, fallback));
+    let permitted = session.note_error(apply_access(rt, &whole, name, fallback));
     permitted.map_err(|error| file_fault(&error, ToolFault::Write(built.len() as u64)))?;
     let renamed = session.note_error(fs::rename(rt, new, name));
     renamed.map_err(|_| ToolFault::Write(built.len() as u64))
@@ -170,20 +211,21 @@ fn split_path(path: &str) -> (&str, &str) {
     }
 }
 
-/// Changes into the folder and creates the new file there. Returns the permissions that it gets if the old file is gone
-/// by then, the file, and its name.
+/// Changes into the folder and creates the new file there. Returns the permissions and the group that it gets if the
+/// old file is gone by then, the file, and its name.
 fn begin_replacement(
     rt: &HostRuntime,
     folder: &str,
     name: &str,
-) -> io::Result<(Permissions, File, String)> {
+) -> io::Result<(Access, File, String)> {
     env::set_current_dir(rt, folder)?;
-    let fallback = wanted_permissions(rt, name)?;
+    let fallback = wanted_access(rt, name)?;
     let (file, new) = create_new(rt, PRIVATE_MODE)?;
     Ok((fallback, file, new))
 }
 
-/// Atomically replaces the regular file at a path, or creates it. The new file has the permissions of the old one. On
+/// Atomically replaces the regular file at a path, or creates it. The new file has the permissions of the old one, but
+/// for setuid, setgid and sticky bits, and its group if the user may give it. On
 /// error the old file is unchanged, and the new one is removed. The process changes into the folder, so that the
 /// temporary name fits for the longest paths. (Contracts cannot describe the file system; tests/test_filesystem.py
 /// checks this.)

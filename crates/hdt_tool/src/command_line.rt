@@ -5,17 +5,18 @@ ghost use Rattle.hdt_tool.specs.Outcomes.{HasOut};
 ghost use Rattle.hdt_tool.specs.CommandLine.{IsQueryAction, IsRequestOf, IsQueryRequest, IsOutputRequest};
 ghost use Rattle.hdt_tool.specs.CommandLine.{IsOutputAction, Refutes, RefutesOrInvalidTerm, IsRefused, HasInvalidTerm};
 ghost use Rattle.hdt_tool.specs.CommandLine.{IsExplanation, IsFaultOfCommand, ParsesAsFlag, ParsesAsProgress};
-ghost use Rattle.hdt_tool.specs.CommandLine.{IsFaultOfKind, ParsesToRequest, ParsesToInvocation};
+ghost use Rattle.hdt_tool.specs.CommandLine.{IsFaultOfKind, ParsesAsNumberOrNone, ParsesToRequest, ParsesToInvocation};
 ghost use Rattle.hdt_usage.specs.CommandTable.{AreRoles};
 ghost use Rattle.hdt_tool.specs.declared.request.Action.{Action};
 ghost use Rattle.hdt_tool.specs.declared.request.Request.{Request};
 
 use crate::arguments::{
     answer_action, argument_text, build_options, count_action, dump_action, find_action, has_flag,
-    info_action, lint_action, required_id, required_role, required_term, required_text,
-    required_u32, strings_action, verify_action,
+    info_action, lint_action, optional_number, required_id, required_role, required_term,
+    required_text, required_u32, strings_action, verify_action,
 };
 use crate::fault::{TermArgument, UsageFault, missing};
+use crate::merge_arguments::merge_action;
 use crate::request::{Action, Invocation, Progress, Request};
 use crate::split_arguments::split_action;
 use clap::error::ErrorKind;
@@ -69,6 +70,7 @@ fn query_action<'m>(
         "answer" => answer_action(alloc, matches),
         "lint" => Ok(lint_action(matches)),
         "split" => split_action(alloc, matches),
+        "merge" => merge_action(alloc, matches),
         "dump" => Ok(dump_action(matches)),
         _ => Err(missing(alloc)),
     }
@@ -156,7 +158,7 @@ fn progress_option<'m>(matches: &ArgMatches<'m>) -> Progress
     }
 }
 
-/// The request of a command, and how to report progress and errors.
+/// The request of a command, how to report progress and errors, and the limit on lines.
 fn invocation_of<'m>(
     alloc: Global,
     name: &str,
@@ -167,6 +169,9 @@ fn invocation_of<'m>(
         (λ invocation. ParsesAsProgress (rows_of (found_of matches.now)) invocation.progress) }
     ensures verbose { IfOk result
         (λ invocation. ParsesAsFlag (one_of (codes "verbose") (rows_of (found_of matches.now))) invocation.verbose) }
+    ensures longest_line { IfOk result
+        (λ invocation. ParsesAsNumberOrNone (one_of (codes "longest-line") (rows_of (found_of matches.now)))
+        invocation.longest_line) }
     ensures refused { IfErr result
         (RefutesOrInvalidTerm ((request : Request) × IsRequestOf name.now (rows_of (found_of matches.now)) request)
         (HasInvalidTerm name.now (rows_of (found_of matches.now)))) }
@@ -174,6 +179,7 @@ fn invocation_of<'m>(
     Ok(Invocation {
         request: request_of(alloc, name, matches)?,
         progress: progress_option(matches),
+        longest_line: optional_number(matches, "longest-line"),
         verbose: has_flag(matches, "verbose"),
     })
 }
@@ -206,6 +212,9 @@ fn invocation_or_explanation<'m>(
         (λ invocation. ParsesAsProgress (rows_of (found_of matches.now)) invocation.progress) }
     ensures verbose { IfOk result
         (λ invocation. ParsesAsFlag (one_of (codes "verbose") (rows_of (found_of matches.now))) invocation.verbose) }
+    ensures longest_line { IfOk result
+        (λ invocation. ParsesAsNumberOrNone (one_of (codes "longest-line") (rows_of (found_of matches.now)))
+        invocation.longest_line) }
     ensures refused { IfErr result (IsFaultOfCommand name.now (rows_of (found_of matches.now))) }
 {
     match name {
@@ -254,10 +263,11 @@ pub fn parse_words<'a>(alloc: Global, words: &'a [&'a str]) -> Result<Request, U
     Ok(parse_invocation(alloc, words)?.request)
 }
 
-/// Parses a command line as [`parse_words`] does, and also `--progress`, `--no-progress` and `--verbose`.
+/// Parses a command line as [`parse_words`] does, and also `--progress`, `--no-progress`, `--verbose` and
+/// `--longest-line`.
 pub fn parse_invocation<'a>(alloc: Global, words: &'a [&'a str]) -> Result<Invocation, UsageFault>
-    // The request is that of `parse_words`; `progress` is what these options say, and `verbose` is true exactly if it
-    // is given.
+    // The request is that of `parse_words`; `progress` is what these options say, `verbose` is true exactly if it is
+    // given, and `longest_line` is the number that is given.
     ensures ok { IfOk result (ParsesToInvocation (map (λ word. word.now) words.now)) }
     ensures out { IfOk result (λ invocation. HasOut invocation.request) }
     ensures refused { IfErr result (IsRefused (map (λ word. word.now) words.now)) }

@@ -1,5 +1,5 @@
 //! All commands, from a reader to a writer. A command reads the complete input, makes its output, and then writes it.
-//! Only `strings` and `answer` write before their output is complete.
+//! Only `strings`, `find`, `dump` and `answer` write before their output is complete.
 ghost use Rattle.std.specs.Prelude.{◌≡◌, ◌≢◌, ◌<◌, ◌++◌, ◌+◌, ◌↔◌, ◌⊎◌, ℕ, List, IfOk, IfErr, OnOk, OnErr, IsErrOf};
 ghost use Rattle.std.specs.Io.KnownBytes.{Appends};
 ghost use Rattle.hdt_wire.specs.Counted.{inner, failures};
@@ -7,15 +7,16 @@ ghost use Rattle.hdt_build.specs.Options.{AreValidOptions};
 ghost use Rattle.hdt_tool.specs.Dialogue.{AnswersOverFile, AnswersOverFileUntilFault};
 ghost use Rattle.hdt_tool.specs.PrintedReports.{counts_line};
 ghost use Rattle.hdt_tool.specs.Outcomes.{ReadsAll, IsFaultOfInput, IsFaultOfBytes, YieldsAppended};
-ghost use Rattle.hdt_tool.specs.Outcomes.{Completes, WritesOutputPrefix, WritesWithCount, InterruptsStrings, IfBuild};
+ghost use Rattle.hdt_tool.specs.Outcomes.{Completes, WritesOutputPrefix, WritesWithCount, InterruptsOutput, IfBuild};
 ghost use Rattle.hdt_tool.specs.Outcomes.{IsReadOnly, MakesFile, RewritesFile, FailsAfter};
 ghost use Rattle.hdt_tool.specs.declared.request.Action.TheVariants as Action;
 
 use crate::dialogue::answer_requests;
 use crate::fault::ToolFault;
 use crate::non_term_text::text_and_count;
+use crate::pending_output::write_text;
 use crate::printed_reports::counts_line;
-use crate::queries::{file_text, print_file_strings};
+use crate::queries::{file_text, print_in_pieces, prints_in_pieces};
 use crate::request::{Action, AnswerOptions, AnswerReport, Request};
 use hdt_build::{Options, Report, build_bytes, rewrite_bytes};
 use hdt_file::open;
@@ -153,20 +154,10 @@ pub(crate) fn make_file<R: Read>(
     }
 }
 
-/// Writes a text.
-pub(crate) fn write_text<W: Write>(text: &[u8], out: &mut Counted<W>) -> Result<(), ToolFault>
-    ensures ok { OnOk result (Appends (W.contents (inner out.old)) (W.contents (inner out.new)) text.now) }
-    ensures unfailed { OnOk result (failures out.new ≡ failures out.old) }
-    ensures failed { IfErr result (λ e. (n : ℕ) × (e ≡ ToolFault.Write n) × FailsAfter n text.now
-        (W.contents (inner out.old)) (W.contents (inner out.new)) (failures out.old) (failures out.new)) }
-{
-    out.write_all(text).map_err(ToolFault::Write)
-}
-
 /// Runs a command that writes no file, as [`run`] does: reads `input` to its end, into a buffer of this initial
 /// capacity, and writes the command's output. Returns the number of triples that `--skip-non-terms` leaves out, or of
-/// strings that `verify --terms` prints; 0 for other commands. Only `strings` writes in pieces; `answer`, `lint` and
-/// `split` write nothing here. Memory and time: those of [`run`].
+/// strings that `verify --terms` prints; 0 for other commands. `strings`, `find` and `dump` write in pieces; `answer`,
+/// `lint` and `split` write nothing here. Memory and time: those of [`run`].
 ///
 /// # Errors
 ///
@@ -193,15 +184,14 @@ pub fn print_output<R: Read, W: Write>(
     ensures writer_unfailed { OnOk result (failures out.new ≡ failures out.old) }
     ensures unwritten { IfErr result (λ e. ((n : ℕ) → e ≢ ToolFault.Write n) → (out.new ≡ out.old)
         ⊎ ((e ≡ ToolFault.OutOfMemory)
-        × InterruptsStrings action.now (R.remaining (inner input.old)) (R.remaining (inner input.new))
+        × InterruptsOutput action.now (R.remaining (inner input.old)) (R.remaining (inner input.new))
         (W.contents (inner out.old)) (W.contents (inner out.new)) (failures out.old) (failures out.new))) }
 {
     let bytes = read_all(alloc, input, capacity)?;
+    if prints_in_pieces(action) {
+        return print_in_pieces(alloc, action, &bytes, out);
+    }
     match action {
-        Action::Strings(role) => {
-            print_file_strings(alloc, &bytes, *role, out)?;
-            Ok(0)
-        }
         Action::SkipNonTerms { .. } | Action::VerifyTerms { .. } => {
             let (text, count) = text_and_count(alloc, action, &bytes)?;
             write_text(&text, out)?;
@@ -219,7 +209,8 @@ pub fn print_output<R: Read, W: Write>(
 /// new file to `made`; other commands leave it unchanged. `run` opens no file: `input` is the content of
 /// `request.file`.
 ///
-/// Memory: the input and the complete output (`strings` writes in pieces). Time: that of the library call, such as
+/// Memory: the input and the complete output, except that `strings`, `find` and `dump` write in pieces
+/// ([`stream_layout`](hdt_file::stream_layout)). Time: that of the library call, such as
 /// [`verify`](hdt_file::verify), [`graph_text`](hdt_file::graph_text) or [`build`](hdt_build::build).
 ///
 /// # Errors
@@ -254,12 +245,12 @@ pub fn run<R: Read, W: Write>(
     ensures write { IfErr result (λ e. (n : ℕ) → e ≡ ToolFault.Write n → (failures out.new ≡ failures out.old + 1)
         × WritesOutputPrefix request.now.action (R.remaining (inner input.old)) (R.remaining (inner input.new))
         (W.contents (inner out.old)) (W.contents (inner out.new)) n) }
-    // With any other result the writer did not fail. With any other error nothing was written, except that `strings`
-    // may have written a prefix of its output before it ran out of memory.
+    // With any other result the writer did not fail. With any other error nothing was written, except that a command
+    // that writes in pieces may have written a prefix of its output before it ran out of memory.
     ensures writer_unfailed { OnOk result (failures out.new ≡ failures out.old) }
     ensures unwritten { IfErr result (λ e. ((n : ℕ) → e ≢ ToolFault.Write n) → (out.new ≡ out.old)
         ⊎ ((e ≡ ToolFault.OutOfMemory)
-        × InterruptsStrings request.now.action (R.remaining (inner input.old)) (R.remaining (inner input.new))
+        × InterruptsOutput request.now.action (R.remaining (inner input.old)) (R.remaining (inner input.new))
         (W.contents (inner out.old)) (W.contents (inner out.new)) (failures out.old) (failures out.new))) }
     ensures unchanged { OnErr result (made.new.items ≡ made.old.items) }
 {

@@ -1,22 +1,23 @@
 //! The lines that follow an error message: which input, where, why, and what to do. What cannot be read is left out.
 
 use crate::command_line::term_given;
+use crate::error_hints::{line_hint, put_document_hint};
 use crate::error_lines::role_name;
 use crate::error_strings::{put_term_string, put_unused_string};
 use crate::fault::{TermArgument, ToolFault};
 use crate::files::is_stdin_path;
-use crate::request::{Action, Invocation, Request};
+use crate::request::{Action, Invocation};
 use crate::session::Session;
-use hdt_terms::{LineFault, TermFault};
+use hdt_terms::{LineFault, LineReason, TermFault};
 use hdt_usage::{
-    DOCUMENT_HINTS, Explanation, FILE_HINTS, file_explanations, first_named, hint_in, marked_line,
-    prefix_hint, put_shown, term_hint, text_explanations,
+    Explanation, FILE_HINTS, file_explanations, first_named, hint_in, marked_line, put_shown,
+    term_hint, text_explanations,
 };
 use hdt_wire::{Fault, Reason, put_decimal};
 use std::alloc::Global;
 use std::env;
 use std::fs::{self, File};
-use std::io::{self, BufRead, BufReader, IsTerminal, Read, Write};
+use std::io::{self, BufRead, BufReader, IsTerminal, Write};
 
 /// What an error message is about.
 #[derive(Clone, Copy)]
@@ -55,6 +56,15 @@ impl<'a> ErrorSource<'a> {
         }
     }
 
+    /// The path of the input that could not be read. After its end, only the requests of `answer` are read.
+    fn failed_input(self) -> &'a str {
+        if self.session.has_read() {
+            "standard input"
+        } else {
+            self.input
+        }
+    }
+
     /// The same with another output.
     pub(crate) fn with_output(self, path: &'a str) -> ErrorSource<'a> {
         ErrorSource {
@@ -72,9 +82,6 @@ pub(crate) fn is_terminal(rt: &HostRuntime) -> bool {
 
 /// The width of a terminal of which nothing is known, in columns.
 const USUAL_WIDTH: usize = 80;
-
-/// A hint needs at most this number of bytes.
-const HINT_BYTES: usize = 16;
 
 /// The width of the terminal in columns, if COLUMNS has it.
 pub(crate) fn width(rt: &HostRuntime) -> usize {
@@ -94,19 +101,6 @@ pub(crate) fn reopen(rt: &HostRuntime, path: &str) -> io::Result<Option<File>> {
         return Ok(Some(File::open(rt, path)?));
     }
     Ok(None)
-}
-
-/// The first bytes of a regular file, at most [`HINT_BYTES`]; none of another file.
-fn first_bytes(rt: &HostRuntime, path: &str) -> io::Result<Vec<u8>> {
-    let mut bytes = Vec::new(rt.alloc());
-    if let Some(mut file) = reopen(rt, path)? {
-        let mut buffer = [0; HINT_BYTES];
-        let count = file.read(&mut buffer)?;
-        if let Some(read) = buffer.get(..count) {
-            bytes.extend_from_slice(read)?;
-        }
-    }
-    Ok(bytes)
 }
 
 /// The line of the input with a number, from 1, without its line end: of a regular file, or of what is kept of another
@@ -167,7 +161,7 @@ fn put_path_line(path: &str, out: &mut Vec<u8>) -> io::Result<()> {
 }
 
 /// Appends the lines of a text, indented; nothing of an empty text.
-fn put_text(text: &str, out: &mut Vec<u8>) -> io::Result<()> {
+pub(crate) fn put_text(text: &str, out: &mut Vec<u8>) -> io::Result<()> {
     if text.is_empty() {
         return Ok(());
     }
@@ -237,6 +231,18 @@ fn put_marked_line(
     Ok(out.extend_from_slice(&marked)?)
 }
 
+/// The line of an error; empty if it is too long, since it may not fit into memory.
+pub(crate) fn faulty_line(
+    rt: &HostRuntime,
+    source: ErrorSource<'_>,
+    fault: LineFault,
+) -> io::Result<Vec<u8>> {
+    match fault.reason {
+        LineReason::TooLong => Ok(Vec::new(rt.alloc())),
+        _ => line_at(rt, source, fault.line),
+    }
+}
+
 /// Appends the line and column of an error in a document, the line with a `^`, the error's meaning, and a hint.
 fn put_line_error(
     rt: &HostRuntime,
@@ -250,22 +256,20 @@ fn put_line_error(
     out.push(b':')?;
     put_decimal(fault.column, out)?;
     out.push(b'\n')?;
-    let line = line_at(rt, source, fault.line)?;
+    let line = faulty_line(rt, source, fault)?;
     put_marked_line(rt, &line, fault.column, out)?;
     put_explanation(rt.alloc(), fault.reason.name(), text_explanations(), out)?;
-    let hint = hint_in(&first_bytes(rt, source.input)?, DOCUMENT_HINTS);
-    put_text(
-        if hint.is_empty() {
-            hint_in(&line, DOCUMENT_HINTS)
-        } else {
-            hint
-        },
-        out,
-    )
+    put_text(line_hint(source, fault, &line)?, out)
 }
 
 /// Appends the byte offset of an error in a file, the error's meaning, and a hint.
-fn put_file_error(rt: &HostRuntime, path: &str, fault: Fault, out: &mut Vec<u8>) -> io::Result<()> {
+fn put_file_error(
+    rt: &HostRuntime,
+    source: ErrorSource<'_>,
+    fault: Fault,
+    out: &mut Vec<u8>,
+) -> io::Result<()> {
+    let path = source.input;
     put_path(path, out)?;
     out.extend_from_slice(b": byte ")?;
     put_decimal(fault.place, out)?;
@@ -274,7 +278,7 @@ fn put_file_error(rt: &HostRuntime, path: &str, fault: Fault, out: &mut Vec<u8>)
         put_unused_string(rt, path, fault.place, out)?;
     }
     put_explanation(rt.alloc(), fault.reason.name(), file_explanations(), out)?;
-    put_text(hint_in(&first_bytes(rt, path)?, FILE_HINTS), out)
+    put_text(hint_in(&source.session.first_bytes()?, FILE_HINTS), out)
 }
 
 /// The option that helps if a string is not a term; empty if none does.
@@ -297,10 +301,10 @@ fn put_context(
     out: &mut Vec<u8>,
 ) -> io::Result<()> {
     match fault {
-        ToolFault::Read => put_system_error(rt, source.session, source.input, out),
+        ToolFault::Read => put_system_error(rt, source.session, source.failed_input(), out),
         ToolFault::Write(_) => put_system_error(rt, source.session, source.output, out),
         ToolFault::Input(fault) => put_line_error(rt, source, *fault, out),
-        ToolFault::File(fault) => put_file_error(rt, source.input, *fault, out),
+        ToolFault::File(fault) => put_file_error(rt, source, *fault, out),
         ToolFault::NotATerm(role, number) => {
             put_path_line(source.input, out)?;
             put_term_string(rt, source.input, *role, *number, out)?;
@@ -315,6 +319,22 @@ fn put_context(
         }
         ToolFault::NoSuchTerm | ToolFault::NoSuchNumber => { put_path_line(source.input, out) }
         ToolFault::OutOfMemory | ToolFault::BadOptions | ToolFault::NoMatch => Ok(()),
+    }
+}
+
+/// Appends what a log needs for an error: the path and the system's reason, or a hint if the input is of another kind.
+fn put_short_context(
+    rt: &HostRuntime,
+    source: ErrorSource<'_>,
+    fault: &ToolFault,
+    out: &mut Vec<u8>,
+) -> io::Result<()> {
+    match fault {
+        ToolFault::Read => put_system_error(rt, source.session, source.failed_input(), out),
+        ToolFault::Write(_) => put_system_error(rt, source.session, source.output, out),
+        ToolFault::Input(fault) => put_document_hint(rt, source, *fault, out),
+        ToolFault::File(_) => put_text(hint_in(&source.session.first_bytes()?, FILE_HINTS), out),
+        _ => Ok(()),
     }
 }
 
@@ -362,33 +382,14 @@ pub(crate) fn print_term_context(
     let _ = errors.write_all(&text);
 }
 
-/// Prints the lines for an error to standard error, if they are wanted.
+/// Prints the lines for an error to standard error: all if they are wanted, else at most one.
 pub(crate) fn print_context(rt: &HostRuntime, source: ErrorSource<'_>, fault: &ToolFault) {
-    if !source.session.is_verbose() {
+    let mut text = Vec::new(rt.alloc());
+    if source.session.is_verbose() {
+        let _ = put_context(rt, source, fault, &mut text);
+    } else if put_short_context(rt, source, fault, &mut text).is_err() {
         return;
     }
-    let mut text = Vec::new(rt.alloc());
-    let _ = put_context(rt, source, fault, &mut text);
-    let mut errors = rt.stderr();
-    let _ = errors.write_all(&text);
-}
-
-/// Prints a hint to standard error, if `strings --prefix` printed nothing and the prefix looks like a term's, and if
-/// hints are wanted.
-pub(crate) fn print_prefix_hint(
-    rt: &HostRuntime,
-    source: ErrorSource<'_>,
-    request: &Request,
-    status: u8,
-) {
-    let Action::ListStrings { prefix, .. } = &request.action else {
-        return;
-    };
-    if status != 0 || source.session.has_output() || !source.session.is_verbose() {
-        return;
-    }
-    let mut text = Vec::new(rt.alloc());
-    let _ = put_text(prefix_hint(prefix), &mut text);
     let mut errors = rt.stderr();
     let _ = errors.write_all(&text);
 }

@@ -6,7 +6,7 @@ ghost use Rattle.hdt_tool.specs.declared.fault.ToolFault.TheVariants.{OutOfMemor
 ghost use Rattle.hdt_tool.specs.Faults.{line_fault_of};
 ghost use Rattle.hdt_tool.specs.CommandLine.{Refutes};
 
-use hdt_build::{BuildFault, RewriteFault};
+use hdt_build::{BuildFault, MergeFault, RewriteFault};
 use hdt_dict::Role;
 use hdt_file::{DumpFault, OpenFault};
 use hdt_terms::{LineFault, LineReason, TermFault};
@@ -214,6 +214,20 @@ impl From<RewriteFault> for ToolFault {
             RewriteFault::BadOptions => ToolFault::BadOptions,
             RewriteFault::OutOfMemory => ToolFault::OutOfMemory,
             RewriteFault::Write(count) => ToolFault::Write(count),
+        }
+    }
+}
+
+impl From<MergeFault> for ToolFault {
+    ghost use Rattle.hdt_tool.specs.Faults.{merge_fault_of};
+
+    ghost from_gives = { λ fault e. e ≡ merge_fault_of fault };
+
+    fn from(fault: MergeFault) -> ToolFault {
+        match fault {
+            MergeFault::BadOptions => ToolFault::BadOptions,
+            MergeFault::OutOfMemory => ToolFault::OutOfMemory,
+            MergeFault::Write(count) => ToolFault::Write(count),
         }
     }
 }

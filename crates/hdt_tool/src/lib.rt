@@ -17,11 +17,14 @@
 //! - `pending_output`: output that is collected before it is written;
 //! - `commands`: all commands, from a reader to a writer; `lint`: the one with two writers;
 //! - `split_arguments`, `splitting`: the command `split`;
-//! - `error_lines` and `non_term_status`: exit statuses and messages; `error_context` and `error_strings`: the lines
-//!   that follow a message;
+//! - `merge_arguments`: reading the arguments of the command `merge`;
+//! - `error_lines` and `non_term_status`: exit statuses and messages; `error_context`, `error_hints` and
+//!   `error_strings`: the lines that follow a message;
+//! - `line_limit`: documents whose lines may not be longer than a limit;
 //! - `session`: what a command shows on standard error beside its message; `progress`, `progress_text`, `watched` and
 //!   `recent_lines`: its parts;
-//! - `files`, `atomic_replace`, `output_file`, `split_files` and `status`: the same over files and streams.
+//! - `files`, `overwriting`, `atomic_replace`, `output_file`, `split_parts`, `split_files` and `status`: the same over
+//!   files and streams.
 #![tactic(auto)]
 
 mod answerer;
@@ -32,16 +35,21 @@ mod commands;
 mod counts;
 mod dialogue;
 mod error_context;
+mod error_hints;
 mod error_lines;
 mod error_strings;
 mod fault;
 mod files;
 mod info;
+mod line_limit;
 mod lint;
 mod listed_strings;
+mod merge_arguments;
+mod merging;
 mod non_term_status;
 mod non_term_text;
 mod output_file;
+mod overwriting;
 mod pending_output;
 mod printed_info;
 mod printed_reports;
@@ -55,6 +63,7 @@ mod request;
 mod session;
 mod split_arguments;
 mod split_files;
+mod split_parts;
 mod splitting;
 mod status;
 mod watched;
@@ -65,7 +74,7 @@ pub use dialogue::answer_requests;
 pub use error_lines::{fault_line, usage_line};
 pub use fault::{TermArgument, ToolFault, UsageFault};
 pub use request::{
-    Action, AnswerOptions, AnswerReport, BlankNodes, Invocation, OutputFormat, Progress, Request,
-    SplitOptions, SplitOutput,
+    Action, AnswerOptions, AnswerReport, BlankNodes, Invocation, MergeOptions, OutputFormat,
+    Progress, Request, SplitOptions, SplitOutput,
 };
 pub use status::{collect_arguments, process_status};

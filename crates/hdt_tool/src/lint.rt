@@ -1,24 +1,21 @@
 //! The command `lint`: reports every faulty line of a document.
 ghost use Rattle.std.specs.Prelude.{◌≡◌, ◌≢◌, ◌⊎◌, ◌+◌, ℕ, Option, false, true, if◌then◌else◌, IfOk, IfErr};
-ghost use Rattle.std.specs.Prelude.{IsErrOf, MatchResult, OnOk};
+ghost use Rattle.std.specs.Prelude.{IsErrOf, MatchResult, OnOk, ◌<◌, ◌^◌};
 ghost use Rattle.hdt_wire.specs.Counted.{inner, failures};
 ghost use Rattle.hdt_terms.specs.Lint.{GainsBytes};
 ghost use Rattle.hdt_tool.specs.ErrorLines.{fault_status};
-ghost use Rattle.hdt_tool.specs.Linting.{IsAny, Lints, LintsUntilError, most_faulty};
+ghost use Rattle.hdt_tool.specs.Linting.{IsAny, Lints, LintsUntilError, longest_line, most_faulty};
 ghost use Rattle.hdt_tool.specs.Status.{IsCommandStatus};
 
 use crate::error_context::ErrorSource;
+use crate::error_hints::print_document_hint;
 use crate::fault::{ToolFault, line_fault};
-use crate::files::{STDOUT_PATH, open_input, would_overwrite};
-use crate::status::{command_status, open_failed, print_error_line};
-use hdt_terms::{LintFault, lint_document};
+use crate::files::open_input;
+use crate::status::{command_status, open_failed};
+use hdt_terms::{LintFault, MAX_INPUT_LEN, lint_document};
 use hdt_wire::Counted;
 use std::alloc::Global;
 use std::io::{self, Read, Write};
-
-const SAME_FILE_MESSAGE: &str = "error: IN and standard output are the same file
-
-For more information, try '--help'.";
 
 impl From<LintFault> for ToolFault {
     ghost use Rattle.hdt_tool.specs.Linting.{lint_fault_of};
@@ -41,6 +38,17 @@ fn most_faulty(most: Option<u64>) -> u64
     most.unwrap_or(u64::MAX)
 }
 
+/// The greatest number of bytes of a line: the given one, or that of an input.
+fn longest_line(longest: Option<u64>) -> u64
+    ensures value { result ≡ longest_line longest }
+    ensures limit { result < 2 ^ 63 }
+{
+    match longest {
+        Some(longest) => longest.min(MAX_INPUT_LEN),
+        None => MAX_INPUT_LEN,
+    }
+}
+
 /// Whether a number is above zero.
 fn is_any(count: u64) -> bool
     ensures { IsAny count result }
@@ -50,7 +58,7 @@ fn is_any(count: u64) -> bool
 
 /// Checks every line of a document and reports each faulty one to `reported`, as [`lint_document`] does. Returns
 /// whether there are any. With `keep`, writes the lines without an error to `kept`. Stops after `most` faulty lines, if
-/// that is given.
+/// that is given. A line of more than `longest` bytes, without its end, is faulty, if that is given.
 ///
 /// # Errors
 ///
@@ -58,6 +66,7 @@ fn is_any(count: u64) -> bool
 /// has 2^63 bytes or more, and [`ToolFault::OutOfMemory`].
 pub(crate) fn lint_input<R: Read, K: Write, T: Write>(
     alloc: Global,
+    longest: Option<u64>,
     keep: bool,
     most: Option<u64>,
     input: &mut Counted<R>,
@@ -65,7 +74,7 @@ pub(crate) fn lint_input<R: Read, K: Write, T: Write>(
     reported: &mut Counted<T>,
 ) -> Result<bool, ToolFault>
     // All lines were checked, or those up to the last of `most` faulty ones; the result is whether any is faulty.
-    ensures ok { IfOk result (Lints keep most (R.remaining (inner input.old)) (K.contents (inner kept.old))
+    ensures ok { IfOk result (Lints longest keep most (R.remaining (inner input.old)) (K.contents (inner kept.old))
         (K.contents (inner kept.new))
         (T.contents (inner reported.old)) (T.contents (inner reported.new))) }
     ensures writers_unfailed { OnOk result ((failures kept.new ≡ failures kept.old)
@@ -78,7 +87,7 @@ pub(crate) fn lint_input<R: Read, K: Write, T: Write>(
         × GainsBytes n (T.contents (inner reported.old)) (T.contents (inner reported.new)))) }
     // The writers have gained a prefix of the output for some first lines; all lines before one that cannot be read.
     ensures stopped { IfErr result
-        (LintsUntilError keep (R.remaining (inner input.old)) (R.remaining (inner input.new))
+        (LintsUntilError longest keep (R.remaining (inner input.old)) (R.remaining (inner input.new))
         (K.contents (inner kept.old))
         (K.contents (inner kept.new)) (T.contents (inner reported.old)) (T.contents (inner reported.new))) }
     // `Read`: the reader failed once in this call. With any other result it did not fail.
@@ -86,7 +95,8 @@ pub(crate) fn lint_input<R: Read, K: Write, T: Write>(
     ensures reader_unfailed { OnOk result (failures input.new ≡ failures input.old) }
     ensures reader_reported { IfErr result (λ e. e ≢ ToolFault.Read → failures input.new ≡ failures input.old) }
 {
-    let count = lint_document(alloc, keep, most_faulty(most), input, kept, reported)?;
+    let (longest, most) = (longest_line(longest), most_faulty(most));
+    let count = lint_document(alloc, longest, keep, most, input, kept, reported)?;
     Ok(is_any(count))
 }
 
@@ -99,6 +109,9 @@ fn lint_status(rt: &HostRuntime, source: ErrorSource<'_>, outcome: Result<bool, 
     match outcome {
         Ok(faulty) => {
             source.session.clear();
+            if faulty {
+                print_document_hint(rt, source);
+            }
             u8::from(faulty)
         }
         Err(fault) => command_status(rt, source, Err(fault)),
@@ -109,6 +122,7 @@ fn lint_status(rt: &HostRuntime, source: ErrorSource<'_>, outcome: Result<bool, 
 fn run_lint<R: Read, K: Write, T: Write>(
     rt: &HostRuntime,
     source: ErrorSource<'_>,
+    longest: Option<u64>,
     keep: bool,
     most: Option<u64>,
     input: &mut Counted<R>,
@@ -118,7 +132,8 @@ fn run_lint<R: Read, K: Write, T: Write>(
     ensures statuses { IsCommandStatus result }
     // 0: no line that was checked is faulty, and `kept` has gained the lines if `keep`.
     ensures done { result ≡ 0
-        → Lints keep most (R.remaining (inner input.old)) (K.contents (inner kept.old)) (K.contents (inner kept.new))
+        → Lints longest keep most (R.remaining (inner input.old)) (K.contents (inner kept.old))
+        (K.contents (inner kept.new))
         (T.contents (inner reported.old)) (T.contents (inner reported.new)) false }
     ensures unfailed { result ≡ 0 → (failures kept.new ≡ failures kept.old)
         × (failures reported.new ≡ failures reported.old) }
@@ -130,15 +145,15 @@ fn run_lint<R: Read, K: Write, T: Write>(
     // reports of exactly these and the other lines; or an error with this status, or lack of memory for its message,
     // ended the run.
     ensures stopped { result ≢ 0
-        → ((result ≡ 1) × Lints keep most (R.remaining (inner input.old)) (K.contents (inner kept.old))
+        → ((result ≡ 1) × Lints longest keep most (R.remaining (inner input.old)) (K.contents (inner kept.old))
         (K.contents (inner kept.new))
         (T.contents (inner reported.old)) (T.contents (inner reported.new)) true)
         ⊎ ((e : ToolFault) × ((result ≡ fault_status e) ⊎ (result ≡ 4))
-        × LintsUntilError keep (R.remaining (inner input.old)) (R.remaining (inner input.new))
+        × LintsUntilError longest keep (R.remaining (inner input.old)) (R.remaining (inner input.new))
         (K.contents (inner kept.old)) (K.contents (inner kept.new)) (T.contents (inner reported.old))
         (T.contents (inner reported.new)) e) }
 {
-    let outcome = lint_input(rt.alloc(), keep, most, input, kept, reported);
+    let outcome = lint_input(rt.alloc(), longest, keep, most, input, kept, reported);
     lint_status(rt, source, outcome)
 }
 
@@ -153,10 +168,8 @@ pub(crate) fn lint_path(
 ) -> u8
     ensures { IsCommandStatus result }
 {
-    if would_overwrite(rt, STDOUT_PATH, path) {
-        return print_error_line(rt, 2, SAME_FILE_MESSAGE);
-    }
     let session = source.session;
+    let longest = session.longest_line();
     let mut input = match open_input(rt, path, session) {
         Ok(input) => Counted::new(input),
         Err(error) => return open_failed(rt, source, &error),
@@ -164,7 +177,25 @@ pub(crate) fn lint_path(
     let mut out = Counted::new(session.watch(io::writer(rt)));
     let mut errors = Counted::new(session.watch(rt.stderr()));
     if keep {
-        return run_lint(rt, source, true, most, &mut input, &mut out, &mut errors);
+        return run_lint(
+            rt,
+            source,
+            longest,
+            true,
+            most,
+            &mut input,
+            &mut out,
+            &mut errors,
+        );
     }
-    run_lint(rt, source, false, most, &mut input, &mut errors, &mut out)
+    run_lint(
+        rt,
+        source,
+        longest,
+        false,
+        most,
+        &mut input,
+        &mut errors,
+        &mut out,
+    )
 }

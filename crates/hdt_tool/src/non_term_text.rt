@@ -1,12 +1,13 @@
-//! The output of `find` and `dump` with `--skip-non-terms`, and of `verify --terms`, with the number of the triples or
-//! strings that have no form in N-Triples.
+//! The output of `find` and `dump` with `--skip-non-terms` and `--count`, and of `verify --terms`, with the number of
+//! the triples or strings that have no form in N-Triples.
 ghost use Rattle.std.specs.Prelude.{◌≡◌, ◌++◌, false, OnOk, IfOk, IfErr};
 ghost use Rattle.std.specs.List.{flat_map};
 ghost use Rattle.hdt_file.specs.Graph.{layout_view};
 ghost use Rattle.hdt_tool.specs.Outcomes.{CountsNonTerms, IsFaultOfBytes, PrintsCountingNonTerms};
-ghost use Rattle.hdt_tool.specs.NonTermText.{PrintsKept, PrintsTermVerdict, kept_format, non_term_line};
+ghost use Rattle.hdt_tool.specs.NonTermText.{PrintsKept, PrintsTermVerdict, non_term_line};
 ghost use Rattle.hdt_tool.specs.NonTermText.{term_verdict_lines};
 ghost use Rattle.hdt_tool.specs.declared.request.Action.TheVariants as Action;
+ghost use Rattle.hdt_tool.specs.declared.request.OutputFormat.TheVariants.{Count};
 
 use crate::error_lines::role_name;
 use crate::fault::ToolFault;
@@ -15,35 +16,27 @@ use crate::printed_strings::number_line;
 use crate::printed_triples::find_pattern;
 use crate::request::Action;
 use hdt_file::{
-    Layout, NonTerm, TermFlags, TermWriter, append_triples_text, layout_writable_matches,
-    one_tight_layout, verify_terms, verify_tight,
+    Layout, NonTerm, TermFlags, layout_writable_matches, one_tight_layout, verify_terms,
+    verify_tight,
 };
 use hdt_wire::put_decimal;
 use std::alloc::{AllocError, Global};
 
-/// The text of those of the triples with the given strings that have a line, up to a limit, or with `count` the line
-/// with their number; and how many were skipped.
-#[tactic(auto, using(crate::proofs::NonTermLaws::kept_counted, crate::proofs::NonTermLaws::kept_written))]
-fn kept_text(
+/// The line with the number of those of the triples with the given strings that have a line, up to a limit; and how
+/// many were skipped.
+#[tactic(auto, using(crate::proofs::NonTermLaws::kept_counted))]
+fn kept_count(
     alloc: Global,
     layout: &Layout<'_>,
     given: &[Option<Vec<u8>>; 3],
-    count: bool,
     most: Option<u64>,
 ) -> Result<(Vec<u8>, u64), AllocError>
-    ensures { IfOk result (λ made. PrintsKept (layout_view layout.now) given.now
-        (kept_format count) most made.0.items made.1) }
+    ensures { IfOk result (λ made. PrintsKept (layout_view layout.now) given.now Count most made.0.items made.1) }
 {
     let flags = TermFlags::of(alloc, layout)?;
     let pattern = find_pattern(layout, given);
     let kept = layout_writable_matches(alloc, layout, &flags, pattern, most)?;
-    if count {
-        return Ok((number_line(alloc, kept.triples.len() as u64)?, kept.skipped));
-    }
-    let mut text = Vec::new(alloc);
-    let mut term_writer = TermWriter::with_cache(alloc)?;
-    append_triples_text(alloc, layout, &kept.triples, &mut term_writer, &mut text)?;
-    Ok((text, kept.skipped))
+    Ok((number_line(alloc, kept.triples.len() as u64)?, kept.skipped))
 }
 
 /// Appends the line of a string that is not a term.
@@ -105,9 +98,9 @@ pub(crate) fn text_and_count(
     ensures err { IfErr result (IsFaultOfBytes action.now bytes.now) }
 {
     match action {
-        Action::SkipNonTerms { given, count, most } => {
+        Action::SkipNonTerms { given, most, .. } => {
             let layout = Layout::read(alloc, bytes)?;
-            Ok(kept_text(alloc, &layout, given, *count, *most)?)
+            Ok(kept_count(alloc, &layout, given, *most)?)
         }
         Action::VerifyTerms { tight: false } => verify_terms_text(alloc, bytes),
         Action::VerifyTerms { tight: true } => {

@@ -6,9 +6,11 @@ ghost use Rattle.hdt_wire.specs.Counted.{inner, failures};
 ghost use Rattle.hdt_tool.specs.Outcomes.{FailsAfter, IsFileMakingFault, IsOutputFault, MakesFile};
 
 use crate::atomic_replace::{replace_file, replaceable_path};
-use crate::commands::{make_file, write_text};
+use crate::commands::make_file;
 use crate::fault::{ToolFault, file_fault};
 use crate::files::{STDERR_PATH, STDOUT_PATH, create, is_same_file, open_input};
+use crate::line_limit::{LineLimit, name_long_line};
+use crate::pending_output::write_text;
 use crate::request::Request;
 use crate::session::{Phase, Session};
 use hdt_wire::Counted;
@@ -92,6 +94,23 @@ fn write_to_path(
     write_file_and_line(&mut file, built, &mut out, line)
 }
 
+/// Writes the new file to a path, and prints its line. If the path leads to standard output, the file is printed there.
+pub(crate) fn write_made_file(
+    rt: &HostRuntime,
+    session: &Session<'_>,
+    path: &str,
+    built: &[u8],
+    line: &[u8],
+) -> Result<(), ToolFault>
+    ensures { IfErr result IsOutputFault }
+{
+    session.show_phase(Phase::Writing, built.len() as u64);
+    if is_same_file(rt, path, STDOUT_PATH) {
+        return print_built(rt, session, built, line);
+    }
+    write_to_path(rt, session, path, built, line)
+}
+
 /// Runs `build` or `rewrite`. The file is written only once it is complete, and the line with its counts is printed
 /// last. If `path` leads to standard output, the file is printed there.
 pub(crate) fn make_file_at(
@@ -111,18 +130,18 @@ pub(crate) fn make_file_at(
             ToolFault::Read,
         ))?;
         let capacity = input.capacity();
-        let mut input = Counted::new(input);
-        make_file(
+        let mut input = Counted::new(LineLimit::new(input, session));
+        let outcome = make_file(
             rt.alloc(),
             &request.action,
             &mut input,
             capacity,
             &mut built,
-        )?
+        );
+        match outcome {
+            Ok(line) => line,
+            Err(fault) => return Err(name_long_line(session, fault)),
+        }
     };
-    session.show_phase(Phase::Writing, built.len() as u64);
-    if is_same_file(rt, path, STDOUT_PATH) {
-        return print_built(rt, session, &built, &line);
-    }
-    write_to_path(rt, session, path, &built, &line)
+    write_made_file(rt, session, path, &built, &line)
 }

@@ -96,3 +96,13 @@ impl PendingOutput {
         self.flush(out)
     }
 }
+
+/// Writes a text.
+pub(crate) fn write_text<W: Write>(text: &[u8], out: &mut Counted<W>) -> Result<(), ToolFault>
+    ensures ok { OnOk result (Appends (W.contents (inner out.old)) (W.contents (inner out.new)) text.now) }
+    ensures unfailed { OnOk result (failures out.new ≡ failures out.old) }
+    ensures failed { IfErr result (λ e. (n : ℕ) × (e ≡ ToolFault.Write n) × FailsAfter n text.now
+        (W.contents (inner out.old)) (W.contents (inner out.new)) (failures out.old) (failures out.new)) }
+{
+    out.write_all(text).map_err(ToolFault::Write)
+}

@@ -1,25 +1,32 @@
-//! The output of `find` and `dump`, and the triples in the answers of `answer`.
-ghost use Rattle.std.specs.Prelude.{◌≡◌, ◌<◌, ◌^◌, ◌++◌, OnOk, OnErr, IfOk, IfErr, length};
+//! The output of `find` and `dump`, which is written in pieces, and the triples in the answers of `answer`.
+ghost use Rattle.std.specs.Prelude.{◌≡◌, ◌<◌, ◌^◌, ◌++◌, ◌⊎◌, ℕ, List, OnOk, OnErr, IfOk, IfErr, length};
+ghost use Rattle.std.specs.Io.KnownBytes.{Appends};
 ghost use Rattle.hdt_wire.specs.Control.{IsPrefixOf};
+ghost use Rattle.hdt_wire.specs.Counted.{inner, failures};
+ghost use Rattle.hdt_tool.specs.Outcomes.{IsCutShort};
+ghost use Rattle.hdt_tool.specs.declared.request.OutputFormat.TheVariants.{NTriples};
 ghost use Rattle.hdt_file.specs.TextWriting.{matches_if_given, limited};
 ghost use Rattle.hdt_file.specs.CachedTerms.{CachesTerms};
 ghost use Rattle.hdt_file.specs.Writable.{AreWritableTriples};
 ghost use Rattle.hdt_file.specs.Graph.{layout_view, graph_view};
 ghost use Rattle.hdt_triples.specs.Remaining.{remaining_matches};
-ghost use Rattle.hdt_tool.specs.NonTermText.{kept_format};
+ghost use Rattle.hdt_tool.specs.NonTermText.{PrintsKept, kept_format};
 ghost use Rattle.hdt_tool.specs.TriplesText.{AppendsTriples, Finds, HasMatch, LacksMatch, PrintsFound, IsFindFault};
-ghost use Rattle.hdt_tool.specs.TriplesText.{PrintsTriples, IsTextFault, numbers_line, numbers_lines};
+ghost use Rattle.hdt_tool.specs.TriplesText.{IsTextFault, numbers_line, numbers_lines};
 
 use crate::fault::ToolFault;
+use crate::pending_output::{FLUSH_BYTES, PendingOutput, write_text};
 use crate::printed_strings::number_line;
 use crate::request::OutputFormat;
 use hdt_file::{
-    DumpFault, Graph, Layout, TermWriter, append_graph_text, append_triples_text, layout_text,
+    DumpFault, Graph, Layout, TermWriter, append_graph_text, append_triples_text, stream_layout,
+    stream_writable,
 };
 use hdt_seq::Steps;
 use hdt_triples::{Matches, Pattern};
-use hdt_wire::{put_decimal, truncate_on_error};
+use hdt_wire::{Counted, put_decimal, truncate_on_error};
 use std::alloc::{AllocError, Global};
+use std::io::Write;
 
 /// Appends a line with the three IDs of a triple. An error may leave a prefix of it.
 #[tactic(auto, using(std::proofs::Common::append_assoc))]
@@ -59,21 +66,33 @@ fn append_numbers(
     Ok(())
 }
 
-/// The ID lines of a pattern's matches; empty without a pattern.
-fn numbers_text(
+/// Writes the ID lines of matches, up to a limit, in pieces.
+fn print_numbers<W: Write>(
     alloc: Global,
-    layout: &Layout<'_>,
-    pattern: Option<Pattern>,
+    found: Matches<'_>,
     most: Option<u64>,
-) -> Result<Vec<u8>, AllocError>
-    ensures { IfOk result (λ text. text.items
-        ≡ numbers_lines (limited most (matches_if_given (layout_view layout.now) pattern))) }
+    out: &mut Counted<W>,
+) -> Result<(), ToolFault>
+    requires fits { length (remaining_matches found) < 2 ^ 64 }
+    ensures ok { OnOk result (Appends (W.contents (inner out.old)) (W.contents (inner out.new))
+        (numbers_lines (limited most (remaining_matches found.entry)))) }
+    ensures unfailed { OnOk result (failures out.new ≡ failures out.old) }
+    ensures cut { IfErr result (λ e. IsCutShort e (numbers_lines (limited most (remaining_matches found.entry)))
+        (W.contents (inner out.old)) (W.contents (inner out.new)) (failures out.old) (failures out.new)) }
 {
-    let mut text = Vec::new(alloc);
-    if let Some(pattern) = pattern {
-        append_numbers(layout.search(pattern), most, &mut text)?;
+    let mut matches = found;
+    let mut remaining = most.unwrap_or(u64::MAX);
+    let mut pending = PendingOutput::new(alloc);
+    'triples: while remaining > 0 {
+        let Some(triple) = matches.next() else {
+            return pending.flush(out);
+        };
+        let start = pending.bytes.len();
+        put_numbers(triple, &mut pending.bytes)?;
+        pending.accept(start, true, FLUSH_BYTES - 1, out)?;
+        remaining -= 1;
     }
-    Ok(text)
+    pending.flush(out)
 }
 
 /// The number of a pattern's matches, up to a limit; 0 without a pattern.
@@ -115,40 +134,61 @@ pub(crate) fn check_match(
     Ok(())
 }
 
-/// The text of a pattern's matches, up to a limit and in any format; empty without a pattern. Scans all triples.
-fn layout_triples_text(
-    alloc: Global,
-    layout: &Layout<'_>,
-    pattern: Option<Pattern>,
-    format: OutputFormat,
-    most: Option<u64>,
-) -> Result<Vec<u8>, DumpFault>
-    ensures ok { IfOk result (λ text. PrintsTriples format (layout_view layout.now)
-        (limited most (matches_if_given (layout_view layout.now) pattern)) text.items) }
-    ensures err { IfErr result
-        (IsTextFault format (layout_view layout.now)
-        (limited most (matches_if_given (layout_view layout.now) pattern))) }
-{
-    match format {
-        OutputFormat::NTriples => layout_text(alloc, layout, pattern, most),
-        OutputFormat::Numbers => Ok(numbers_text(alloc, layout, pattern, most)?),
-        OutputFormat::Count => Ok(number_line(alloc, count_layout_matches(layout, pattern, most))?),
-    }
-}
-
-/// The text of the triples with the given strings, up to a limit and in any format.
-pub(crate) fn triples_text(
+/// Writes the triples with the given strings, up to a limit and in any format, in pieces.
+pub(crate) fn print_triples<W: Write>(
     alloc: Global,
     layout: &Layout<'_>,
     given: &[Option<Vec<u8>>; 3],
     format: OutputFormat,
     most: Option<u64>,
-) -> Result<Vec<u8>, ToolFault>
-    ensures ok { IfOk result (λ text. PrintsFound (layout_view layout.now) given.now format most text.items) }
-    ensures err { IfErr result (IsFindFault (layout_view layout.now) given.now format most) }
+    out: &mut Counted<W>,
+) -> Result<(), ToolFault>
+    ensures ok { OnOk result ((text : List ℕ) × PrintsFound (layout_view layout.now) given.now format most text
+        × Appends (W.contents (inner out.old)) (W.contents (inner out.new)) text) }
+    ensures unfailed { OnOk result (failures out.new ≡ failures out.old) }
+    ensures err { IfErr result (λ e. (IsFindFault (layout_view layout.now) given.now format most e
+        × (out.new ≡ out.old))
+        ⊎ ((text : List ℕ) × PrintsFound (layout_view layout.now) given.now format most text
+        × IsCutShort e text (W.contents (inner out.old)) (W.contents (inner out.new))
+        (failures out.old) (failures out.new))) }
 {
     let pattern = find_pattern(layout, given);
-    Ok(layout_triples_text(alloc, layout, pattern, format, most)?)
+    match format {
+        OutputFormat::NTriples => {
+            stream_layout(alloc, layout, pattern, most, out)?;
+            Ok(())
+        }
+        OutputFormat::Numbers => match pattern {
+            Some(pattern) => print_numbers(alloc, layout.search(pattern), most, out),
+            None => Ok(()),
+        },
+        OutputFormat::Count => {
+            let line = number_line(alloc, count_layout_matches(layout, pattern, most))?;
+            write_text(&line, out)
+        }
+    }
+}
+
+/// Writes the text of those of the triples with the given strings that have a line, up to a limit, in pieces. Returns
+/// how many were skipped.
+pub(crate) fn print_kept_triples<W: Write>(
+    alloc: Global,
+    layout: &Layout<'_>,
+    given: &[Option<Vec<u8>>; 3],
+    most: Option<u64>,
+    out: &mut Counted<W>,
+) -> Result<u64, ToolFault>
+    ensures ok { IfOk result (λ n. (text : List ℕ)
+        × PrintsKept (layout_view layout.now) given.now NTriples most text n
+        × Appends (W.contents (inner out.old)) (W.contents (inner out.new)) text) }
+    ensures unfailed { OnOk result (failures out.new ≡ failures out.old) }
+    ensures err { IfErr result (λ e. ((e ≡ ToolFault.OutOfMemory) × (out.new ≡ out.old))
+        ⊎ ((text : List ℕ) × (n : ℕ) × PrintsKept (layout_view layout.now) given.now NTriples most text n
+        × IsCutShort e text (W.contents (inner out.old)) (W.contents (inner out.new))
+        (failures out.old) (failures out.new))) }
+{
+    let pattern = find_pattern(layout, given);
+    Ok(stream_writable(alloc, layout, pattern, most, out)?)
 }
 
 /// The number of a pattern's matches in a graph, up to a limit; 0 without a pattern.

@@ -1,11 +1,10 @@
 //! The output of each command that reads a file and writes none.
-ghost use Rattle.std.specs.Prelude.{◌≡◌, ◌⊎◌, IfOk, IfErr, OnOk};
+ghost use Rattle.std.specs.Prelude.{◌≡◌, ◌↔◌, ◌⊎◌, ℕ, List, IfOk, IfErr, IsTrue, OnOk};
 ghost use Rattle.std.specs.Io.KnownBytes.{Appends};
 ghost use Rattle.hdt_wire.specs.Counted.{inner, failures};
-ghost use Rattle.hdt_tool.specs.Outcomes.{HasRoleStringsWith, IsCutShort, IsFaultOfBytes, Prints, PrintsText};
-ghost use Rattle.hdt_tool.specs.StringsText.{string_lines};
 ghost use Rattle.hdt_tool.specs.TriplesText.{find_format};
-ghost use Rattle.hdt_tool.specs.declared.request.Action.TheVariants as Action;
+ghost use Rattle.hdt_tool.specs.Outcomes.{IsCutShort, IsFaultOfBytes, Prints, PrintsInPieces, PrintsText};
+ghost use Rattle.hdt_tool.specs.Outcomes.{PrintsWithCount};
 
 use crate::counts::count_lines;
 use crate::fault::ToolFault;
@@ -13,31 +12,64 @@ use crate::info::file_info_text;
 use crate::listed_strings::listed_text;
 use crate::printed_reports::{head_text, verdict};
 use crate::printed_strings::{number_text, print_strings, string_text};
-use crate::printed_triples::{check_match, triples_text};
+use crate::printed_triples::{check_match, print_kept_triples, print_triples};
 use crate::request::{Action, OutputFormat};
-use hdt_dict::Role;
 use hdt_file::{Layout, open, read_head, verify, verify_tight};
 use hdt_wire::Counted;
 use std::alloc::Global;
 use std::io::Write;
 
-/// Writes the output of `strings` in pieces.
-pub(crate) fn print_file_strings<W: Write>(
+/// Writes the output of a command that prints in pieces: `strings`, and `find` and `dump`, but for the number of lines
+/// with `--skip-non-terms`. Returns the number of triples that are left out.
+pub(crate) fn print_in_pieces<W: Write>(
     alloc: Global,
+    action: &Action,
     bytes: &[u8],
-    role: Role,
     out: &mut Counted<W>,
-) -> Result<(), ToolFault>
-    ensures ok { OnOk result (HasRoleStringsWith bytes.now role
-        (λ strings. Appends (W.contents (inner out.old)) (W.contents (inner out.new)) (string_lines 1 strings))) }
+) -> Result<u64, ToolFault>
+    requires { PrintsInPieces action.now }
+    ensures ok { IfOk result (λ n. (text : List ℕ) × PrintsWithCount action.now bytes.now text n
+        × Appends (W.contents (inner out.old)) (W.contents (inner out.new)) text) }
     ensures unfailed { OnOk result (failures out.new ≡ failures out.old) }
-    ensures err { IfErr result (λ e. (IsFaultOfBytes (Action.Strings role) bytes.now e × (out.new ≡ out.old))
-        ⊎ HasRoleStringsWith bytes.now role (λ strings.
-        IsCutShort e (string_lines 1 strings) (W.contents (inner out.old)) (W.contents (inner out.new))
+    ensures err { IfErr result (λ e. (IsFaultOfBytes action.now bytes.now e × (out.new ≡ out.old))
+        ⊎ ((text : List ℕ) × Prints action.now bytes.now text
+        × IsCutShort e text (W.contents (inner out.old)) (W.contents (inner out.new))
         (failures out.old) (failures out.new))) }
 {
     let layout = Layout::read(alloc, bytes)?;
-    print_strings(alloc, &layout, role, out)
+    match action {
+        Action::Strings(role) => {
+            print_strings(alloc, &layout, *role, out)?;
+            Ok(0)
+        }
+        Action::Find { given, numbers } => {
+            print_triples(alloc, &layout, given, find_format(*numbers), None, out)?;
+            Ok(0)
+        }
+        Action::Search {
+            given,
+            format,
+            most,
+        } => {
+            print_triples(alloc, &layout, given, *format, *most, out)?;
+            Ok(0)
+        }
+        Action::SkipNonTerms { given, most, .. } => {
+            print_kept_triples(alloc, &layout, given, *most, out)
+        }
+        _ => unreachable!(),
+    }
+}
+
+/// Whether the command prints in pieces.
+pub(crate) fn prints_in_pieces(action: &Action) -> bool
+    ensures { IsTrue result ↔ PrintsInPieces action.now }
+{
+    match action {
+        Action::Strings(_) | Action::Find { .. } | Action::Search { .. } => true,
+        Action::SkipNonTerms { count, .. } => !*count,
+        _ => false,
+    }
 }
 
 /// The format of `find` without `--count`.
@@ -52,7 +84,8 @@ fn find_format(numbers: bool) -> OutputFormat
 }
 
 /// The output of a command that prints one complete text and counts nothing, for the bytes of a file. `answer` without
-/// requests prints nothing, and neither do `lint` and `split`, which have several outputs.
+/// requests prints nothing, and neither do `lint` and `split`, which have several outputs, and `merge`, which has
+/// several inputs.
 pub(crate) fn file_text(alloc: Global, action: &Action, bytes: &[u8]) -> Result<Vec<u8>, ToolFault>
     requires { PrintsText action.now }
     ensures ok { IfOk result (λ text. Prints action.now bytes.now text.items) }
@@ -74,15 +107,6 @@ pub(crate) fn file_text(alloc: Global, action: &Action, bytes: &[u8]) -> Result<
         Action::Number(role, string) => {
             number_text(alloc, &Layout::read(alloc, bytes)?, *role, string)
         }
-        Action::Find { given, numbers } => {
-            let layout = Layout::read(alloc, bytes)?;
-            triples_text(alloc, &layout, given, find_format(*numbers), None)
-        }
-        Action::Search {
-            given,
-            format,
-            most,
-        } => triples_text(alloc, &Layout::read(alloc, bytes)?, given, *format, *most),
         Action::Exists { given } => {
             check_match(&Layout::read(alloc, bytes)?, given)?;
             Ok(Vec::new(alloc))
@@ -95,9 +119,9 @@ pub(crate) fn file_text(alloc: Global, action: &Action, bytes: &[u8]) -> Result<
             Layout::read(alloc, bytes)?;
             Ok(Vec::new(alloc))
         }
-        Action::Lint { .. } | Action::Split(_) => Ok(Vec::new(alloc)),
-        Action::Strings(_) | Action::SkipNonTerms { .. } | Action::VerifyTerms { .. } =>
-            unreachable!(),
+        Action::Lint { .. } | Action::Split(_) | Action::Merge(_) => Ok(Vec::new(alloc)),
+        Action::Strings(_) | Action::Find { .. } | Action::Search { .. } => unreachable!(),
+        Action::SkipNonTerms { .. } | Action::VerifyTerms { .. } => unreachable!(),
         Action::Build(_) | Action::Rewrite(_) => unreachable!(),
     }
 }

@@ -69,6 +69,17 @@ pub struct SplitOptions {
     pub blank_nodes: Option<BlankNodes>,
 }
 
+/// The options of `merge`.
+#[derive(Debug, Drop)]
+pub struct MergeOptions {
+    /// The paths of the files after the first one, which is the file of the request.
+    pub others: Vec<String>,
+    /// The path of the new file.
+    pub out: String,
+    /// The block size and the base of the new file.
+    pub options: Options,
+}
+
 /// A command.
 #[derive(Debug, Drop)]
 pub enum Action {
@@ -157,6 +168,8 @@ pub enum Action {
     Rewrite(u32),
     /// Splits N-Triples documents into parts, by subject.
     Split(SplitOptions),
+    /// Merges files into one, and prints the counts of its parts.
+    Merge(MergeOptions),
 }
 
 /// A command and its files.
@@ -181,13 +194,15 @@ pub enum Progress {
     Off,
 }
 
-/// A request, and how to report progress and errors.
+/// A request, how to report progress and errors, and a limit for documents.
 #[derive(Debug, Drop)]
 pub struct Invocation {
     /// The request.
     pub request: Request,
     /// How progress is reported.
     pub progress: Progress,
+    /// The maximum number of bytes of a line of an N-Triples document, without its end; `None` for no limit.
+    pub longest_line: Option<u64>,
     /// Whether more lines follow an error message.
     pub verbose: bool,
 }

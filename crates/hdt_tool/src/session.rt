@@ -8,6 +8,7 @@ use crate::progress_text::{phase_text, progress_line, reading_text};
 use crate::recent_lines::RecentLines;
 use crate::request::{Action, Invocation, Progress};
 use crate::watched::Watched;
+use hdt_terms::LineFault;
 use std::alloc::AllocError;
 use std::cell::{Cell, RefCell};
 use std::io::{self, Write};
@@ -18,6 +19,41 @@ pub(crate) const REPORT_INTERVAL: u64 = 16 << 20;
 
 /// Removes the progress line.
 const ERASED: &str = "\r\x1b[K";
+
+/// A hint for an input needs at most this number of its first bytes.
+const HINT_BYTES: usize = 16;
+
+/// The first bytes of an input.
+#[derive(Clone, Copy)]
+struct FirstBytes {
+    bytes: [u8; HINT_BYTES],
+    /// How many there are.
+    count: usize,
+}
+
+impl FirstBytes {
+    /// Those of an input of which nothing was read.
+    const NONE: FirstBytes = FirstBytes {
+        bytes: [0; HINT_BYTES],
+        count: 0,
+    };
+
+    /// The same with the bytes of a piece after them, as far as there is room.
+    fn with(self, piece: &[u8]) -> FirstBytes {
+        let FirstBytes {
+            mut bytes,
+            mut count,
+        } = self;
+        'bytes: for &byte in piece {
+            match bytes.get_mut(count) {
+                Some(slot) => *slot = byte,
+                None => return FirstBytes { bytes, count },
+            }
+            count = count.saturating_add(1);
+        }
+        FirstBytes { bytes, count }
+    }
+}
 
 /// What a command does once it has read its input.
 #[derive(Clone, Copy)]
@@ -57,7 +93,14 @@ pub(crate) struct Session<'a> {
     keeps_lines: bool,
     has_line: Cell<bool>,
     has_output: Cell<bool>,
+    /// The greatest number of bytes of a line of a document; `None` for no limit.
+    longest_line: Option<u64>,
+    /// The line that ended the reading of a document because it is longer.
+    long_line: Cell<Option<LineFault>>,
     error: Cell<Option<io::Error>>,
+    first: Cell<FirstBytes>,
+    /// Whether the input was read to its end.
+    has_read: Cell<bool>,
     kept: RefCell<RecentLines>,
 }
 
@@ -119,7 +162,11 @@ impl<'a> Session<'a> {
             keeps_lines: is_verbose && is_read_once(rt, invocation),
             has_line: Cell::new(false),
             has_output: Cell::new(false),
+            longest_line: invocation.longest_line,
+            long_line: Cell::new(None),
             error: Cell::new(None),
+            first: Cell::new(FirstBytes::NONE),
+            has_read: Cell::new(false),
             kept: RefCell::new(RecentLines::new(rt.alloc())),
         }
     }
@@ -132,6 +179,21 @@ impl<'a> Session<'a> {
     /// Whether anything was written to a watched writer.
     pub(crate) fn has_output(&self) -> bool {
         self.has_output.get()
+    }
+
+    /// The greatest number of bytes of a line of a document, without its end; `None` for no limit.
+    pub(crate) fn longest_line(&self) -> Option<u64> {
+        self.longest_line
+    }
+
+    /// The line that ended the reading of a document because it is too long.
+    pub(crate) fn long_line(&self) -> Option<LineFault> {
+        self.long_line.get()
+    }
+
+    /// Remembers a line that is too long.
+    pub(crate) fn note_long_line(&self, fault: LineFault) {
+        self.long_line.set(Some(fault));
     }
 
     /// The system's last error.
@@ -171,14 +233,40 @@ impl<'a> Session<'a> {
         outcome
     }
 
-    /// Keeps what was read of a document that cannot be read again: the first `count` bytes of a buffer.
-    pub(crate) fn keep_input(&self, buffer: &[u8], count: usize) {
-        if !self.keeps_lines {
-            return;
+    /// The first bytes that were read of the input, at most [`HINT_BYTES`].
+    pub(crate) fn first_bytes(&self) -> io::Result<Vec<u8>> {
+        let first = self.first.get();
+        let mut bytes = Vec::new(self.rt.alloc());
+        if let Some(read) = first.bytes.get(..first.count) {
+            bytes.extend_from_slice(read)?;
         }
+        Ok(bytes)
+    }
+
+    /// Forgets the first bytes and the end of the input, since another input follows.
+    pub(crate) fn begin_input(&self) {
+        self.first.set(FirstBytes::NONE);
+        self.has_read.set(false);
+    }
+
+    /// Whether the input was read to its end.
+    pub(crate) fn has_read(&self) -> bool {
+        self.has_read.get()
+    }
+
+    /// Keeps what the lines after an error message need of the first `count` bytes of a buffer: the first bytes of the
+    /// input, and the lines of a document that cannot be read again.
+    pub(crate) fn keep_input(&self, buffer: &[u8], count: usize) {
         let Some(piece) = buffer.get(..count) else {
             return;
         };
+        let first = self.first.get();
+        if first.count < HINT_BYTES {
+            self.first.set(first.with(piece));
+        }
+        if !self.keeps_lines {
+            return;
+        }
         if let Ok(mut kept) = self.kept.try_borrow_mut() {
             kept.push(piece);
         }
@@ -210,8 +298,9 @@ impl<'a> Session<'a> {
         }
     }
 
-    /// Reports that all of the input has been read.
+    /// Notes that all of the input has been read, and reports it.
     pub(crate) fn show_read(&self, read: u64, size: Option<u64>) {
+        self.has_read.set(true);
         match self.progress {
             Progress::Lines => self.print(progress_line(self.rt.alloc(), read, size)),
             _ => self.show_phase(self.phase, read),

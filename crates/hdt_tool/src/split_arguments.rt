@@ -95,7 +95,10 @@ fn owned_texts(alloc: Global, texts: &[&str]) -> Result<Vec<String>, AllocError>
 }
 
 /// The values of PATHS.
-fn owned_paths<'m>(alloc: Global, matches: &ArgMatches<'m>) -> Result<Vec<String>, AllocError>
+pub(crate) fn owned_paths<'m>(
+    alloc: Global,
+    matches: &ArgMatches<'m>,
+) -> Result<Vec<String>, AllocError>
     ensures { IfOk result (λ paths. map string_bytes paths.items ≡ further_paths (rows_of (found_of matches.now))) }
 {
     match matches.get_strs("PATHS") {

@@ -1,7 +1,6 @@
 //! `split` over files and streams.
 ghost use Rattle.std.specs.Prelude.{◌≡◌, ◌≢◌, ◌⊎◌, ◌<◌, ◌^◌, IfOk, MatchResult, length, map, get_or, string_bytes};
-ghost use Rattle.std.specs.List.{range_with_len};
-ghost use Rattle.hdt_tool.specs.Paths.{input_paths, printed_part, printed_to};
+ghost use Rattle.hdt_tool.specs.Paths.{input_paths};
 ghost use Rattle.hdt_tool.specs.ErrorLines.{fault_status};
 ghost use Rattle.hdt_tool.specs.Status.{IsCommandStatus, split_fault_status};
 
@@ -9,16 +8,18 @@ use crate::atomic_replace::{NAME_ATTEMPTS, random_number};
 use crate::error_context::{ErrorSource, print_context};
 use crate::error_lines::{OUT_OF_MEMORY, fault_line};
 use crate::fault::{ToolFault, file_fault, line_fault};
-use crate::files::{Source, move_off_std_streams};
+use crate::files::Source;
+use crate::line_limit::{LineLimit, name_long_split_line};
 use crate::request::{Request, SplitOptions, SplitOutput};
 use crate::session::Session;
+use crate::split_parts::{part_files, printed_parts, publish_folder, remove_folder};
 use crate::splitting::{SplitInputsFault, split_inputs};
 use crate::status::{command_status, print_error_line};
 use hdt_terms::SplitFault;
 use hdt_usage::put_shown;
 use hdt_wire::Counted;
-use std::alloc::{AllocError, Global};
-use std::fs::{self, OpenOptions};
+use std::alloc::AllocError;
+use std::fs;
 use std::io::{self, ErrorKind, Read, Write};
 
 const BLANK_NODES_MESSAGE: &str =
@@ -38,66 +39,22 @@ struct LateInput<'a> {
     rt: &'a HostRuntime,
     session: &'a Session<'a>,
     path: &'a str,
-    opened: Option<Source>,
+    opened: Option<LineLimit<'a, Source>>,
 }
 
 impl Read for LateInput<'_> {
     fn read(&mut self, buf: &mut [u8]) -> io::Result<usize> {
         if self.opened.is_none() {
-            self.opened = Some(self.session.note_error(Source::open(self.rt, self.path))?);
+            self.session.begin_input();
+            let source = self.session.note_error(Source::open(self.rt, self.path))?;
+            self.opened = Some(LineLimit::new(source, self.session));
         }
-        match &mut self.opened {
-            Some(source) => source.read(buf),
-            None => Ok(0),
-        }
-    }
-}
-
-/// A file that is opened for each write, at its end, so that any number of parts needs one descriptor. It is made by
-/// the first write.
-#[derive(Drop)]
-struct PartFile<'a> {
-    rt: &'a HostRuntime,
-    path: String,
-}
-
-impl Write for PartFile<'_> {
-    fn write(&mut self, buf: &[u8]) -> io::Result<usize> {
-        let mut options = OpenOptions::new();
-        options.append(true).create(true);
-        let mut file = move_off_std_streams(options.open(self.rt, self.path.as_str())?)?;
-        file.write(buf)
-    }
-
-    fn flush(&mut self) -> io::Result<()> {
-        Ok(())
-    }
-}
-
-/// A part that is printed, or one that is not.
-#[derive(Drop)]
-struct PrintedPart<W: Write> {
-    /// Where it goes; `None` if nowhere.
-    out: Option<W>,
-}
-
-impl<W: Write> Write for PrintedPart<W> {
-    ghost use Rattle.std.specs.Prelude.{option_and_then};
-
-    ghost contents = { λ part. option_and_then (λ out. W.contents out) part.out };
-
-    fn write(&mut self, buf: &[u8]) -> io::Result<usize> {
-        match &mut self.out {
-            Some(out) => out.write(buf),
-            None => Ok(buf.len()),
-        }
-    }
-
-    fn flush(&mut self) -> io::Result<()> {
-        match &mut self.out {
-            Some(out) => out.flush(),
-            None => Ok(()),
-        }
+        let count = match &mut self.opened {
+            Some(source) => self.session.note_error(source.read(buf))?,
+            None => 0,
+        };
+        self.session.keep_input(buf, count);
+        Ok(count)
     }
 }
 
@@ -141,44 +98,8 @@ fn late_inputs<'a>(
     Ok(inputs)
 }
 
-/// A file for each part, in a folder. None is made yet.
-fn part_files<'a>(
-    rt: &'a HostRuntime,
-    folder: &str,
-    parts: u32,
-) -> Result<Vec<Counted<PartFile<'a>>>, AllocError>
-    ensures { IfOk result (λ files. length files.items ≡ parts) }
-{
-    let mut files = Vec::new(rt.alloc());
-    'parts: for part in 0..parts {
-        let path = format!(in rt.alloc(); "{folder}/part-{part:05}.nt")?;
-        files.push(Counted::new(PartFile { rt, path }))?;
-    }
-    Ok(files)
-}
-
-/// All parts, of which one goes to a writer.
-fn printed_parts<W: Write + Drop>(
-    alloc: Global,
-    part: u32,
-    parts: u32,
-    out: W,
-) -> Result<Vec<Counted<PrintedPart<W>>>, AllocError>
-    ensures len { IfOk result (λ outs. length outs.items ≡ parts) }
-    ensures part { IfOk result
-        (λ outs. map printed_to outs.items ≡ map (printed_part part out) (range_with_len 0 parts)) }
-{
-    let mut outs = Vec::new(alloc);
-    let mut out = Some(out);
-    'parts: for number in 0..parts {
-        let out = if number == part { out.take() } else { None };
-        outs.push(Counted::new(PrintedPart { out }))?;
-    }
-    Ok(outs)
-}
-
 /// The status of an error. Prints its message.
-fn print_fault(rt: &HostRuntime, source: ErrorSource<'_>, fault: ToolFault) -> u8
+pub(crate) fn print_fault(rt: &HostRuntime, source: ErrorSource<'_>, fault: ToolFault) -> u8
     ensures statuses { IsCommandStatus result }
     ensures is { (result ≡ fault_status fault) ⊎ (result ≡ 4) }
 {
@@ -212,8 +133,13 @@ fn print_input_fault(rt: &HostRuntime, source: ErrorSource<'_>, path: &str, faul
     status
 }
 
-/// The status of an error in a line of the input at a path, or of reading it.
-fn print_line_fault(rt: &HostRuntime, source: ErrorSource<'_>, path: &str, fault: &ToolFault) -> u8
+/// The status of an error of the input at a path, or of reading it.
+pub(crate) fn print_line_fault(
+    rt: &HostRuntime,
+    source: ErrorSource<'_>,
+    path: &str,
+    fault: &ToolFault,
+) -> u8
     ensures statuses { IsCommandStatus result }
     ensures is { (result ≡ fault_status fault.now) ⊎ (result ≡ 4) }
 {
@@ -304,6 +230,7 @@ fn split_to<W: Write + Drop>(
         return print_fault(rt, source, ToolFault::BadOptions);
     }
     let outcome = split_inputs(rt.alloc(), options.blank_nodes, inputs, outs.as_mut_slice());
+    let outcome = outcome.map_err(|fault| name_long_split_line(source.session, fault));
     split_status(rt, source, request, options, outcome)
 }
 
@@ -321,12 +248,13 @@ fn make_folder_beside(rt: &HostRuntime, path: &str) -> io::Result<String> {
     Err(io::Error::from(ErrorKind::AlreadyExists))
 }
 
-/// Gives the folder its name if it is complete, or removes it. Returns the status.
+/// Syncs the folder and gives it its name if it is complete, or removes it. Returns the status.
 fn finish_folder(
     rt: &HostRuntime,
     source: ErrorSource<'_>,
     made: &str,
     path: &str,
+    parts: u32,
     status: u8,
 ) -> u8
     requires { IsCommandStatus status }
@@ -335,12 +263,15 @@ fn finish_folder(
 {
     let mut status = status;
     if status == 0 {
-        match fs::rename(rt, made, path) {
+        match source
+            .session
+            .note_error(publish_folder(rt, made, path, parts))
+        {
             Ok(()) => return 0,
             Err(error) => status = print_fault(rt, source, file_fault(&error, ToolFault::Write(0))),
         }
     }
-    let _ = fs::remove_dir_all(rt, made);
+    remove_folder(rt, made, parts);
     status
 }
 
@@ -367,13 +298,13 @@ fn split_to_folder(
         let _ = rt.eprintln(FOLDER_MESSAGE);
         return 2;
     }
-    let made = match make_folder_beside(rt, path) {
+    let made = match source.session.note_error(make_folder_beside(rt, path)) {
         Ok(made) => made,
         Err(error) => return print_fault(rt, source, file_fault(&error, ToolFault::Write(0))),
     };
-    let files = part_files(rt, made.as_str(), options.parts);
+    let files = part_files(rt, source.session, made.as_str(), options.parts);
     let status = split_to(rt, source, request, options, files);
-    finish_folder(rt, source, made.as_str(), path, status)
+    finish_folder(rt, source, made.as_str(), path, options.parts, status)
 }
 
 /// Runs `split`, and returns the status. The folder is made under another name beside it, and renamed once it is
@@ -393,7 +324,8 @@ pub(crate) fn run_split(
             split_to_folder(rt, source, request, options, folder.as_str())
         }
         SplitOutput::Part(part) => {
-            let outs = printed_parts(rt.alloc(), *part, options.parts, io::writer(rt));
+            let out = source.session.watch(io::writer(rt));
+            let outs = printed_parts(rt.alloc(), *part, options.parts, out);
             split_to(rt, source, request, options, outs)
         }
     }

@@ -5,7 +5,7 @@
 //! |---|---|
 //! | 0 | success, or help or an explanation was printed |
 //! | 1 | invalid input, a faulty line, no result, an erroneous answer, or triples left out |
-//! | 2 | invalid arguments or options, or an output that would overwrite an input or an existing FOLDER |
+//! | 2 | invalid arguments or options, an input that is an output, too, or an existing FOLDER |
 //! | 2 | `split`: two inputs have blank nodes, and --blank-nodes is missing |
 //! | 3 | reading or writing failed |
 //! | 4 | out of memory |
@@ -14,7 +14,7 @@ ghost use Rattle.std.specs.Prelude.{string_bytes, ◌≤◌};
 ghost use Rattle.std.specs.IoError.{error_kind};
 ghost use Rattle.std.specs.Vec.Iter.{into_iter_items};
 ghost use Rattle.hdt_wire.specs.Counted.{inner, failures};
-ghost use Rattle.hdt_tool.specs.Outcomes.{HasInputFault, HasOut, InterruptsStrings, IsReadOnly, WritesAndCounts};
+ghost use Rattle.hdt_tool.specs.Outcomes.{HasInputFault, HasOut, InterruptsOutput, IsReadOnly, WritesAndCounts};
 ghost use Rattle.hdt_tool.specs.Outcomes.{IsFaultOfInput, WritesOutputPrefix, WritesWithCount};
 ghost use Rattle.hdt_tool.specs.CommandLine.{IsRefused, IsUsageText, ParsesToInvocation};
 ghost use Rattle.hdt_tool.specs.Dialogue.{AnswersOverFile, AnswersOverFileUntilFault, plain_report};
@@ -22,30 +22,30 @@ ghost use Rattle.hdt_tool.specs.declared.fault.ToolFault.{ToolFault};
 ghost use Rattle.hdt_tool.specs.declared.request.Action.TheVariants as Action;
 ghost use Rattle.hdt_tool.specs.declared.request.AnswerReport.{AnswerReport};
 ghost use Rattle.hdt_tool.specs.ErrorLines.{fault_status};
-ghost use Rattle.hdt_tool.specs.Status.{ExitsWith, IsBuild, IsCommandStatus, IsRefusalStatus, IsReportStatus};
+ghost use Rattle.hdt_tool.specs.Status.{ExitsWith, IsCommandStatus, IsRefusalStatus, IsReportStatus};
 
 use crate::command_line::parse_invocation;
 use crate::commands::{answer_file, print_output};
-use crate::error_context::{ErrorSource, print_context, print_prefix_hint, print_term_context};
+use crate::error_context::{ErrorSource, is_terminal, print_context, print_term_context};
+use crate::error_hints::print_prefix_hint;
 use crate::error_lines::{OUT_OF_MEMORY, fault_line, usage_line};
 use crate::fault::{ToolFault, UsageFault, file_fault};
-use crate::files::{open_input, output_path, would_overwrite};
+use crate::files::{open_input, output_path};
 use crate::lint::lint_path;
+use crate::merging::run_merge;
 use crate::non_term_status::{count_status, skipped_line};
 use crate::output_file::make_file_at;
+use crate::overwriting::{refuse_same_file, same_file};
 use crate::request::{Action, AnswerOptions, AnswerReport, Invocation, Request};
 use crate::session::Session;
 use crate::split_files::run_split;
+use hdt_usage::put_shown;
 use hdt_wire::Counted;
 use std::alloc::{AllocError, Global};
 use std::env::Args;
 use std::io::{self, ErrorKind, Read, Write};
 
 const NOT_UTF8_MESSAGE: &str = "error: an argument is not UTF-8
-
-For more information, try '--help'.";
-
-const SAME_FILE_MESSAGE: &str = "error: IN and OUT are the same file
 
 For more information, try '--help'.";
 
@@ -194,14 +194,15 @@ fn run_query<R: Read, W: Write>(
         ⊎ WritesAndCounts action.now (R.remaining (inner input.old)) (R.remaining (inner input.new))
         (W.contents (inner out.old)) (W.contents (inner out.new)) }
     // Any but 0: nothing was written; or all of the output, and something was counted; or the writer failed once, after
-    // exactly the first n bytes of the output; or `strings` ran out of memory after a prefix of its output.
+    // exactly the first n bytes of the output; or memory ran out after a prefix of output that is
+    // written in pieces.
     ensures stopped { result ≢ 0 → (out.new ≡ out.old)
         ⊎ WritesAndCounts action.now (R.remaining (inner input.old)) (R.remaining (inner input.new))
         (W.contents (inner out.old)) (W.contents (inner out.new))
         ⊎ ((failures out.new ≡ failures out.old + 1) × (n : ℕ)
         × WritesOutputPrefix action.now (R.remaining (inner input.old)) (R.remaining (inner input.new))
         (W.contents (inner out.old)) (W.contents (inner out.new)) n)
-        ⊎ InterruptsStrings action.now (R.remaining (inner input.old)) (R.remaining (inner input.new))
+        ⊎ InterruptsOutput action.now (R.remaining (inner input.old)) (R.remaining (inner input.new))
         (W.contents (inner out.old)) (W.contents (inner out.new)) (failures out.old) (failures out.new) }
 {
     let outcome = print_output(rt.alloc(), action, input, capacity, out);
@@ -218,6 +219,35 @@ fn print_usage_context(rt: &HostRuntime, words: &io::Result<Vec<String>>, fault:
     }
 }
 
+/// Prints the lines of a message to standard error as a terminal shows them: its control characters are escaped.
+fn print_shown(rt: &HostRuntime, message: &str) -> Result<(), AllocError> {
+    let mut text = Vec::new(rt.alloc());
+    'lines: for line in message.split('\n') {
+        put_shown(line.as_bytes(), &mut text)?;
+        text.push(b'\n')?;
+    }
+    let mut errors = rt.stderr();
+    let _ = errors.write_all(&text);
+    Ok(())
+}
+
+/// Prints the message of a usage error, which may quote an argument, and returns its status; 4 if there is no memory
+/// for the message. Control characters of the argument do not reach a terminal.
+fn print_usage_line(rt: &HostRuntime, line: Result<(u8, String), AllocError>) -> u8
+    ensures { MatchResult line (λ said. (result ≡ said.0) ⊎ (result ≡ 4)) (λ _. result ≡ 4) }
+{
+    if !is_terminal(rt) {
+        return print_message(rt, line);
+    }
+    let Ok((status, text)) = line else {
+        return print_error_line(rt, 4, OUT_OF_MEMORY);
+    };
+    match print_shown(rt, text.as_str()) {
+        Ok(()) => status,
+        Err(AllocError) => print_error_line(rt, 4, OUT_OF_MEMORY),
+    }
+}
+
 /// Prints help to standard output, or a usage error to standard error.
 fn refusal_status(rt: &HostRuntime, words: &io::Result<Vec<String>>, fault: UsageFault) -> u8
     ensures { IsRefusalStatus fault result }
@@ -225,20 +255,10 @@ fn refusal_status(rt: &HostRuntime, words: &io::Result<Vec<String>>, fault: Usag
     match fault {
         UsageFault::Help(text) => print_status(rt, rt.println(text.as_str())),
         fault => {
-            let status = print_message(rt, usage_line(rt.alloc(), &fault));
+            let status = print_usage_line(rt, usage_line(rt.alloc(), &fault));
             print_usage_context(rt, words, &fault);
             status
         }
-    }
-}
-
-/// Whether `build` would overwrite, and so lose, the document that it reads. (`rewrite` keeps the graph.)
-fn writes_over_its_input(rt: &HostRuntime, request: &Request, path: &str) -> bool
-    ensures { result ≡ true → IsBuild request.now.action }
-{
-    match &request.action {
-        Action::Build(_) => would_overwrite(rt, path, request.file.as_str()),
-        _ => false,
     }
 }
 
@@ -331,8 +351,8 @@ fn run_answer_on_streams(
 }
 
 /// Runs a command line over the standard streams and returns the exit status: 0 success or help; 1 invalid input, no
-/// result, an erroneous answer, a faulty line, or triples left out; 2 invalid arguments or options, or an output that
-/// would overwrite an input or an existing folder; 3 reading or writing failed; 4 out of memory. `words` are the
+/// result, an erroneous answer, a faulty line, or triples left out; 2 invalid arguments or options, an input that is an
+/// output, too, or an existing folder; 3 reading or writing failed; 4 out of memory. `words` are the
 /// arguments, or the system's error of reading them ([`collect_arguments`]). Cost: that of [`run`](crate::run).
 pub fn process_status(rt: &HostRuntime, words: io::Result<Vec<String>>) -> u8
     ensures ends { result ≤ 4 }
@@ -347,11 +367,11 @@ pub fn process_status(rt: &HostRuntime, words: io::Result<Vec<String>>) -> u8
     let request = &invocation.request;
     let session = Session::new(rt, &invocation);
     let source = ErrorSource::of(&invocation, &session);
+    if let Some(same) = same_file(rt, request) {
+        return refuse_same_file(rt, same);
+    }
     if let Some(path) = &request.out {
         let path = output_path(path.as_str());
-        if writes_over_its_input(rt, request, path) {
-            return print_error_line(rt, 2, SAME_FILE_MESSAGE);
-        }
         return command_status(rt, source, make_file_at(rt, &session, request, path));
     }
     match &request.action {
@@ -362,6 +382,7 @@ pub fn process_status(rt: &HostRuntime, words: io::Result<Vec<String>>) -> u8
             lint_path(rt, source, request.file.as_str(), *keep, *most)
         }
         Action::Split(options) => run_split(rt, source, request, options),
+        Action::Merge(options) => run_merge(rt, source, request, options),
         _ => {
             let input = match open_input(rt, request.file.as_str(), source.session) {
                 Ok(input) => input,

@@ -1,2 +1,2 @@
 mod Shown
-mod Subcommands
+pub mod Simple

@@ -1,20 +1,15 @@
--- The command line of `hdt` for `clap`: one level of commands, each with its arguments, flags and options.
-use Rattle.std.specs.Prelude.{◌≡◌, List, [], ◌∷◌, Some, true, codes, map, pos}
+-- The command line of `hdt` for `clap`: one level of commands, each with its arguments and options.
+use Rattle.std.specs.Prelude.{◌≡◌, List, [], ◌∷◌, ◌++◌, Option, Some, true, codes, map, pos}
 use Rattle.std.specs.Borrow.{Bor}
 use Rattle.clap.specs.Words.{App, Rule, Text, new_app, new_rule, with_rule, with_subcommand}
 use Rattle.clap.specs.declared.builder.action.ArgAction.TheVariants.{SetTrue, Append}
 use Rattle.clap.specs.Lexer.{usize_max}
 use Rattle.clap.specs.declared.builder.value_parser.ValueParser.TheVariants as parser
+use Rattle.hdt_usage.specs.declared.command_rows.Kind.{Kind}
+use Rattle.hdt_usage.specs.declared.command_rows.Kind.TheVariants as kind
+use Rattle.hdt_usage.specs.declared.help.Help.{Help}
 use Rattle.hdt_wire.specs.declared.Role.{Role}
 use Rattle.hdt_wire.specs.declared.Role.TheVariants.{Subject, Predicate, Object}
-
--- A required argument.
-abbrev pub required_arg : Text → Rule
-required_arg id = record (new_rule id) { required = true }
-
--- `--name`, without a value.
-abbrev pub flag_arg : Text → Rule
-flag_arg id = record (new_rule id) { long = Some id; action = Some SetTrue }
 
 -- The names of the roles.
 abbrev pub role_name : Role → Text
@@ -30,207 +25,160 @@ Names = Bor (List (Bor Text))
 abbrev pub AreRoles : Names → Type 0
 AreRoles names = map (λ name. name.now) names.now ≡ role_name Subject ∷ role_name Predicate ∷ role_name Object ∷ []
 
--- ROLE: one of the names of the roles.
-abbrev pub role_arg : Names → Rule
-role_arg names = record (required_arg (codes "ROLE")) { parser = Some (parser.Names names) }
+-- What is specified of a row of an argument: its name, what it takes, and its default.
+abbrev pub Argument : Type 0
+Argument = Text × Kind × Text
 
--- N: a number below 2^64.
-abbrev pub number_arg : Rule
-number_arg = record (required_arg (codes "N")) { parser = Some (parser.Unsigned 0 18446744073709551615) }
+abbrev pub argument_of : Bor Text × Kind × Bor Text × Bor Text × Help → Argument
+argument_of row = (row.0.now, row.1, row.3.now)
 
--- `--verbose`
-abbrev pub verbose_flag : Rule
-verbose_flag = flag_arg (codes "verbose")
+-- What is specified of a row of a command: its name, and its arguments.
+abbrev pub CommandRow : Type 0
+CommandRow = Text × List Argument
 
--- `--no-progress`
-abbrev pub no_progress_flag : Rule
-no_progress_flag = flag_arg (codes "no-progress")
+abbrev pub command_of : Bor Text × Help × Help × Option Help × Bor (List (Bor Text × Kind × Bor Text × Bor Text × Help))
+    → CommandRow
+command_of row = (row.0.now, map argument_of row.4.now)
 
--- A command with the argument FILE, `--verbose` and `--no-progress`.
-abbrev pub file_command : Text → App
-file_command name = with_rule (with_rule (with_rule (new_app name) (required_arg (codes "FILE"))) verbose_flag)
-    no_progress_flag
+-- Rows of arguments: of a kind, and those of several commands.
+abbrev pub required_row : Text → Argument
+required_row id = (id, kind.Required, [])
 
--- `head FILE`
-abbrev pub head_command : App
-head_command = file_command (codes "head")
+abbrev pub flag_row : Text → Argument
+flag_row id = (id, kind.Flag, [])
 
--- `--progress`
-abbrev pub progress_flag : Rule
-progress_flag = flag_arg (codes "progress")
+abbrev pub text_row : Text → Argument
+text_row id = (id, kind.Text, [])
 
--- `verify FILE`, with `--tight`, `--terms` and `--progress`
-abbrev pub verify_command : App
-verify_command = with_rule
-    (with_rule (with_rule (file_command (codes "verify")) (flag_arg (codes "tight"))) (flag_arg (codes "terms")))
-    progress_flag
+abbrev pub limit_row : Text → Argument
+limit_row id = (id, kind.Limit, [])
 
--- `info FILE`, with `--json`
-abbrev pub info_command : App
-info_command = with_rule (file_command (codes "info")) (flag_arg (codes "json"))
+abbrev pub role_row : Argument
+role_row = (codes "ROLE", kind.Role, [])
 
--- `--name TEXT`: a text; no default.
-abbrev pub text_option : Text → Rule
-text_option id = record (new_rule id) { long = Some id; value_names = 1 }
+abbrev pub first_input_row : Argument
+first_input_row = (codes "FILE", kind.Shown, [])
 
--- `strings FILE ROLE`, with `--prefix` and `--terms`
-abbrev pub strings_command : Names → App
-strings_command names =
-    with_rule (with_rule (with_rule (file_command (codes "strings")) (role_arg names)) (text_option (codes "prefix")))
-    (flag_arg (codes "terms"))
+abbrev pub verbose_row : Argument
+verbose_row = flag_row (codes "verbose")
 
--- `string FILE ROLE N`
-abbrev pub string_command : Names → App
-string_command names = with_rule (with_rule (file_command (codes "string")) (role_arg names)) number_arg
+abbrev pub progress_row : Argument
+progress_row = flag_row (codes "progress")
 
--- `number FILE ROLE TERM`, with `--raw`
-abbrev pub number_command : Names → App
-number_command names =
-    with_rule (with_rule (with_rule (file_command (codes "number")) (role_arg names)) (required_arg (codes "TERM")))
-    (flag_arg (codes "raw"))
+abbrev pub longest_line_row : Argument
+longest_line_row = limit_row (codes "longest-line")
 
--- `--name N`: a number below 2^64; no default.
-abbrev pub limit_option : Text → Rule
-limit_option id = record (new_rule id) {
-  long = Some id;
-  value_names = 1;
-  parser =
-      Some (parser.Unsigned 0 18446744073709551615);
-}
+abbrev pub block_size_row : Argument
+block_size_row = (codes "block-size", kind.NumberWithDefault, codes "16")
 
--- `--most N`
-abbrev pub most_option : Rule
-most_option = limit_option (codes "most")
+abbrev pub base_row : Argument
+base_row = (codes "base", kind.TextWithDefault, codes "http://example.org/dataset")
 
--- `--skip-non-terms`
-abbrev pub skip_flag : Rule
-skip_flag = flag_arg (codes "skip-non-terms")
+abbrev pub longest_request_row : Argument
+longest_request_row = (codes "longest-request", kind.NumberWithDefault, codes "1048576")
 
--- `count FILE ROLE`, with `--top` and `--raw`
-abbrev pub count_command : Names → App
-count_command names =
-    with_rule (with_rule (with_rule (file_command (codes "count")) (role_arg names)) (limit_option (codes "top")))
-    (flag_arg (codes "raw"))
+abbrev pub pattern_rows : List Argument
+pattern_rows = required_row (codes "S") ∷ required_row (codes "P") ∷ required_row (codes "O") ∷ []
 
--- `find FILE S P O`
-abbrev pub find_pattern_command : App
-find_pattern_command =
-    with_rule (with_rule (with_rule (file_command (codes "find")) (required_arg (codes "S")))
-    (required_arg (codes "P"))) (required_arg (codes "O"))
+abbrev pub format_rows : List Argument
+format_rows = flag_row (codes "raw") ∷ flag_row (codes "numbers") ∷ flag_row (codes "count") ∷ []
 
--- `find FILE S P O`, with `--raw`, `--numbers`, `--count`, `--quiet`, `--skip-non-terms` and `--most`
-abbrev pub find_command : App
-find_command =
-    with_rule (with_rule (with_rule
-    (with_rule (with_rule (with_rule find_pattern_command (flag_arg (codes "raw"))) (flag_arg (codes "numbers")))
-    (flag_arg (codes "count"))) (flag_arg (codes "quiet"))) skip_flag) most_option
+abbrev pub skip_and_most_rows : List Argument
+skip_and_most_rows = flag_row (codes "skip-non-terms") ∷ limit_row (codes "most") ∷ []
 
--- `dump FILE`, with `--skip-non-terms`
-abbrev pub dump_command : App
-dump_command = with_rule (file_command (codes "dump")) skip_flag
+abbrev pub paths_row : Argument
+paths_row = (codes "PATHS", kind.Paths, [])
 
--- `--name VALUE`, with a default.
-abbrev pub option_arg : Text → Text → Rule
-option_arg id value = record (new_rule id) { long = Some id; value_names = 1; defaults = value ∷ [] }
+abbrev pub line_rows : List Argument
+line_rows = longest_line_row ∷ verbose_row ∷ []
 
--- `--base IRI`
-abbrev pub base_option : Rule
-base_option = option_arg (codes "base") (codes "http://example.org/dataset")
+abbrev pub split_rows : List Argument
+split_rows = limit_row (codes "parts") ∷ text_row (codes "of") ∷ text_row (codes "blank-nodes") ∷ line_rows
 
--- `--block-size N`: a number below 2^32.
-abbrev pub block_size_option : Rule
-block_size_option = record (option_arg (codes "block-size") (codes "16")) {
-  parser =
-      Some (parser.Signed (pos 0) (pos 4294967295));
-}
+abbrev pub merge_rows : List Argument
+merge_rows = verbose_row ∷ flag_row (codes "no-progress") ∷ base_row ∷ block_size_row ∷ progress_row ∷ []
 
--- `--longest-request N`: a number below 2^32.
-abbrev pub longest_request_option : Rule
-longest_request_option = record (option_arg (codes "longest-request") (codes "1048576")) {
-  parser =
-      Some (parser.Signed (pos 0) (pos 4294967295));
-}
+-- A command that reads FILE, with these arguments too.
+abbrev pub file_command : Text → List Argument → CommandRow
+file_command name rest = (name, required_row (codes "FILE") ∷ verbose_row ∷ flag_row (codes "no-progress") ∷ rest)
 
--- `answer FILE`, with `--raw`, `--numbers`, `--count`, `--skip-non-terms`, `--most` and `--longest-request`
-abbrev pub answer_command : App
-answer_command =
-    with_rule (with_rule (with_rule
-    (with_rule (with_rule (with_rule (file_command (codes "answer")) (flag_arg (codes "raw")))
-    (flag_arg (codes "numbers")))
-    (flag_arg (codes "count"))) skip_flag) most_option) longest_request_option
+-- A command that reads IN and writes OUT, with these arguments too.
+abbrev pub in_out_command : Text → List Argument → CommandRow
+in_out_command name rest =
+    (name, required_row (codes "IN") ∷ required_row (codes "OUT") ∷ verbose_row ∷ flag_row (codes "no-progress") ∷ rest)
 
--- A command that writes a file, with the arguments IN and OUT, `--verbose` and `--no-progress`.
-abbrev pub in_out_command : Text → App
-in_out_command name =
-    with_rule (with_rule (with_rule (with_rule (new_app name) (required_arg (codes "IN"))) (required_arg (codes "OUT")))
-    verbose_flag) no_progress_flag
+-- The commands with their arguments, in order.
+unfoldable pub commands : List CommandRow
+commands = file_command (codes "head") []
+    ∷ file_command (codes "verify") (flag_row (codes "tight") ∷ flag_row (codes "terms") ∷ progress_row ∷ [])
+    ∷ file_command (codes "info") (flag_row (codes "json") ∷ [])
+    ∷ file_command (codes "strings") (role_row ∷ text_row (codes "prefix") ∷ flag_row (codes "terms") ∷ [])
+    ∷ file_command (codes "string") (role_row ∷ (codes "N", kind.Number, []) ∷ [])
+    ∷ file_command (codes "number") (role_row ∷ required_row (codes "TERM") ∷ flag_row (codes "raw") ∷ [])
+    ∷ file_command (codes "find") (pattern_rows ++ format_rows ++ flag_row (codes "quiet") ∷ skip_and_most_rows)
+    ∷ file_command (codes "answer") (format_rows ++ skip_and_most_rows ++ longest_request_row ∷ [])
+    ∷ file_command (codes "dump") (flag_row (codes "skip-non-terms") ∷ [])
+    ∷ file_command (codes "count") (role_row ∷ limit_row (codes "top") ∷ flag_row (codes "raw") ∷ [])
+    ∷ in_out_command (codes "build") (base_row ∷ block_size_row ∷ longest_line_row ∷ progress_row ∷ [])
+    ∷ in_out_command (codes "rewrite") (block_size_row ∷ progress_row ∷ [])
+    ∷ (codes "merge", required_row (codes "FILE") ∷ paths_row ∷ merge_rows)
+    ∷ (codes "lint", first_input_row ∷ flag_row (codes "keep") ∷ limit_row (codes "most") ∷ line_rows)
+    ∷ (codes "split", first_input_row ∷ paths_row ∷ split_rows)
+    ∷ (codes "explain", required_row (codes "REASON") ∷ [])
+    ∷ []
 
--- `build IN OUT`, with `--base`, `--block-size` and `--progress`
-abbrev pub build_command : App
-build_command = with_rule (with_rule (with_rule (in_out_command (codes "build")) base_option) block_size_option)
-    progress_flag
+-- A required argument.
+abbrev pub required_arg : Text → Rule
+required_arg id = record (new_rule id) { required = true }
 
--- `rewrite IN OUT`, with `--block-size` and `--progress`
-abbrev pub rewrite_command : App
-rewrite_command = with_rule (with_rule (in_out_command (codes "rewrite")) block_size_option) progress_flag
+-- An option with a value.
+abbrev pub option_arg : Text → Rule
+option_arg id = record (new_rule id) { long = Some id; value_names = 1 }
 
--- IN: the required argument FILE, shown as IN.
-abbrev pub first_input_arg : Rule
-first_input_arg = record (required_arg (codes "FILE")) { value_names = 1 }
-
--- `lint IN`, with `--keep` and `--most`
-abbrev pub lint_command : App
-lint_command = with_rule (with_rule
-    (with_rule (with_rule (new_app (codes "lint")) first_input_arg) (flag_arg (codes "keep"))) most_option) verbose_flag
-
--- `explain REASON`
-abbrev pub explain_command : App
-explain_command = with_rule (new_app (codes "explain")) (required_arg (codes "REASON"))
-
--- PATHS: any number of texts, none too.
-abbrev pub paths_arg : Rule
-paths_arg = record (new_rule (codes "PATHS")) {
+-- What `clap` accepts for an argument with this name and default.
+abbrev pub kind_rule : Names → Kind → Text → Text → Rule
+kind_rule names kind.Required id value = required_arg id
+kind_rule names kind.Shown id value = record (required_arg id) { value_names = 1 }
+kind_rule names kind.Role id value = record (required_arg id) { parser = Some (parser.Names names) }
+kind_rule names kind.Number id value =
+    record (required_arg id) { parser = Some (parser.Unsigned 0 18446744073709551615) }
+kind_rule names kind.Paths id value = record (new_rule id) {
   action = Some Append;
   range =
       Some (record { start_inclusive = 0; end_inclusive = usize_max });
 }
+kind_rule names kind.Flag id value = record (new_rule id) { long = Some id; action = Some SetTrue }
+kind_rule names kind.Text id value = option_arg id
+kind_rule names kind.Limit id value = record (option_arg id) { parser = Some (parser.Unsigned 0 18446744073709551615) }
+kind_rule names kind.TextWithDefault id value = record (option_arg id) { defaults = value ∷ [] }
+kind_rule names kind.NumberWithDefault id value = record (option_arg id) {
+  defaults = value ∷ [];
+  parser =
+      Some (parser.Signed (pos 0) (pos 4294967295));
+}
 
--- `split IN PATHS`
-abbrev pub split_paths_command : App
-split_paths_command = with_rule (with_rule (new_app (codes "split")) first_input_arg) paths_arg
+abbrev pub argument_rule : Names → Argument → Rule
+argument_rule names a = kind_rule names a.1 a.0 a.2
 
--- `split IN PATHS`, with `--parts`, `--of` and `--blank-nodes`
-abbrev pub split_command : App
-split_command =
-    with_rule (with_rule (with_rule (with_rule split_paths_command (limit_option (codes "parts")))
-    (text_option (codes "of")))
-    (text_option (codes "blank-nodes"))) verbose_flag
+-- The command with these arguments too, in order.
+abbrev pub with_arguments : Names → App → List Argument → App
+with_arguments names app [] = app
+with_arguments names app (a ∷ rest) = with_arguments names (with_rule app (argument_rule names a)) rest
+
+-- The command of a row.
+abbrev pub command_app : Names → CommandRow → App
+command_app names row = with_arguments names (new_app row.0) row.1
+
+-- The program with these commands too, in order.
+abbrev pub with_commands : Names → App → List CommandRow → App
+with_commands names app [] = app
+with_commands names app (row ∷ rows) = with_commands names (with_subcommand app (command_app names row).top) rows
 
 -- The program without commands. It requires a command or `--version`.
 abbrev pub empty_program : App
 empty_program = let app = new_app (codes "hdt") in
     record app { top = record app.top { subcommand_required = true; has_version = true } }
 
--- The program with its commands, added in groups.
-abbrev pub file_commands : App
-file_commands = with_subcommand (with_subcommand (with_subcommand empty_program head_command.top) verify_command.top)
-    info_command.top
-
-abbrev pub lookup_commands : Names → App
-lookup_commands names = with_subcommand
-    (with_subcommand (with_subcommand file_commands (strings_command names).top) (string_command names).top)
-    (number_command names).top
-
-abbrev pub triple_commands : Names → App
-triple_commands names = with_subcommand
-    (with_subcommand (with_subcommand (lookup_commands names) find_command.top) answer_command.top) dump_command.top
-
-abbrev pub writing_commands : Names → App
-writing_commands names = with_subcommand
-    (with_subcommand (with_subcommand (triple_commands names) (count_command names).top) build_command.top)
-    rewrite_command.top
-
+-- The program with its commands.
 abbrev pub table : Names → App
-table names =
-    with_subcommand (with_subcommand (with_subcommand (writing_commands names) lint_command.top) split_command.top)
-    explain_command.top
+table names = with_commands names empty_program commands

@@ -30,6 +30,7 @@ prefix_hint prefix = if slice_index prefix 0 == 60 then codes
 -- What to do about an argument that is not an N-Triples term: nothing is known of one that begins as a term does.
 abbrev pub term_hint : List ℕ → List ℕ
 term_hint term = if begins_as_term term then []
+    else if slice_index term 0 == 63 then codes "any term is written ?, without a name: '?'"
     else if list_any (λ b. nat_eq b 58) term then codes
     "an IRI is written between < and >, in single quotes: '<http://example.org/a>'"
     else if begins_as_number term then codes

@@ -13,12 +13,14 @@ Exit status:
   1  invalid input, with the first error and its position on standard error; no triples to build
      from; no such term or ID; a string that has no form in N-Triples; an invalid request of
      `answer`; a faulty line for `lint`
-  2  usage error, or `build` or `lint` would write to its input
+  2  usage error, or the command would write to a file that it reads
   3  reading or writing failed; a closed pipe is a failed write
   4  out of memory
 
 After an error message more lines follow, indented, if standard error is a terminal or with
 --verbose: the path, the place and the system's reason, the line, the error's meaning, and hints.
+Otherwise at most one does: the path and the system's reason if reading or writing failed, or a
+hint if the input begins as a file of another kind.
 
 If standard error is a terminal, a command shows its progress in one line once it has read 16 MiB.
 The line is removed at the end. --no-progress turns it off; --progress prints lines for a log.
@@ -26,17 +28,100 @@ The line is removed at the end. --no-progress turns it off; --progress prints li
 Beyond a limit on file size (ulimit -f) the system ends the program by the signal SIGXFSZ.
 If that signal is ignored, writing fails.";
 
-pub(crate) const HEAD_ABOUT: &str = "Print a file's head: formats, properties and header";
+pub(crate) const BASE: &str = "http://example.org/dataset";
 
-pub(crate) const HEAD_LONG_ABOUT: &str = "Print the head of an HDT file.
+/// A text of help. (The table of commands has these names: with the texts it would be too large to prove.)
+#[derive(Clone, Copy)]
+pub(crate) enum Help {
+    HeadAbout,
+    HeadLongAbout,
+    VerifyAbout,
+    VerifyLongAbout,
+    Tight,
+    NonTerms,
+    Progress,
+    NoProgress,
+    InfoAbout,
+    InfoLongAbout,
+    Json,
+    StringsAbout,
+    StringsLongAbout,
+    Prefix,
+    Terms,
+    StringAbout,
+    NumberAbout,
+    NumberLongAbout,
+    CountAbout,
+    CountLongAbout,
+    FindAbout,
+    FindLongAbout,
+    AnswerAbout,
+    AnswerLongAbout,
+    RawRequests,
+    LongestRequest,
+    LongestLine,
+    DumpAbout,
+    DumpLongAbout,
+    BuildAbout,
+    BuildLongAbout,
+    RewriteAbout,
+    RewriteLongAbout,
+    MergeAbout,
+    MergeUsage,
+    MergeLongAbout,
+    MergeFile,
+    MergePaths,
+    LintAbout,
+    LintLongAbout,
+    Keep,
+    MostFaulty,
+    SplitAbout,
+    SplitUsage,
+    SplitLongAbout,
+    SplitIn,
+    SplitPaths,
+    SplitParts,
+    SplitOf,
+    SplitBlankNodes,
+    ExplainAbout,
+    ExplainLongAbout,
+    Reason,
+    Verbose,
+    In,
+    Out,
+    Base,
+    BlockSize,
+    File,
+    ServedFile,
+    Role,
+    Number,
+    Term,
+    Raw,
+    RawStrings,
+    Top,
+    Subject,
+    Predicate,
+    Object,
+    RawParts,
+    Numbers,
+    Count,
+    Quiet,
+    Skip,
+    Most,
+}
+
+impl Help {
+    /// The text.
+    pub(crate) fn text(self) -> &'static str {
+        match self {
+            Help::HeadAbout => "Print a file's head: formats, properties and header",
+            Help::HeadLongAbout => "Print the head of an HDT file.
 
 Five lines have the format and the properties of the file, those of its header, and the length
 of the header in bytes. The header itself follows: N-Triples about the graph. Nothing after the
-header is read, so this also works for a file that is cut off there.";
-
-pub(crate) const VERIFY_ABOUT: &str = "Verify a file, and count its triples and strings";
-
-pub(crate) const VERIFY_LONG_ABOUT: &str = "Verify a file.
+header is read, so this also works for a file that is cut off there.",
+            Help::VerifyAbout => "Verify a file, and count its triples and strings",
+            Help::VerifyLongAbout => "Verify a file.
 
 For a valid file, print `ok` and five counts: the triples, then the strings of the sections
 shared, subjects, predicates and objects. Otherwise report the first error and its byte offset.
@@ -46,19 +131,13 @@ of its section. `rewrite` leaves such strings out.
 With --terms, print a line for each string of a valid file that is not a term of its role, which
 has no form in N-Triples: its role, its ID and its byte offset, separated by tabs. A string of
 the section shared is a subject and an object. If there is a line, the exit status is 1, and if
-there is none, `ok` and the counts are printed.";
-
-pub(crate) const TIGHT_HELP: &str = "Also reject strings that no triple uses";
-
-pub(crate) const NON_TERMS_HELP: &str = "Print the strings that are not terms of their role";
-
-pub(crate) const PROGRESS_HELP: &str = "Report the bytes read in lines on standard error";
-
-pub(crate) const NO_PROGRESS_HELP: &str = "Show no progress on a terminal";
-
-pub(crate) const INFO_ABOUT: &str = "Print the sizes of the parts of a file";
-
-pub(crate) const INFO_LONG_ABOUT: &str = "Print the sizes of the parts of a file.
+there is none, `ok` and the counts are printed.",
+            Help::Tight => "Also reject strings that no triple uses",
+            Help::NonTerms => "Print the strings that are not terms of their role",
+            Help::Progress => "Report the bytes read in lines on standard error",
+            Help::NoProgress => "Show no progress on a terminal",
+            Help::InfoAbout => "Print the sizes of the parts of a file",
+            Help::InfoLongAbout => "Print the sizes of the parts of a file.
 
 One line per value: its name, a tab, the value. With --json, one object with the same names.
 
@@ -73,13 +152,10 @@ sequences that encode the triples.
 `rewrite` with the block size of the predicates would write the same bytes. With --json both are
 true or false.
 
-If the file is not valid, report the first error, as `verify` does.";
-
-pub(crate) const JSON_HELP: &str = "Print one JSON object";
-
-pub(crate) const STRINGS_ABOUT: &str = "Print all strings of a role with their IDs";
-
-pub(crate) const STRINGS_LONG_ABOUT: &str = "Print all strings of a role with their IDs.
+If the file is not valid, report the first error, as `verify` does.",
+            Help::Json => "Print one JSON object",
+            Help::StringsAbout => "Print all strings of a role with their IDs",
+            Help::StringsLongAbout => "Print all strings of a role with their IDs.
 
 One line per string: the ID, a tab, the string. IDs count from 1. In a string \\, a line feed
 and a carriage return are printed as \\\\, \\n and \\r.
@@ -87,34 +163,25 @@ and a carriage return are printed as \\\\, \\n and \\r.
 With --prefix STR only the strings that begin with STR are printed. A search finds them. STR is
 the start of a dictionary string: of an IRI without brackets, or of a literal with its first
 quotation mark. With --terms each line is the N-Triples term of a string and nothing else, ready
-for `find`. If a string has no form in N-Triples, nothing is printed and the exit status is 1.";
-
-pub(crate) const PREFIX_HELP: &str = "Print the strings that begin with STR only";
-
-pub(crate) const TERMS_HELP: &str = "Print N-Triples terms, without IDs";
-
-pub(crate) const STRING_ABOUT: &str = "Print the string of a role that has an ID";
-
-pub(crate) const NUMBER_ABOUT: &str = "Print the ID of a term in a role";
-
-pub(crate) const NUMBER_LONG_ABOUT: &str = "Print the ID of a term in a role.
+for `find`. If a string has no form in N-Triples, nothing is printed and the exit status is 1.",
+            Help::Prefix => "Print the strings that begin with STR only",
+            Help::Terms => "Print N-Triples terms, without IDs",
+            Help::StringAbout => "Print the string of a role that has an ID",
+            Help::NumberAbout => "Print the ID of a term in a role",
+            Help::NumberLongAbout => "Print the ID of a term in a role.
 
 TERM is an N-Triples term: <http://example.org/a>, _:b or '\"text\"@en'. With --raw it is a
-dictionary string: an IRI without brackets, a literal without escapes.";
-
-pub(crate) const COUNT_ABOUT: &str = "Count the triples of each term of a role";
-
-pub(crate) const COUNT_LONG_ABOUT: &str = "Count the triples of each term of a role.
+dictionary string: an IRI without brackets, a literal without escapes.",
+            Help::CountAbout => "Count the triples of each term of a role",
+            Help::CountLongAbout => "Count the triples of each term of a role.
 
 One line per term: the number of its triples, a tab, and the term in N-Triples, in the order of
 the IDs. With --top N only the N most frequent terms are printed, the most frequent first, and of
 terms with as many triples the one with the smaller ID first. With --raw the dictionary strings
 are printed, also those that are not terms; \\, a line feed and a carriage return in a string
-are printed as \\\\, \\n and \\r.";
-
-pub(crate) const FIND_ABOUT: &str = "Print the triples that have the given terms";
-
-pub(crate) const FIND_LONG_ABOUT: &str = "Print the triples that have the given terms.
+are printed as \\\\, \\n and \\r.",
+            Help::FindAbout => "Print the triples that have the given terms",
+            Help::FindLongAbout => "Print the triples that have the given terms.
 
 S, P and O are subject, predicate and object: each an N-Triples term, as
 <http://example.org/a>, _:b or '\"text\"@en', or ? for any. The matching triples are printed as
@@ -133,11 +200,9 @@ standard error, and the exit status 1 if there are any. With --most N it is that
 before the end of the N lines. It has no effect with --numbers.
 
 With --quiet nothing is printed. The exit status is 0 if a triple matches and 1 if none does. The
-search stops at the first match, so --numbers, --count and --most have no effect.";
-
-pub(crate) const ANSWER_ABOUT: &str = "Answer requests for triples from standard input";
-
-pub(crate) const ANSWER_LONG_ABOUT: &str = "Answer requests for triples from standard input.
+search stops at the first match, so --numbers, --count and --most have no effect.",
+            Help::AnswerAbout => "Answer requests for triples from standard input",
+            Help::AnswerLongAbout => "Answer requests for triples from standard input.
 
 FILE is opened once. Then each line of standard input is a request: subject, predicate and
 object, each an N-Triples term or ? for any, with or without a full stop. Its answer is what
@@ -155,42 +220,39 @@ are answered, and the exit status at the end is 1.
 
 With --skip-non-terms triples with a string that has no form in N-Triples are left out. The number
 of the triples left out of all answers is on standard error at the end, and the exit status 1 if
-there are any. It has no effect with --numbers.";
-
-pub(crate) const RAW_REQUESTS_HELP: &str = "Take the terms of requests as dictionary strings";
-
-pub(crate) const LONGEST_REQUEST_HELP: &str = "Reject request lines of more than N bytes";
-
-pub(crate) const DUMP_ABOUT: &str = "Print all triples";
-
-pub(crate) const DUMP_LONG_ABOUT: &str =
-    "Print all triples in N-Triples, one line each, in the order of the file.
+there are any. It has no effect with --numbers.",
+            Help::RawRequests => "Take the terms of requests as dictionary strings",
+            Help::LongestRequest => "Reject request lines of more than N bytes",
+            Help::LongestLine => "Reject lines of more than N bytes",
+            Help::DumpAbout => "Print all triples",
+            Help::DumpLongAbout =>
+                "Print all triples in N-Triples, one line each, in the order of the file.
 
 If a string has no form in N-Triples, nothing is printed and the exit status is 1. With
 --skip-non-terms its triples are left out; their number is on standard error, and the exit status
-is 1 if there are any.";
-
-pub(crate) const BUILD_ABOUT: &str = "Build a file from N-Triples";
-
-pub(crate) const BUILD_LONG_ABOUT: &str = "Build an HDT file from N-Triples.
+is 1 if there are any.",
+            Help::BuildAbout => "Build a file from N-Triples",
+            Help::BuildLongAbout => "Build an HDT file from N-Triples.
 
 The order of the lines, duplicates and comments make no difference: equal graphs give equal
 files, byte for byte. On success, print `built` and six counts: the triples, the strings of the
 sections shared, subjects, predicates and objects, and the bytes of the file.
 
+With --longest-line N a line of more than N bytes, without its end, is an error, TooLong. It is
+found in the memory of a line of N bytes, however long it is.
+
 OUT must not be IN. OUT is replaced atomically: a temporary file in the same directory, which
-only its owner can open, is written and synced, gets OUT's permissions and is renamed. On failure
+only its owner can open, is written and synced, gets OUT's permissions and group, and is renamed.
+If you may not give it the group, group and others get the permissions that both had. On failure
 OUT is unchanged. A killed program may leave hdt-unfinished- and 16 digits: remove it. If OUT is
 not a regular file, it is opened and written.
 
 If OUT is - or the file or pipe of standard output, the file goes there, after what is already
 written there, and the line of counts to standard error. If that goes there too, the line is not
-printed.";
-
-pub(crate) const REWRITE_ABOUT: &str = "Write a file again in canonical form";
-
-pub(crate) const REWRITE_LONG_ABOUT: &str =
-    "Write an HDT file again, as the canonical file of its triples.
+printed.",
+            Help::RewriteAbout => "Write a file again in canonical form",
+            Help::RewriteLongAbout =>
+                "Write an HDT file again, as the canonical file of its triples.
 
 The header stays the same, byte for byte. Strings that no triple uses are left out, so the IDs of
 strings and the order of triples may change; the triples are the same. A file from `build` is its
@@ -199,38 +261,60 @@ triples, the strings of the sections shared, subjects, predicates and objects, a
 the file.
 
 IN may be OUT. OUT is replaced atomically: a temporary file in the same directory, which only its
-owner can open, is written and synced, gets OUT's permissions and is renamed. On failure OUT is
+owner can open, is written and synced, gets OUT's permissions and group, and is renamed. If you
+may not give it the group, group and others get the permissions that both had. On failure OUT is
 unchanged. A killed program may leave hdt-unfinished- and 16 digits: remove it. If OUT is not a
 regular file, it is opened and written.
 
 If OUT is - or the file or pipe of standard output, the file goes there, after what is already
 written there, and the line of counts to standard error. If that goes there too, the line is not
-printed.";
+printed.",
+            Help::MergeAbout => "Merge files into one",
+            Help::MergeUsage => "hdt merge [OPTIONS] <FILE>... <OUT>",
+            Help::MergeLongAbout =>
+                "Merge HDT files into one, the canonical file of all their triples.
 
-pub(crate) const LINT_ABOUT: &str = "Report every faulty line of N-Triples";
+A blank node label is the same node in all files. Equal triples are one triple, and the order of
+the files makes no difference: `build` makes the same file from the triples of all files, with
+the same --base and --block-size. Strings that no triple uses are left out, and so are the
+headers of the files: the new header is that of `build`. On success, print `merged` and six
+counts: the triples, the strings of the sections shared, subjects, predicates and objects, and
+the bytes of the file.
 
-pub(crate) const LINT_LONG_ABOUT: &str = "Report every faulty line of N-Triples.
+The last path is OUT. OUT may be one of the files: it is replaced when the new file is complete.
+OUT is replaced atomically: a temporary file in the same directory, which only its owner can open,
+is written and synced, gets OUT's permissions and group, and is renamed. If you may not give it
+the group, group and others get the permissions that both had. On failure OUT is unchanged. A
+killed program may leave hdt-unfinished- and 16 digits: remove it. If OUT is not a regular file,
+it is opened and written.
+
+If OUT is - or the file or pipe of standard output, the file goes there, after what is already
+written there, and the line of counts to standard error. If that goes there too, the line is not
+printed.
+
+An error message has the path of its file. Memory: each distinct string once, decoded, and some 50
+bytes more; 24 bytes for each triple of each file; one file at a time; and the new file.",
+            Help::MergeFile => "Path of an HDT file to read, or - for standard input",
+            Help::MergePaths => "Paths of further HDT files to read, and of OUT",
+            Help::LintAbout => "Report every faulty line of N-Triples",
+            Help::LintLongAbout => "Report every faulty line of N-Triples.
 
 One line per faulty line: `line L column C: N NAME`, with its number, the column of its first
 error in bytes, both from 1, and the number and the name of the reason, as `explain` takes them.
 The exit status is 1 if there are any, else 0. With --most N only the first N faulty lines are
-reported, and nothing after them is checked.
+reported, and nothing after them is checked. With --longest-line N a line of more than N bytes,
+without its end, is faulty, TooLong at column N + 1. It takes the memory of a line of N bytes.
 
 Without --keep the reports are printed to standard output. With --keep the lines without an error
 are printed there, byte for byte and with their ends, also blank lines and comments; the reports
-go to standard error. So `hdt lint --keep IN | hdt build - OUT` builds a file from the valid lines
-of IN. Standard output must not be IN.";
-
-pub(crate) const KEEP_HELP: &str = "Print the lines without an error; report to standard error";
-
-pub(crate) const MOST_FAULTY_HELP: &str = "Stop after N faulty lines";
-
-pub(crate) const SPLIT_ABOUT: &str = "Split N-Triples into parts, by subject";
-
-pub(crate) const SPLIT_USAGE: &str = "hdt split [OPTIONS] --parts <N> <IN>... <FOLDER>
-       hdt split [OPTIONS] --of <K/N> <IN>...";
-
-pub(crate) const SPLIT_LONG_ABOUT: &str = "Split N-Triples into parts, by subject.
+go to standard error. If the exit status is 0 or 1 these are all valid lines, so build a file only
+then. Neither standard output nor standard error may be IN.",
+            Help::Keep => "Print the lines without an error; report to standard error",
+            Help::MostFaulty => "Stop after N faulty lines",
+            Help::SplitAbout => "Split N-Triples into parts, by subject",
+            Help::SplitUsage => "hdt split [OPTIONS] --parts <N> <IN>... <FOLDER>
+       hdt split [OPTIONS] --of <K/N> <IN>...",
+            Help::SplitLongAbout => "Split N-Triples into parts, by subject.
 
 All triples of a subject go to one part: its number, from 0, is the CRC-32 (that of gzip) of the
 subject's dictionary string in UTF-8, modulo N. A line with a triple goes whole to its part; lines
@@ -247,73 +331,42 @@ Where two inputs have blank nodes, say by --blank-nodes whether a label is one n
 f1_, and so on. The part is that of the label with its prefix.
 
 An error message has the path of its input. Memory: 64 KiB for each part that has triples, and
-the longest line.";
-
-pub(crate) const SPLIT_IN_HELP: &str =
-    "Path of an N-Triples document to read, or - for standard input";
-
-pub(crate) const SPLIT_PATHS_HELP: &str = "Paths of further documents, and without --of of FOLDER";
-
-pub(crate) const SPLIT_PARTS_HELP: &str = "The number of parts, 1 to 65536";
-
-pub(crate) const SPLIT_OF_HELP: &str = "Print the part K, from 0, of N parts";
-
-pub(crate) const SPLIT_BLANK_NODES_HELP: &str =
-    "Whether a label is one node in all inputs: one or apart";
-
-pub(crate) const EXPLAIN_ABOUT: &str = "Explain an error of a file or a text";
-
-pub(crate) const EXPLAIN_LONG_ABOUT: &str =
-    "Explain an error of an HDT file or of an N-Triples text.
+the longest line. With --longest-line N a line of more than N bytes, without its end, is an error,
+TooLong, found in the memory of a line of N bytes.",
+            Help::SplitIn => "Path of an N-Triples document to read, or - for standard input",
+            Help::SplitPaths => "Paths of further documents, and without --of of FOLDER",
+            Help::SplitParts => "The number of parts, 1 to 65536",
+            Help::SplitOf => "Print the part K, from 0, of N parts",
+            Help::SplitBlankNodes => "Whether a label is one node in all inputs: one or apart",
+            Help::ExplainAbout => "Explain an error of a file or a text",
+            Help::ExplainLongAbout => "Explain an error of an HDT file or of an N-Triples text.
 
 Print what the error means, what usually causes it, and what to do. REASON is the number or the
 name in an error message, as 11 or Check32. A number may be that of two errors: one of a file and
-one of a text. docs/ERRORS.md has the same texts, and those of the other messages.";
-
-pub(crate) const REASON_HELP: &str = "The number or the name of the error";
-
-pub(crate) const VERBOSE_HELP: &str = "Print more lines after an error message";
-
-pub(crate) const IN_HELP: &str = "Path of the N-Triples document to read, or - for standard input";
-
-pub(crate) const OUT_HELP: &str = "Path of the HDT file to write, or - for standard output";
-
-pub(crate) const BASE: &str = "http://example.org/dataset";
-
-pub(crate) const BASE_HELP: &str = "The IRI that names the graph in the header";
-
-pub(crate) const BLOCK_SIZE_HELP: &str = "Strings per dictionary block, 1 to 65535";
-
-pub(crate) const FILE_HELP: &str = "Path of the HDT file to read, or - for standard input";
-
-pub(crate) const SERVED_FILE_HELP: &str = "Path of the HDT file to read";
-
-pub(crate) const ROLE_HELP: &str = "The role of the strings in triples";
-
-pub(crate) const NUMBER_HELP: &str = "The ID, from 1";
-
-pub(crate) const TERM_HELP: &str = "The term, in N-Triples";
-
-pub(crate) const RAW_HELP: &str = "Take TERM as a dictionary string";
-
-pub(crate) const RAW_STRINGS_HELP: &str = "Print dictionary strings instead of terms";
-
-pub(crate) const TOP_HELP: &str = "Print the N most frequent terms only";
-
-pub(crate) const SUBJECT_HELP: &str = "The subject, in N-Triples, or ? for any";
-
-pub(crate) const PREDICATE_HELP: &str = "The predicate, in N-Triples, or ? for any";
-
-pub(crate) const OBJECT_HELP: &str = "The object, in N-Triples, or ? for any";
-
-pub(crate) const RAW_PARTS_HELP: &str = "Take S, P and O as dictionary strings";
-
-pub(crate) const NUMBERS_HELP: &str = "Print the IDs of each triple";
-
-pub(crate) const COUNT_HELP: &str = "Print the number of matching triples only";
-
-pub(crate) const QUIET_HELP: &str = "Print nothing; exit with 0 if a triple matches, else 1";
-
-pub(crate) const SKIP_HELP: &str = "Leave out triples with a string that is not a term";
-
-pub(crate) const MOST_HELP: &str = "Stop after N triples";
+one of a text. docs/ERRORS.md has the same texts, and those of the other messages.",
+            Help::Reason => "The number or the name of the error",
+            Help::Verbose => "Print more lines after an error message",
+            Help::In => "Path of the N-Triples document to read, or - for standard input",
+            Help::Out => "Path of the HDT file to write, or - for standard output",
+            Help::Base => "The IRI that names the graph in the header",
+            Help::BlockSize => "Strings per dictionary block, 1 to 65535",
+            Help::File => "Path of the HDT file to read, or - for standard input",
+            Help::ServedFile => "Path of the HDT file to read",
+            Help::Role => "The role of the strings in triples",
+            Help::Number => "The ID, from 1",
+            Help::Term => "The term, in N-Triples",
+            Help::Raw => "Take TERM as a dictionary string",
+            Help::RawStrings => "Print dictionary strings instead of terms",
+            Help::Top => "Print the N most frequent terms only",
+            Help::Subject => "The subject, in N-Triples, or ? for any",
+            Help::Predicate => "The predicate, in N-Triples, or ? for any",
+            Help::Object => "The object, in N-Triples, or ? for any",
+            Help::RawParts => "Take S, P and O as dictionary strings",
+            Help::Numbers => "Print the IDs of each triple",
+            Help::Count => "Print the number of matching triples only",
+            Help::Quiet => "Print nothing; exit with 0 if a triple matches, else 1",
+            Help::Skip => "Leave out triples with a string that is not a term",
+            Help::Most => "Stop after N triples",
+        }
+    }
+}

@@ -19,37 +19,39 @@ const XML: &str = "XML: rapper -i rdfxml -o ntriples FILE makes N-Triples of RDF
 
 const JSON: &str = "JSON: convert JSON-LD to N-Triples first";
 
+const INDEX: &str = "an index of another program: only the .hdt file beside it is needed";
+
 const WEB_PAGE: &str = "a web page: the download gave a page in place of the file";
 
 /// The hints for a document that `build` cannot read, by its first bytes or by those of its first invalid line.
 pub const DOCUMENT_HINTS: &[Hint] = &[
     Hint {
         start: b"\x1f\x8b",
-        text: "compressed by gzip: zcat FILE | hdt build - OUT",
+        text: "compressed by gzip: set -o pipefail; zcat FILE | hdt build - NEW && mv NEW OUT",
     },
     Hint {
         start: b"\x28\xb5\x2f\xfd",
-        text: "compressed by zstd: zstdcat FILE | hdt build - OUT",
+        text: "compressed by zstd: set -o pipefail; zstdcat FILE | hdt build - NEW && mv NEW OUT",
     },
     Hint {
         start: b"BZh",
-        text: "compressed by bzip2: bzcat FILE | hdt build - OUT",
+        text: "compressed by bzip2: set -o pipefail; bzcat FILE | hdt build - NEW && mv NEW OUT",
     },
     Hint {
         start: b"\xfd7zXZ\x00",
-        text: "compressed by xz: xzcat FILE | hdt build - OUT",
+        text: "compressed by xz: set -o pipefail; xzcat FILE | hdt build - NEW && mv NEW OUT",
     },
     Hint {
         start: b"\xef\xbb\xbf",
-        text: "a byte order mark: tail -c +4 FILE | hdt build - OUT",
+        text: "a byte order mark: tail -c +4 FILE > NEW",
     },
     Hint {
         start: b"\xff\xfe",
-        text: "UTF-16: iconv -f UTF-16 -t UTF-8 FILE | hdt build - OUT",
+        text: "UTF-16: iconv -f UTF-16 -t UTF-8 FILE > NEW",
     },
     Hint {
         start: b"\xfe\xff",
-        text: "UTF-16: iconv -f UTF-16 -t UTF-8 FILE | hdt build - OUT",
+        text: "UTF-16: iconv -f UTF-16 -t UTF-8 FILE > NEW",
     },
     Hint {
         start: b"@prefix",
@@ -88,6 +90,10 @@ pub const DOCUMENT_HINTS: &[Hint] = &[
         text: JSON,
     },
     Hint {
+        start: b"$HDT\x05",
+        text: INDEX,
+    },
+    Hint {
         start: b"$HDT",
         text: "an HDT file: hdt verify FILE checks it, hdt dump FILE prints N-Triples",
     },
@@ -114,6 +120,10 @@ pub const FILE_HINTS: &[Hint] = &[
     Hint {
         start: b"\xef\xbb\xbf",
         text: "a byte order mark: the file was edited or converted as text",
+    },
+    Hint {
+        start: b"$HDT\x05",
+        text: INDEX,
     },
     Hint {
         start: b"@prefix",
@@ -183,6 +193,8 @@ pub fn term_hint(term: &[u8]) -> &'static str
 {
     if begins_as_term(term) {
         ""
+    } else if first_byte(term) == b'?' {
+        "any term is written ?, without a name: '?'"
     } else if term.contains(&b':') {
         "an IRI is written between < and >, in single quotes: '<http://example.org/a>'"
     } else if begins_as_number(term) {

@@ -11,7 +11,7 @@
 //! ```
 #![tactic(auto)]
 
-mod arguments;
+mod command_rows;
 mod commands;
 mod explanations;
 mod file_errors;

@@ -76,10 +76,10 @@ smaller files.",
     (
         "9",
         "TooLong",
-        "The text is longer than the limit that was given. Of hdt answer: a request is
-longer than --longest-request.",
-        "A long literal in a request, or a client that sends no line ends.",
-        "Raise the limit: --longest-request N, in bytes. It is 1048576 without
-the option.",
+        "The text is longer than the limit that was given: a request of hdt answer than
+--longest-request, or a line of hdt build, lint or split than --longest-line.",
+        "A long literal, or a text without line ends.",
+        "Raise the limit, in bytes. Of a request it is 1048576 without the
+option; a line has no limit then.",
     ),
 ];

@@ -10,7 +10,7 @@
 A configuration (`Config` and `Source` have all fields):
 
     title = "Our data"
-    base = "https://data.example.org/"  # or forwarded = true, behind a proxy that sets X-Forwarded-Host and -Proto
+    base = "https://data.example.org/"  # or hosts and forwarded: see Config
 
     [datasets.places]
     file = "places.hdt"
@@ -33,7 +33,7 @@ import logging
 import os
 
 from hdt.fragments._application import Application
-from hdt.fragments._config import Config, Source
+from hdt.fragments._config import Config, Source, changed_at
 
 __all__ = ["Application", "Config", "Source", "from_environment"]
 
@@ -46,4 +46,6 @@ def log_to_standard_error() -> None:
 def from_environment() -> Application:
     """The application of the configuration that the environment variable FRAGMENTS names, with a log."""
     log_to_standard_error()
-    return Application(Config.read(os.environ["FRAGMENTS"]))
+    path = os.environ["FRAGMENTS"]
+    changed = changed_at(path)
+    return Application(Config.read(path), changed)

@@ -10,6 +10,8 @@ from socketserver import ThreadingMixIn
 from wsgiref.simple_server import WSGIRequestHandler, WSGIServer, make_server
 
 from hdt.fragments import Application, Config, Source, log_to_standard_error
+from hdt.fragments._config import changed_at
+from hdt.fragments._log import escaped
 
 
 class Server(ThreadingMixIn, WSGIServer):
@@ -46,7 +48,8 @@ def main() -> int:
     words = parser.parse_args()
     logging.getLogger("hdt.fragments").addHandler(logging.NullHandler())  # (so that one line says what is wrong)
     try:
-        application = Application(_config(words))
+        changed = changed_at(words.config) if words.config and not words.dataset else None
+        application = Application(_config(words), changed)
     except (OSError, ValueError) as error:
         print(f"hdt.fragments: {error}", file=sys.stderr)
         return 2
@@ -55,7 +58,7 @@ def main() -> int:
     wrong = {name: dataset for name, dataset in application.datasets.items() if dataset.error}
     for word in words.dataset:  # (a dataset of the configuration answers 503, as under another server)
         if dataset := wrong.get(word.partition("=")[0]):
-            print(f"hdt.fragments: {word}: {dataset.error}", file=sys.stderr)
+            print(f"hdt.fragments: {escaped(word)}: {dataset.error}", file=sys.stderr)
             return 2
     log_to_standard_error()
     for dataset in wrong.values():

@@ -10,7 +10,8 @@ import zlib
 from collections.abc import Iterable, Mapping
 from dataclasses import dataclass
 from email.utils import formatdate, parsedate_to_datetime
-from typing import Any, Callable, Optional, Union
+from pathlib import Path
+from typing import Any, Callable, NamedTuple, Optional, TypeVar, Union
 from urllib.parse import quote
 
 from hdt.fragments import _download as download
@@ -20,9 +21,10 @@ from hdt.fragments import _pages as pages
 from hdt.fragments import _terms as terms
 from hdt.fragments import _void as void
 from hdt.fragments import _writers as writers
-from hdt.fragments._config import Config
+from hdt.fragments._config import Config, changed_at
 from hdt.fragments._dataset import Dataset, Loaded, identity_of
 from hdt.fragments._formats import HTML, JSONLD
+from hdt.fragments._log import escaped, traced
 from hdt.fragments._request import Headers, Refusal, Request, bad, request_of
 from hdt.fragments._terms import Triple
 
@@ -47,6 +49,9 @@ NO_STORE = ("Cache-Control", "no-store")
 PLAIN = ("Content-Type", "text/plain;charset=utf-8")
 VERSION = "3"  # of the pages: another one makes other ETags
 _SMALLEST_PACKED = 1000  # bytes
+_INSTALLED = max(map(changed_at, Path(__file__).parent.glob("*.py")), default=0.0)
+
+T = TypeVar("T")
 
 log = logging.getLogger("hdt.fragments")
 
@@ -62,20 +67,29 @@ class Answer:
     length: int = 0  # of the pieces
 
 
+class Fresh(NamedTuple):
+    """The headers of an answer for a cache; whether the client has this one, by its tag; or any one that is there."""
+
+    headers: Headers
+    has_this: bool
+    has_any: bool
+
+
 class Application:
     """A WSGI application that serves Triple Pattern Fragments of HDT files.
 
     It takes a `Config`, or the same values as a mapping. The files are opened at once, so a server that forks its
-    workers afterwards shares their memory. Threads may share one.
+    workers afterwards shares their memory. Threads may share one. `changed` is the time when the configuration was last
+    another one; without it, that is now. Last-Modified is never before it.
     """
 
-    def __init__(self, config: Union[Config, Mapping[str, Any]]) -> None:
+    def __init__(self, config: Union[Config, Mapping[str, Any]], changed: Optional[float] = None) -> None:
         self.config = config if isinstance(config, Config) else Config.of(config)
         self.config.check()
         counted = self.config.partitions
         self.datasets = {name: Dataset(name, source, counted) for name, source in self.config.datasets.items()}
         self._salt = f"{VERSION} {self.config}"
-        self._began = time.time()  # (another configuration makes other pages)
+        self._changed = max(time.time() if changed is None else changed, _INSTALLED)
 
     def __call__(self, environ: dict[str, Any], start: Callable[..., Any]) -> Iterable[bytes]:
         """Answer a request."""
@@ -90,7 +104,7 @@ class Application:
             query = environ.get("QUERY_STRING", "")
             target = environ.get("PATH_INFO", "") + ("?" + query if query else "")
             spent = (time.perf_counter() - began) * 1e3
-            log.info("%s %r %s %d %.1f ms", method, target, answer.status[:3], length, spent)
+            log.info("%s %r %s %d %.1f ms", escaped(method), target, answer.status[:3], length, spent)
         start(answer.status, headers)
         if method == "HEAD":
             if answer.pieces:
@@ -112,8 +126,8 @@ class Application:
             refusal = error
         except MemoryError:
             refusal = Refusal("503 Service Unavailable", "There is no memory for this now.")
-        except Exception:
-            log.exception("an error of the server")
+        except Exception as error:
+            log.error("an error of the server\n%s", traced(error))
             refusal = Refusal("500 Internal Server Error", "This is an error of the server.")
         return self._refused(refusal, environ.get("HTTP_ACCEPT", ""), base)
 
@@ -171,34 +185,47 @@ class Application:
             raise Refusal("503 Service Unavailable", why, ("Retry-After", "60"))
         return dataset, loaded
 
-    def _fresh(self, request: Request, loaded: Loaded, media: str) -> tuple[Headers, bool]:
-        """The headers for a cache, and whether the client has the answer already, which nothing is searched for."""
+    def _fresh(self, request: Request, loaded: Loaded, media: str) -> Fresh:
+        """The headers for a cache, and whether the client has the answer already.
+
+        The tag is of all that makes an answer. A client that knows none has a time only: the later one of the file and
+        the configuration (or this package), either of which makes other pages, but never one that is yet to come.
+        """
         state = f"{self._salt} {loaded.identity} {request.url} {media}"
         tag = f'"{hashlib.sha256(state.encode()).hexdigest()[:24]}"'
-        modified = int(max(loaded.modified, self._began))
-        known = _known(request, tag, modified)
+        modified = int(min(max(loaded.modified, self._changed), time.time()))
+        known = _known_tag(request, tag)
         headers = [
             ("ETag", known or tag),
             ("Last-Modified", _date(modified)),
             ("Cache-Control", f"public, max-age={self.config.max_age}"),
         ]
-        return headers, known is not None
+        return Fresh(headers, known is not None, _has_any(request, modified))
 
-    def _page(self, request: Request, loaded: Loaded, media: str, make: Callable[[], bytes]) -> Answer:
-        """An answer for a cache: the body is made where the client does not have it."""
-        headers, known = self._fresh(request, loaded, media)
-        if known:
+    def _page(
+        self, request: Request, loaded: Loaded, media: str, find: Callable[[], T], make: Callable[[T], bytes]
+    ) -> Answer:
+        """An answer for a cache: the body is made of what is found, unless the client has it. `find` may refuse.
+
+        Nothing is searched if the client has the tag of this answer: so there is one.
+        """
+        headers, has_this, has_any = self._fresh(request, loaded, media)
+        if has_this:
             return Answer("304 Not Modified", headers)
-        body = make()
+        found = find()
+        if has_any:
+            return Answer("304 Not Modified", headers)
         more = pages.HEADERS if formats.KINDS[media] == HTML else []
-        return Answer("200 OK", [("Content-Type", formats.content_type(media)), *headers, *more], body)
+        return Answer("200 OK", [("Content-Type", formats.content_type(media)), *headers, *more], make(found))
 
     def _fragment(self, request: Request, dataset: Dataset, loaded: Loaded, media: str) -> Answer:
+        kind = formats.KINDS[media]
         request.page()
 
-        def make() -> bytes:
-            kind = formats.KINDS[media]
-            fragment = fragments.fragment_of(request, dataset, loaded, self.config, kind in writers.LINES)
+        def find() -> fragments.Fragment:
+            return fragments.fragment_of(request, dataset, loaded, self.config, kind in writers.LINES)
+
+        def make(fragment: fragments.Fragment) -> bytes:
             if kind == HTML:
                 return pages.fragment_page(fragment)
             form, statements = fragments.form(dataset, request.base), fragments.controls(fragment)
@@ -207,15 +234,15 @@ class Application:
                 return writers.jsonld(fragment.data(), form, statements, graph).encode("utf-8", "replace")
             return writers.LINES[kind](fragment.lines(), form, statements, graph).encode("utf-8", "replace")
 
-        return self._page(request, loaded, media, make)
+        return self._page(request, loaded, media, find, make)
 
     def _description(self, request: Request, dataset: Dataset, loaded: Loaded, media: str) -> Answer:
-        def make() -> bytes:
+        def make(_: None) -> bytes:
             if formats.KINDS[media] == HTML:
                 return pages.description_page(request, dataset, loaded, self.config)
             return _document(void.description(dataset, loaded, request.base), media)
 
-        return self._page(request, loaded, media, make)
+        return self._page(request, loaded, media, lambda: None, make)
 
     def _index(self, request: Request, media: str) -> Answer:
         """The list of datasets; those that can't be opened are left out of its RDF."""
@@ -248,13 +275,16 @@ class Application:
     def _file(self, request: Request, dataset: Dataset) -> Answer:
         """The file itself, or a range of it."""
         loaded = self._open(dataset.name)[1]
-        headers, known = self._fresh(request, loaded, "file")
-        if known:
+        headers, has_this, has_any = self._fresh(request, loaded, "file")
+        if has_this:
             return Answer("304 Not Modified", headers)
         file = download.opened(dataset.source.file)
         try:
             if identity_of(download.stat_of(file)) != loaded.identity:
                 raise Refusal("503 Service Unavailable", "The file is being replaced.", ("Retry-After", "2"))
+            if has_any:
+                file.close()
+                return Answer("304 Not Modified", headers)
             size = loaded.identity[2]
             whole = request.header("If-Range") not in ("", headers[0][1], headers[1][1])
             is_get = request.environ["REQUEST_METHOD"] == "GET"  # (no other method has ranges)
@@ -286,17 +316,20 @@ def _document(statements: list[Triple], media: str) -> bytes:
     return write("", (), statements, "").encode("utf-8", "replace")
 
 
-def _known(request: Request, tag: str, modified: int) -> Optional[str]:
-    """The tag of the answer that the client has, by the headers of its request; None where it doesn't have it."""
-    if wanted := request.header("If-None-Match"):
-        tags = [each.strip().replace("W/", "", 1) for each in wanted.split(",")]
-        return next((each for each in (tag, _packed_tag(tag)) if each in tags), tag if "*" in tags else None)
-    if since := request.header("If-Modified-Since"):
-        try:
-            return tag if modified <= parsedate_to_datetime(since).timestamp() else None
-        except (TypeError, ValueError, OverflowError):
-            return None
-    return None
+def _known_tag(request: Request, tag: str) -> Optional[str]:
+    """The tag of the answer, compressed or not, if the client has it by the tags of its request."""
+    tags = [each.strip().replace("W/", "", 1) for each in request.header("If-None-Match").split(",")]
+    return next((each for each in (tag, _packed_tag(tag)) if each in tags), None)
+
+
+def _has_any(request: Request, modified: int) -> bool:
+    """Whether the client has the answer, if there is one: it names no tag, but any, or a time."""
+    if wanted := request.header("If-None-Match").strip():
+        return wanted == "*"
+    try:
+        return modified <= parsedate_to_datetime(request.header("If-Modified-Since")).timestamp()
+    except (TypeError, ValueError, OverflowError, IndexError):
+        return False
 
 
 def _packed_tag(tag: str) -> str:

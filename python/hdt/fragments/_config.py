@@ -28,6 +28,15 @@ PREFIXES = {
     "geo": "http://www.w3.org/2003/01/geo/wgs84_pos#",
 }
 _NAME = re.compile(r"[A-Za-z0-9][A-Za-z0-9._-]{0,99}\Z")
+HOST = re.compile(r"(?:[A-Za-z0-9._-]{1,253}|\[[0-9A-Fa-f:.]{2,45}\])(?::\d{1,5})?\Z")
+
+
+def changed_at(path: Union[str, Path]) -> float:
+    """When a path began to lead to the file that is there: the latest time of the file, and of the link, if it is one.
+
+    A file that is renamed keeps the time of its last change, but not that of its last change of status. Raises OSError.
+    """
+    return max(time for there in (os.stat(path), os.lstat(path)) for time in (there.st_mtime, there.st_ctime))
 
 
 @dataclass(frozen=True)
@@ -61,7 +70,8 @@ class Config:
     - `title`: the title of the start page;
     - `base`: the URL that clients see; if empty, that of the request;
     - `hosts`: the hosts that are answered if there is no base; any if there are none;
-    - `forwarded`: whether X-Forwarded-Proto, -Host and -Prefix come from a trusted proxy;
+    - `forwarded`: whether X-Forwarded-Proto, -Host and -Prefix come from a trusted proxy, which sets all three of them
+      for each request (else they are the client's, and come into links); it needs `hosts`;
     - `page_size`: triples on a page, 1 to 10,000;
     - `max_age`: seconds that a cache may keep an answer;
     - `gzip`: whether answers are compressed for clients that accept it;
@@ -131,8 +141,10 @@ class Config:
         for texts in (self.prefixes, self.dereference):
             if not all(isinstance(text, str) for text in texts.values()):
                 raise ValueError("prefixes and dereference have texts as their values")
-        if not all(isinstance(host, str) for host in self.hosts):
-            raise ValueError("hosts are texts")
+        if isinstance(self.hosts, str) or not all(isinstance(host, str) and HOST.match(host) for host in self.hosts):
+            raise ValueError("hosts are names of hosts, each with a port or without")
+        if self.forwarded and not (self.hosts or self.base):
+            raise ValueError('forwarded needs the hosts that are served, as hosts = ["data.example.org"]; or set base')
         if not re.match(r"[A-Za-z0-9._~:/#-]*\Z", self.skolem):
             raise ValueError(f"skolem cannot be part of an IRI: {self.skolem!r}")
         for prefix, name in self.dereference.items():

@@ -8,6 +8,7 @@ from collections.abc import Iterator
 from typing import BinaryIO, Optional
 
 from hdt.fragments._request import Refusal
+from hdt.parts import _regular as regular
 
 _PIECE = 1 << 16
 _RANGE = re.compile(r"bytes\s*=\s*(\d{0,18})\s*-\s*(\d{0,18})\s*\Z")
@@ -35,9 +36,9 @@ def range_of(header: str, size: int) -> Optional[tuple[int, int]]:
 
 
 def opened(path: str) -> BinaryIO:
-    """The file at a path. Raises Refusal where it can't be opened."""
+    """The file at a path. Raises Refusal where it can't be opened, or is no regular file."""
     try:
-        return open(path, "rb", buffering=0)
+        return regular.opened(path)
     except OSError:
         raise Refusal("503 Service Unavailable", "The file can't be opened now.", ("Retry-After", "60")) from None
 

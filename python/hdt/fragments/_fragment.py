@@ -7,13 +7,13 @@ import hashlib
 import re
 from collections.abc import Mapping
 from dataclasses import dataclass
-from functools import cached_property
 from typing import Optional
 
 from hdt._calls import is_bracketed
 from hdt.fragments import _terms as terms
 from hdt.fragments._config import Config
 from hdt.fragments._dataset import Dataset, Loaded
+from hdt.fragments._once import once
 from hdt.fragments._reader import Page, PageText, Reader
 from hdt.fragments._request import Refusal, Request
 from hdt.fragments._terms import DCTERMS, FOAF, HYDRA, RDF, ROLES, VOID, Pattern, Triple
@@ -41,6 +41,8 @@ def asked(text: str, role: int, reader: Reader, prefix: str, prefixes: Mapping[s
     """The term that a parameter means."""
     if not text or text.startswith("?"):
         return Asked(None)
+    if text.strip("<>") in ("", "?"):  # (a search for what is in the brackets raises ValueError)
+        return Asked("<", f"The {ROLES[role]} is not a term.")
     if text.startswith('"'):
         spellings = list(terms.literals(text))
         known = next((each for each in spellings if reader.has(role, each)), None)
@@ -110,12 +112,12 @@ class Fragment:
         is_right = _POSITION.fullmatch(position) and given == self._begins(self.page, int(position))
         return int(position) if is_right else None
 
-    @cached_property
+    @once
     def found(self) -> Page:
         """The triples of the page, as strings of the dictionary."""
         return self.loaded.reader.page(self.pattern, self.skip, self.config.page_size, self._start)
 
-    @cached_property
+    @once
     def text(self) -> Optional[PageText]:
         """The page as the engine writes it; None where it can't be, or its blank nodes have to be renamed."""
         found = self.loaded.reader.page_text(self.pattern, self.skip, self.config.page_size, self._start)

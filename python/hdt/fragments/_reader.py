@@ -3,14 +3,14 @@
 from __future__ import annotations
 
 import array
-import threading
 from collections import OrderedDict
 from dataclasses import dataclass
-from functools import cached_property
 from typing import Callable, Generic, NamedTuple, Optional, TypeVar
 
 import hdt
+from hdt._forks import Locked
 from hdt.fragments import _terms as terms
+from hdt.fragments._once import once
 from hdt.fragments._terms import Pattern, Triple
 
 K = TypeVar("K")
@@ -23,11 +23,12 @@ _KEPT_POSITIONS = 1_000  # patterns whose positions are kept
 _STRIDE = 1_000  # matches from one position that is kept to the next
 
 
-class Kept(Generic[K, V]):
+class Kept(Locked, Generic[K, V]):
     """The values that were asked for last, by their keys."""
 
     def __init__(self, most: int) -> None:
-        self._most, self._lock = most, threading.Lock()
+        super().__init__()
+        self._most = most
         self._values: OrderedDict[K, V] = OrderedDict()
 
     def ask(self, key: K, make: Callable[[], V]) -> V:
@@ -44,26 +45,34 @@ class Kept(Generic[K, V]):
         return made
 
 
-class Positions:
+class Positions(Locked):
     """The positions of every thousandth match of a pattern, as far as they were needed.
 
-    So all requests for far pages together walk over the matches once.
+    So all requests for far pages together walk over the matches once. A request for a page that is known already waits
+    for no walk of another one.
     """
 
     def __init__(self, graph: hdt.Graph, pattern: Pattern) -> None:
-        self._graph, self._pattern, self._lock = graph, pattern, threading.Lock()
+        super().__init__()
+        self._graph, self._pattern = graph, pattern
         self._known = array.array("Q", [0])
 
     def after(self, skip: int) -> Optional[int]:
         """The position of the match after the first `skip` ones; None where there is none."""
         strides, rest = divmod(skip, _STRIDE)
+        if len(self._known) <= strides and not self._is_reached(strides):
+            return None
+        return self._graph.position(*self._pattern, skip=rest, start=self._known[strides])
+
+    def _is_reached(self, strides: int) -> bool:
+        """Walk on until so many thousands of matches are known; False where there aren't so many."""
         with self._lock:
             while len(self._known) <= strides:
                 found = self._graph.position(*self._pattern, skip=_STRIDE, start=self._known[-1])
                 if found is None:
-                    return None
+                    return False
                 self._known.append(found)
-        return self._graph.position(*self._pattern, skip=rest, start=self._known[strides])
+        return True
 
 
 class Column(NamedTuple):
@@ -95,7 +104,7 @@ class Page:
     left_out: int = 0
     following: Optional[int] = None
 
-    @cached_property
+    @once
     def triples(self) -> list[Triple]:
         """The triples as strings of the dictionary."""
         if not self.ids:

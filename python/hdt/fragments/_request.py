@@ -4,17 +4,16 @@ from __future__ import annotations
 
 import re
 from dataclasses import dataclass
-from functools import cached_property
 from typing import Any, Optional
 from urllib.parse import quote
 
-from hdt.fragments._config import Config
+from hdt.fragments._config import HOST, Config
+from hdt.fragments._once import once
 from hdt.fragments._terms import ROLES
 
 Headers = list[tuple[str, str]]
 
-_HOST = re.compile(r"(?:[A-Za-z0-9._-]{1,253}|\[[0-9A-Fa-f:.]{2,45}\])(?::\d{1,5})?\Z")
-_PREFIX = re.compile(r"(?:/[A-Za-z0-9._~-]+)*/?\Z")
+_PREFIX = re.compile(r"(?:/(?!\.{1,2}(?:/|\Z))[A-Za-z0-9._~-]+)*/?\Z")  # a path without the steps `.` and `..`
 _NOT_IN_URL = re.compile(rb'[^\x21-\x7e]|[<>"{}|^`\\]')
 _HALF_AN_ESCAPE = re.compile(rb"%(?![0-9A-Fa-f]{2})")
 _ESCAPE = re.compile(rb"%(..)", re.DOTALL)
@@ -73,12 +72,12 @@ class Request:
     given: dict[str, str]
     without_page: bytes  # the query without its page and where that begins
 
-    @cached_property
+    @once
     def place(self) -> str:
         """The URL without its query."""
         return self.base + quote(self.path)
 
-    @cached_property
+    @once
     def url(self) -> str:
         """The URL as the client wrote it."""
         return self.place + ("?" + _url_text(self.query) if self.query else "")
@@ -103,20 +102,27 @@ class Request:
         return int(number)
 
 
+def _forwarded(environ: dict[str, Any], name: str, other: str) -> str:
+    """What the nearest proxy says: each adds a value to the list of those before it, which may be the client's."""
+    said: str = environ.get("HTTP_X_FORWARDED_" + name, other)
+    return said.rpartition(",")[2].strip(" \t")
+
+
 def _base_of(environ: dict[str, Any], config: Config) -> str:
     if config.base:
         return config.base.rstrip("/") + "/"
     host = environ.get("HTTP_HOST") or f"{environ['SERVER_NAME']}:{environ['SERVER_PORT']}"
     scheme, prefix = environ["wsgi.url_scheme"], environ.get("SCRIPT_NAME", "")
     if config.forwarded:
-        host = environ.get("HTTP_X_FORWARDED_HOST", host).split(",")[0].strip()
-        scheme = environ.get("HTTP_X_FORWARDED_PROTO", scheme).split(",")[0].strip()
-        prefix = environ.get("HTTP_X_FORWARDED_PREFIX", "").rstrip("/") or prefix
-        if scheme not in ("http", "https") or not _PREFIX.match(environ.get("HTTP_X_FORWARDED_PREFIX", "")):
+        host, scheme = _forwarded(environ, "HOST", host), _forwarded(environ, "PROTO", scheme)
+        given = _forwarded(environ, "PREFIX", "")
+        if scheme not in ("http", "https") or not _PREFIX.match(given):
             raise bad("A header of the proxy is wrong.")
-    if not _HOST.match(host):
+        prefix = given.rstrip("/") or prefix
+    if not HOST.match(host):
         raise bad("The Host header is no host.")
-    if config.hosts and host.rpartition(":")[0].lower() not in config.hosts and host.lower() not in config.hosts:
+    served = {each.lower() for each in config.hosts}
+    if served and not {host.lower(), host.rpartition(":")[0].lower()} & served:
         raise Refusal("421 Misdirected Request", "This host is not served here.")
     return f"{scheme}://{host}{quote(prefix.encode('latin-1'))}/"
 

@@ -9,6 +9,7 @@
         print(len(graph), graph.matching(p="http://example.org/name"))
         for subject, predicate, object in graph.find("http://example.org/a"):
             print(predicate, object)
+    hdt.parts.merge("graph.parts", "graph.hdt")
 
 A build needs memory for a part at a time. A search for a subject asks one part, any other one asks all of them. Most
 graphs need no parts: one file is smaller, and built and searched faster by one process.
@@ -27,11 +28,12 @@ from hdt.parts._build import build
 from hdt.parts._errors import InputFault, PartFault, WorkerDied
 from hdt.parts._graph import Graph, Order, open
 from hdt.parts._manifest import Manifest, Part, part_of
+from hdt.parts._merging import merge
 from hdt.parts._string_ids import open_any
 
 __all__ = [
     "Graph", "InputFault", "Manifest", "Order", "Part", "PartFault", "WorkerDied",
-    "build", "open", "open_any", "part_of",
+    "build", "merge", "open", "open_any", "part_of",
 ]
 
 for _name in __all__:

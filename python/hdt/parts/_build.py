@@ -6,14 +6,13 @@ scratch folder, and gives their names back; files of the graph are only moved ou
 
 from __future__ import annotations
 
+import errno
 import hashlib
 import io
-import mmap
 import operator
 import os
 import secrets
 import shutil
-import threading
 import time
 from collections.abc import Iterable, Sequence
 from concurrent.futures import Executor
@@ -24,14 +23,13 @@ import hdt
 from hdt._calls import Path
 from hdt._files import built
 from hdt._library import Made
+from hdt._mapped import Mapped
 from hdt.parts import _inputs
 from hdt.parts._errors import InputFault
 from hdt.parts._executor import Task, check, results
 from hdt.parts._inputs import Range
-from hdt.parts._manifest import MOST_PARTS, Manifest, Part, base_of, file_of
+from hdt.parts._manifest import MOST_PARTS, Manifest, Part, base_of, check_size, file_of
 from hdt.parts._split import lines_of, split
-
-_SECONDS = 0.05  # between one time and the next that pages are given back
 
 
 class Pieces(NamedTuple):
@@ -51,6 +49,7 @@ def build(
     blank_nodes: Optional[str] = None,
     base: str = "http://example.org/dataset",
     block_size: int = 16,
+    longest_line: Optional[int] = None,
 ) -> Manifest:
     """Build a graph in parts from N-Triples files, plain or with names that end with `.gz`, and return its manifest.
 
@@ -63,12 +62,14 @@ def build(
     after another. `blank_nodes="one"` says that the inputs are pieces of one document, so a label is one node in all of
     them; `"apart"` that each is a document of its own: labels of the first input get the prefix `f0_`, those of the
     second one `f1_`. Without it, two inputs with blank nodes are an error. `base` and `block_size` are those of
-    `hdt.build`; the base of a part has `#part-0-of-8` after it.
+    `hdt.build`; the base of a part has `#part-0-of-8` after it. A line with more than `longest_line` bytes, without its
+    end, is an error, and no more of it is in memory: set it for documents of strangers.
 
-    Errors: `InputFault` with the first error of the inputs, in their order; `hdt.NoTriples`; FileExistsError;
-    ValueError for the options, and for an input that is no regular file; `WorkerDied`; MemoryError; OSError; TypeError.
-    A task has 1 MiB of an input in memory, several times over, or the build of a part. The folder needs room for the
-    text of the inputs meanwhile, and for that of each part that is being built.
+    Errors: `InputFault` with the first error of the inputs, in their order (`TooLong`, in column `longest_line` + 1,
+    for a line that is too long, whatever else is wrong with it); `hdt.NoTriples`; FileExistsError, also if the folder
+    was made meanwhile; ValueError for the options, and for an input that is no regular file; `WorkerDied`; MemoryError;
+    OSError; TypeError. A task has 1 MiB of an input in memory, or a longer line, several times over, or the build of a
+    part. The folder needs room for the text of the inputs meanwhile, and for that of each part that is being built.
 
     >>> hdt.parts.build(["graph.nt"], "other.parts", 2).triples
     3
@@ -77,6 +78,7 @@ def build(
         raise TypeError("inputs are paths, not one path")
     names = [os.fsdecode(path) for path in inputs]
     count, size = operator.index(parts), operator.index(block_size)
+    longest = None if longest_line is None else operator.index(longest_line)
     check(executor)
     if blank_nodes not in (None, "one", "apart"):
         raise ValueError('blank_nodes is "one", "apart" or None')
@@ -84,20 +86,32 @@ def build(
         raise ValueError(f"the number of parts isn't 1 to {MOST_PARTS}")
     if not 1 <= size <= 65_535:
         raise ValueError("the block size isn't 1 to 65535")
+    if longest is not None and longest < 0:
+        raise ValueError("the longest line is negative")
+    check_size(base, names, count)
     target = os.path.abspath(os.fsdecode(folder))
-    if os.path.lexists(target):
-        raise FileExistsError(f"{target} is there already")
+    _check_absent(target)
     os.stat(os.path.dirname(target))  # (an error names the folder that is missing)
     beside = f"{target}.unfinished-{secrets.token_hex(8)}"
     os.mkdir(beside)
     try:
-        job = _Job(names, beside, count, executor, blank_nodes, base, size)
+        job = _Job(names, beside, count, executor, blank_nodes, base, size, longest)
         manifest = job.run()
-        os.rename(job.made, target)
+        try:
+            os.rename(job.made, target)
+        except OSError:
+            _check_absent(target)  # (another build may have made it meanwhile)
+            raise
         _sync(os.path.dirname(target))
     finally:
         _remove(beside)
     return manifest
+
+
+def _check_absent(target: str) -> None:
+    """Raises FileExistsError if anything has the name of a folder, also a link that leads nowhere."""
+    if os.path.lexists(target):
+        raise FileExistsError(errno.EEXIST, os.strerror(errno.EEXIST), target)
 
 
 class _Job:
@@ -112,10 +126,11 @@ class _Job:
         blank_nodes: Optional[str],
         base: str,
         block_size: int,
+        longest: Optional[int],
     ) -> None:
         self._names, self._parts, self._executor = names, parts, executor
         self._paths = [os.path.abspath(name) for name in names]  # (a process may be in another folder)
-        self._blank_nodes, self._base, self._block_size = blank_nodes, base, block_size
+        self._blank_nodes, self._base, self._block_size, self._longest = blank_nodes, base, block_size, longest
         self._scratch, self.made = os.path.join(folder, "scratch"), os.path.join(folder, "made")
         os.mkdir(self._scratch)
         os.mkdir(self.made)
@@ -152,7 +167,8 @@ class _Job:
         for number, it in enumerate(ranges):
             prefix = f"f{it.number}_" if self._blank_nodes == "apart" else ""
             what = f"the split of {self._names[it.number]}"
-            tasks.append(Task(self._executor, what, split_range, number, it, self._parts, prefix, self._scratch))
+            call = number, it, self._parts, prefix, self._scratch, self._longest
+            tasks.append(Task(self._executor, what, split_range, *call))
         found: list[Pieces] = []
         lines = [0] * len(self._paths)
         split_results = results(tasks)
@@ -191,7 +207,9 @@ def _attempt(folder: str, name: str) -> str:
     return os.path.join(folder, f"{name}.{os.getpid()}-{secrets.token_hex(8)}")
 
 
-def split_range(number: int, it: Range, parts: int, prefix: str, folder: str) -> Pieces:
+def split_range(
+    number: int, it: Range, parts: int, prefix: str, folder: str, longest: Optional[int] = None
+) -> Pieces:
     """A task: split a range of an input, block by block, into one file.
 
     Raises LineFault, whose line is counted from the range on, OSError and MemoryError.
@@ -199,14 +217,14 @@ def split_range(number: int, it: Range, parts: int, prefix: str, folder: str) ->
     file, sizes = _attempt(folder, f"split-{number:05}"), [0] * parts
     lines, has_blank_nodes = 0, False
     with io.open(file, "xb") as out:
-        for block in _inputs.blocks(it):
-            try:
+        try:
+            for block in _inputs.blocks(it, longest):
                 found = split(block, parts, out, prefix.encode())
-            except hdt.LineFault as fault:
-                raise hdt.LineFault(fault.reason, lines + fault.line, fault.column) from None
-            lines += found.lines
-            has_blank_nodes = has_blank_nodes or found.has_blank_nodes
-            sizes = list(map(operator.add, sizes, found.sizes))
+                lines += found.lines
+                has_blank_nodes = has_blank_nodes or found.has_blank_nodes
+                sizes = list(map(operator.add, sizes, found.sizes))
+        except hdt.LineFault as fault:
+            raise hdt.LineFault(fault.reason, lines + fault.line, fault.column) from None
     return Pieces(file, sizes, lines, has_blank_nodes)
 
 
@@ -230,31 +248,13 @@ def build_part(number: int, parts: int, files: list[str], folder: str, base: str
         return Part(file, len(data), hashlib.sha256(data).hexdigest(), *counts)
 
 
-class _Mapped:
-    """A file that is mapped for a call which reads it once from its start to its end; its name goes.
-
-    A thread gives its pages back meanwhile, as they would count as memory of the process.
-    """
+class _Mapped(Mapped):
+    """The same of a path, whose name goes."""
 
     def __init__(self, path: str) -> None:
         with io.open(path, "rb") as file:
-            self._data = mmap.mmap(file.fileno(), 0, access=mmap.ACCESS_READ)
+            super().__init__(file.fileno())
         os.unlink(path)
-        self._is_read = threading.Event()
-        self._thread = threading.Thread(target=self._give_back)
-
-    def _give_back(self) -> None:
-        while not self._is_read.wait(_SECONDS):
-            self._data.madvise(mmap.MADV_DONTNEED)  # (those that are read again come from the file)
-
-    def __enter__(self) -> mmap.mmap:
-        self._thread.start()
-        return self._data
-
-    def __exit__(self, *_: object) -> None:
-        self._is_read.set()
-        self._thread.join()
-        self._data.close()
 
 
 def _sync(folder: str) -> None:

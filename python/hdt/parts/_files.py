@@ -8,14 +8,14 @@ from __future__ import annotations
 import hashlib
 import os
 import re
-import threading
 from collections import OrderedDict
 from collections.abc import Callable, Iterator, Sequence
 from typing import Any, Optional, TypeVar
 
 import hdt
 from hdt._calls import Given
-from hdt._files import data_of
+from hdt._forks import Locked
+from hdt.parts import _regular as regular
 from hdt.parts._errors import PartFault
 from hdt.parts._manifest import Part, part_of
 
@@ -24,28 +24,21 @@ Page = tuple[str, Optional[int]]  # see `page`
 T = TypeVar("T")
 
 _MOST_OPEN = 256  # files that a process of an executor keeps open
-_IN_HEADER = re.compile(rb"[#-]part-(\d+)-of-\d+>")
+_IN_HEADER = re.compile(rb"[#-]part-(\d{1,5})-of-\d{1,5}>")
 
 
 def read(folder: str, part: Part) -> Any:
-    """The bytes of the file of a part, which are those that its row says. Raises PartFault."""
-    path = os.path.join(folder, part.file)
+    """The bytes of the file of a part, of which there are as many as its row says. Raises PartFault."""
     try:
-        data, _ = data_of(path)
+        with regular.opened(os.path.join(folder, part.file)) as file:
+            size = os.fstat(file.fileno()).st_size
+            if size == part.bytes:
+                return regular.data_of(file)
     except FileNotFoundError:
         raise PartFault(part.file, "is missing") from None
     except OSError as error:
         raise PartFault(part.file, f"can't be read: {error.strerror}") from None
-    if len(data) == part.bytes and hashlib.sha256(data).hexdigest() == part.sha256:
-        return data
-    try:
-        with hdt.Graph(data) as other:
-            found = _IN_HEADER.search(other.header)
-    except hdt.Fault as fault:
-        raise PartFault(part.file, f"is damaged: {fault}") from None
-    number = found and int(found[1])
-    here = int(part.file[5:10])
-    raise PartFault(part.file, f"is the file of part {number}" if number not in (None, here) else "is another file")
+    raise PartFault(part.file, f"has {size:,} bytes, not {part.bytes:,}")
 
 
 def opened(folder: str, part: Part) -> hdt.Graph:
@@ -55,19 +48,24 @@ def opened(folder: str, part: Part) -> hdt.Graph:
         graph = hdt.Graph(data)
     except hdt.Fault as fault:
         raise PartFault(part.file, f"is damaged: {fault}") from None
+    if hashlib.sha256(data).hexdigest() != part.sha256:
+        found = _IN_HEADER.search(graph.header)
+        number, here = found and int(found[1]), int(part.file[5:10])
+        raise PartFault(part.file, f"is the file of part {number}" if number not in (None, here) else "is another file")
     if graph.counts != part.counts:
         raise PartFault(part.file, "has other counts than the manifest says")
     return graph
 
 
-class OpenFiles:
+class OpenFiles(Locked):
     """Files that are open, by their paths and SHA-256, at most so many: those that were used last.
 
     Threads may share it. A file that is replaced in its folder stays open here as it was.
     """
 
     def __init__(self, most: int) -> None:
-        self._most, self._lock = most, threading.Lock()
+        super().__init__()
+        self._most = most
         self._graphs: OrderedDict[tuple[str, str, str], hdt.Graph] = OrderedDict()
 
     def graph(self, folder: str, part: Part) -> hdt.Graph:
@@ -94,20 +92,6 @@ class OpenFiles:
 
 
 _kept = OpenFiles(_MOST_OPEN)
-_abandoned: list[OpenFiles] = []
-
-
-def _after_fork() -> None:
-    """Begin anew in a process that was forked: a thread that is not there may have held a lock.
-
-    The files of before are never closed here, which would wait for such a lock.
-    """
-    global _kept
-    _abandoned.append(_kept)
-    _kept = OpenFiles(_MOST_OPEN)
-
-
-os.register_at_fork(after_in_child=_after_fork)
 
 
 def run(folder: str, part: Part, call: Callable[..., T], *parameters: Any) -> T:

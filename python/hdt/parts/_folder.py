@@ -12,7 +12,7 @@ from operator import itemgetter
 from typing import Any, Optional, TypeVar
 
 import hdt
-from hdt._calls import Path, StringTriple, bracketed, closed, is_bracketed
+from hdt._calls import Path, StringTriple, bracketed, closed, is_bracketed, matched
 from hdt.parts import _files
 from hdt.parts._errors import PartFault
 from hdt.parts._executor import Task, check, results
@@ -46,6 +46,8 @@ class OpenFolder:
             size = os.stat(os.path.join(self._folder, part.file)).st_size
         except FileNotFoundError:
             raise PartFault(part.file, "is missing") from None
+        except OSError as error:
+            raise PartFault(part.file, f"can't be read: {error.strerror}") from None
         if size != part.bytes:
             raise PartFault(part.file, f"has {size:,} bytes, not {part.bytes:,}")
 
@@ -72,16 +74,15 @@ class OpenFolder:
         return Task(self._executor, part.file, _files.run, self._folder, part, call, *parameters)
 
     def _asked(self, pattern: Pattern) -> list[int]:
-        """The parts that may have matches. Raises TypeError for what is no str, and ValueError for one in brackets."""
+        """The parts that may have matches. Raises TypeError, and ValueError for what `hdt.Graph` refuses."""
         self._check_open()
-        for term in pattern:
-            if not (term is None or isinstance(term, str)):
-                raise TypeError(f"a term is a str, not {type(term).__name__}")
-            if term is not None and is_bracketed(term):  # (`build` puts terms alone into a folder)
+        terms = matched(*pattern).parts
+        for term in terms:
+            if isinstance(term, str) and is_bracketed(term):  # (`build` puts terms alone into a folder)
                 raise bracketed(term)
-        if pattern[0] is None:
+        if not isinstance(terms[0], str):
             return self._there
-        home = part_of(pattern[0], len(self._parts))
+        home = part_of(terms[0], len(self._parts))
         return [home] if self._parts[home].file else []
 
     def _each(self, numbers: Iterable[int], task: Callable[[int], Task[T]]) -> Iterator[tuple[int, Task[T]]]:

@@ -12,7 +12,7 @@ from operator import index
 from typing import IO, Any, Literal, Optional
 
 import hdt
-from hdt._calls import Given, Path, StringTriple, window
+from hdt._calls import Given, Path, StringTriple, triple_of, window
 from hdt.parts import _files
 from hdt.parts._executor import Task, results
 from hdt.parts._files import Page, Pattern
@@ -43,7 +43,7 @@ def open(folder: Path, executor: Optional[Executor] = None) -> Graph:
 
 
 class Graph(OpenFolder):
-    """A graph in parts, which is searched as one. Threads may share it.
+    """A graph in parts, which is searched as one. Threads may share it: their calls run at the same time.
 
     Its length is the number of its triples; iterating gives them as `find` does. `(s, p, o) in graph` looks for one.
     Terms and patterns are those of `hdt.Graph`. A pattern with a subject asks one part, another one all of them. IDs of
@@ -60,7 +60,7 @@ class Graph(OpenFolder):
         super().__init__(folder, executor)
 
     def close(self) -> None:
-        """Close the files of this process. A second call does nothing.
+        """Close the files of this process, each after the calls on it that run. A second call does nothing.
 
         >>> graph = hdt.parts.open("graph.parts")
         >>> graph.close()
@@ -160,9 +160,8 @@ class Graph(OpenFolder):
         return sums
 
     def __contains__(self, triple: object) -> bool:
-        if not (isinstance(triple, tuple) and len(triple) == 3 and all(isinstance(term, str) for term in triple)):
-            return False
-        return self.matching(*triple) > 0
+        terms = triple_of(triple)
+        return terms is not None and self.matching(*terms) > 0
 
     def find(
         self,

@@ -3,12 +3,14 @@
 from __future__ import annotations
 
 import gzip
-import io
 import os
 import stat
 import zlib
 from collections.abc import Iterable, Iterator
 from typing import Any, NamedTuple, Optional
+
+from hdt._blocks import Block, blocks_of
+from hdt.parts import _regular as regular
 
 RANGE = 64 * 1024 * 1024  # bytes of a plain input that a task splits
 BLOCK = 1024 * 1024  # bytes of it that are in memory at once
@@ -44,44 +46,37 @@ def ranges(paths: Iterable[str]) -> Iterator[Range]:
             yield Range(number, path, start, min(start + RANGE, there.st_size))
 
 
-def blocks(it: Range) -> Iterator[bytes]:
+def blocks(it: Range, longest: Optional[int] = None) -> Iterator[Block]:
     """The lines of a range, in blocks of whole lines.
 
     A range begins after a line feed, so it never parts a carriage return from the line feed after it. Raises OSError,
-    also for a compressed input that is damaged.
+    also for a compressed input that is damaged; and LineFault if a line has more than `longest` bytes without its end,
+    counted from the lines that came before, with no more of it in memory.
     """
     try:
-        with gzip.open(it.path, "rb") if is_gzip(it.path) else io.open(it.path, "rb") as file:
-            yield from _whole_lines(_read(file, it.start, it.stop))
+        with regular.opened(it.path) as file:
+            pieces = _read(gzip.GzipFile(fileobj=file) if is_gzip(it.path) else file, it.start, it.stop)
+            yield from blocks_of(pieces, longest)
     except (EOFError, zlib.error, gzip.BadGzipFile) as error:
         raise OSError(f"{it.path}: not a whole gzip file: {error}") from error
 
 
 def _read(file: Any, start: int, stop: Optional[int]) -> Iterator[bytes]:
     """The bytes of the lines that begin in a range, in pieces."""
-    if start:
-        file.seek(start - 1)
-        start += len(file.readline()) - 1
     if stop is None:
         while piece := file.read(BLOCK):
             yield piece
         return
-    left = max(stop - start, 0)
-    while left and (piece := file.read(min(BLOCK, left))):
-        left -= len(piece)
-        if not left and not piece.endswith(b"\n"):
-            piece += file.readline()
+    at = max(start - 1, 0)
+    file.seek(at)
+    if start:
+        while at < stop and (piece := file.readline(BLOCK)):
+            at += len(piece)
+            if piece.endswith(b"\n"):
+                break
+    piece = b"\n"
+    while at < stop and (piece := file.read(min(BLOCK, stop - at))):
+        at += len(piece)
         yield piece
-
-
-def _whole_lines(pieces: Iterable[bytes]) -> Iterator[bytes]:
-    """Bytes in other pieces, each of which ends at the end of a line. A long line is joined once."""
-    rest: list[bytes] = []
-    for piece in pieces:
-        end = piece.rfind(b"\n") + 1 or piece.rfind(b"\r", 0, -1) + 1
-        if end:
-            yield b"".join([*rest, piece[:end]])
-            rest = []
-        rest.append(piece[end:])
-    if last := b"".join(rest):
-        yield last
+    while not piece.endswith(b"\n") and (piece := file.readline(BLOCK)):
+        yield piece

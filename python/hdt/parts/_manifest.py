@@ -3,20 +3,26 @@
 from __future__ import annotations
 
 import json
+import math
 import os
 import re
 import zlib
-from dataclasses import asdict, dataclass
-from typing import Any
+from collections.abc import Collection, Iterable, Iterator
+from dataclasses import asdict, dataclass, fields
+from typing import Any, Union
 
+from hdt.parts import _regular as regular
 from hdt.parts._errors import PartFault
 
 KIND, VERSION = "hdt-parts", 1
 HASH = "CRC-32 (gzip) of the subject's dictionary string in UTF-8, modulo the number of parts"
 NAME = "manifest.json"
 MOST_PARTS = 65_536
+MOST_BYTES = 32 * 1024 * 1024  # of a manifest
+_SHOWN = 60  # characters of a value in a message
 _COUNTS = ("triples", "shared", "subjects", "predicates", "objects")
 _SHA256 = re.compile("[0-9a-f]{64}")
+_IRI = re.compile(r'[A-Za-z][A-Za-z0-9+.-]*:[^\x00-\x20<>"{}|^`\\\ud800-\udfff]*')  # a base that a header may have
 
 
 def part_of(subject: str, parts: int) -> int:
@@ -36,6 +42,14 @@ def file_of(number: int) -> str:
 def base_of(base: str, number: int, parts: int) -> str:
     """The IRI that names a part in its header: a part is not the graph, and the header counts the part's triples."""
     return f"{base}{'-' if '#' in base else '#'}part-{number}-of-{parts}"
+
+
+def check_size(base: str, inputs: Iterable[str], parts: int) -> None:
+    """Raises ValueError if a manifest would be too long to be read again."""
+    longest = Part(file_of(0), 2**63, "0" * 64, *[2**63] * len(_COUNTS))
+    row = len(json.dumps(asdict(longest), indent=1)) + 64  # (white space before each line, with a good deal to spare)
+    if len(json.dumps(base)) + row * parts + sum(len(json.dumps(path)) + 64 for path in inputs) + 1_024 > MOST_BYTES:
+        raise ValueError(f"the manifest would have more than {MOST_BYTES:,} bytes: there are too many inputs")
 
 
 @dataclass(frozen=True)
@@ -61,6 +75,9 @@ class Part:
     def counts(self) -> tuple[int, ...]:
         """The counts, as `hdt.verify` has them."""
         return tuple(getattr(self, name) for name in _COUNTS)
+
+
+_PART_FIELDS = {field.name for field in fields(Part)}
 
 
 @dataclass(frozen=True)
@@ -113,39 +130,127 @@ class Manifest:
 
     @classmethod
     def read(cls, folder: str) -> Manifest:
-        """Read that of a folder. Raises PartFault if it isn't one, and OSError."""
-        with open(os.path.join(folder, NAME), encoding="utf-8") as file:
-            try:
-                values = json.load(file)
-            except (ValueError, RecursionError) as error:
-                raise PartFault(NAME, f"is no JSON: {error}") from None
+        """Read that of a folder, of which every field is checked. Raises PartFault if it isn't one, and OSError."""
+        with regular.opened(os.path.join(folder, NAME)) as file:
+            text = regular.read(file, MOST_BYTES + 1)
+        if len(text) > MOST_BYTES:
+            raise PartFault(NAME, f"has more than {MOST_BYTES:,} bytes")
         try:
-            return cls._of(values)
-        except (KeyError, TypeError, AttributeError) as error:
-            raise PartFault(NAME, f"has other fields: {error}") from None
+            values = json.loads(text.decode(), object_pairs_hook=_fields, parse_int=_whole)
+        except PartFault:
+            raise
+        except ValueError as error:
+            raise PartFault(NAME, f"is no JSON: {error}") from None
+        except RecursionError:
+            raise PartFault(NAME, "is nested too deeply") from None
+        return cls._of(_Object(values, ""))
 
     @classmethod
-    def _of(cls, values: Any) -> Manifest:
+    def _of(cls, values: _Object) -> Manifest:
         for name, known in (("kind", KIND), ("version", VERSION), ("hash", HASH)):
-            if values[name] != known:
-                raise PartFault(NAME, f"has another {name}: {values[name]!r}")
-        parts = tuple(_part(number, Part(**row)) for number, row in enumerate(values["parts"]))
-        if not 1 <= len(parts) <= MOST_PARTS:
-            raise PartFault(NAME, f"has {len(parts)} parts")
-        inputs = tuple((str(each["path"]), int(each["bytes"])) for each in values["inputs"])
-        made = cls(str(values["base"]), int(values["block_size"]), str(values["blank_nodes"]), inputs, parts)
-        if (made.triples, made.subjects) != (values["triples"], values["subjects"]):
-            raise PartFault(NAME, "has counts that are not the sums of those of its parts")
+            found = values.field(name)
+            if type(found) is not type(known) or found != known:
+                raise PartFault(NAME, f"has another {name}: {_shown(found)}")
+        base, blank_nodes = values.text("base"), values.text("blank_nodes")
+        if not _IRI.fullmatch(base):
+            raise values.wrong("base")
+        if blank_nodes not in ("one", "apart"):
+            raise values.wrong("blank_nodes")
+        inputs = tuple((row.text("path"), row.number("bytes")) for row in values.rows("inputs"))
+        count = values.count("parts")
+        if not 1 <= count <= MOST_PARTS:
+            raise PartFault(NAME, f"has {count:,} parts")
+        parts = tuple(_part(number, row) for number, row in enumerate(values.rows("parts")))
+        made = cls(base, values.number("block_size", 1, 65_535), blank_nodes, inputs, parts)
+        if (made.triples, made.subjects) != (values.number("triples", 1), values.number("subjects", 1)):
+            raise PartFault(NAME, "has triples and subjects that are not the sums of those of its parts")
         return made
 
 
-def _part(number: int, part: Part) -> Part:
-    """A row that is one of a part with this number. Raises PartFault."""
-    if part.file not in (("", file_of(number)) if not part.triples else (file_of(number),)):
-        raise PartFault(NAME, f"has another file for part {number}: {part.file!r}")
-    numbers = (part.bytes, *part.counts)
-    if not all(type(n) is int and 0 <= n < 2**63 for n in numbers):
-        raise PartFault(NAME, f"has no counts for part {number}")
-    if part.file and not _SHA256.fullmatch(part.sha256):
-        raise PartFault(NAME, f"has no SHA-256 for part {number}")
+def _part(number: int, row: _Object) -> Part:
+    """The row of a part with this number. Raises PartFault."""
+    row.check_names(_PART_FIELDS)
+    numbers = {name: row.number(name) for name in ("bytes", *_COUNTS)}
+    part = Part(file=row.text("file"), sha256=row.text("sha256"), **numbers)
+    if part == Part():
+        return part
+    if part.file != file_of(number):
+        raise PartFault(NAME, f"has another file for part {number}: {_shown(part.file)}")
+    if not _SHA256.fullmatch(part.sha256):
+        raise row.wrong("sha256")
+    for name in ("bytes", "triples"):
+        row.number(name, 1)
     return part
+
+
+class _Object:
+    """An object of a manifest, at a place as `parts[3].`, whose fields are checked as they are taken."""
+
+    def __init__(self, values: Any, place: str) -> None:
+        if not isinstance(values, dict):
+            raise PartFault(NAME, f"has a wrong {place.rstrip('.') or 'value'}: {_shown(values)}")
+        self._values, self._place = values, place
+
+    def wrong(self, name: str) -> PartFault:
+        """The error of a field that can't have its value."""
+        return PartFault(NAME, f"has a wrong {self._place}{name}: {_shown(self._values[name])}")
+
+    def check_names(self, names: Collection[str]) -> None:
+        """Raises PartFault for a field that no row of a part has."""
+        for name in self._values:
+            if name not in names:
+                raise PartFault(NAME, f"has an unexpected {self._place}{_shown(name)}")
+
+    def field(self, name: str) -> Any:
+        """The value of a field, of any type. Raises PartFault if the field is missing."""
+        if name not in self._values:
+            raise PartFault(NAME, f"has no {self._place}{name}")
+        return self._values[name]
+
+    def text(self, name: str) -> str:
+        """A text."""
+        found = self.field(name)
+        if not isinstance(found, str) or "\0" in found:
+            raise self.wrong(name)
+        return found
+
+    def number(self, name: str, least: int = 0, most: int = 2**63 - 1) -> int:
+        """A whole number."""
+        found = self.field(name)
+        if type(found) is not int or not least <= found <= most:
+            raise self.wrong(name)
+        return found
+
+    def count(self, name: str) -> int:
+        """The length of a list."""
+        found = self.field(name)
+        if not isinstance(found, list):
+            raise self.wrong(name)
+        return len(found)
+
+    def rows(self, name: str) -> Iterator[_Object]:
+        """Iterate over the objects of a list. Nothing after the first wrong one is read."""
+        for at in range(self.count(name)):
+            yield _Object(self._values[name][at], f"{self._place}{name}[{at}].")
+
+
+def _fields(pairs: list[tuple[str, Any]]) -> dict[str, Any]:
+    """The fields of an object of JSON. Raises PartFault for two of one name."""
+    found: dict[str, Any] = {}
+    for name, value in pairs:
+        if name in found:
+            raise PartFault(NAME, f"has {_shown(name)} twice")
+        found[name] = value
+    return found
+
+
+def _whole(digits: str) -> Union[int, float]:
+    """A whole number of JSON; infinity, which no field may have, for one that takes long to read."""
+    return int(digits) if len(digits) <= 20 else math.inf
+
+
+def _shown(value: Any) -> str:
+    """A value of a manifest in a message, in short and in ASCII."""
+    if isinstance(value, (dict, list)):
+        return "an object" if isinstance(value, dict) else "a list"
+    return ascii(value[:_SHOWN]) + "..." * (len(value) > _SHOWN) if isinstance(value, str) else ascii(value)

@@ -9,7 +9,7 @@ from __future__ import annotations
 import array
 import os
 from collections.abc import Iterator
-from typing import IO, NamedTuple
+from typing import IO, NamedTuple, Union
 
 from hdt._faults import LineFault
 from hdt._library import BAD_OPTIONS, DONE, OUT_OF_MEMORY, Lent, Made, SplitReport, library
@@ -29,7 +29,7 @@ class Split(NamedTuple):
     has_blank_nodes: bool
 
 
-def split(text: bytes, parts: int, out: IO[bytes], prefix: bytes = b"") -> Split:
+def split(text: Union[bytes, bytearray], parts: int, out: IO[bytes], prefix: bytes = b"") -> Split:
     """Split N-Triples by subject, so that all triples of a subject are in one part, and write a block to `out`.
 
     The part of a triple is the CRC-32 (that of gzip) of its subject's dictionary string, modulo `parts`. A line with a

@@ -1,43 +1,34 @@
-"""COUNT and GROUP BY over one triple pattern, answered by counting."""
+"""COUNT over one triple pattern, answered by counting."""
 
 from __future__ import annotations
 
-from collections import Counter
-from collections.abc import Iterator
-from operator import itemgetter
-from typing import Any, Optional
+from typing import Any
 
+from hdt.rdflib._cells import Cells, Row
 from hdt.rdflib._file import ROLES, OpenFile, Search
 from rdflib.paths import Path
-from rdflib.plugins.sparql.sparql import FrozenBindings
 from rdflib.term import BNode, Literal, Variable
 
-Groups = dict[tuple[Any, ...], int]
 
-
-def counted(file: OpenFile, ctx: Any, part: Any) -> Iterator[Any]:
+def counted(cells: Cells, given: Any, part: Any) -> list[Row]:
     """The groups of an AggregateJoin of rdflib's algebra, if it counts the solutions of one triple pattern.
 
-    The aggregates are COUNT of everything or of a variable of the pattern, without DISTINCT unless there is no GROUP
-    BY, and the sample of a variable by which it is grouped, which is rdflib's way to give it. Else raises
-    NotImplementedError. Groups by predicate take one count of each predicate, other ones and DISTINCT a walk over the
-    IDs of the triples.
+    Without GROUP BY the aggregates are COUNT of everything or of a variable of the pattern, also of DISTINCT ones; of
+    the groups of all triples by their predicates, they are COUNT of everything, and the predicate. Else raises
+    NotImplementedError. It takes one count of each predicate, or for DISTINCT a walk over the IDs of the triples.
     """
-    triple, keys = _pattern(part)
-    if not all(_is_counted(it, triple, keys) for it in part.A):
+    file, triple, keys = cells.file, *_pattern(part)
+    terms = [None if isinstance(it, (Variable, BNode)) else it for it in triple]
+    if keys == [triple[1]] and terms == [None] * 3 and not given:
+        return _by_predicate(file, part.A, keys[0])
+    if keys or not all(_is_counted(it, triple) for it in part.A) or set(triple) & set(given):
         raise NotImplementedError
-    searches = file.searches([ctx[term] for term in triple])
+    searches = file.searches(terms)
     if len(searches) > 1:
         raise NotImplementedError  # (a triple of two spellings would count twice)
-    groups = _groups(file, searches[0], [triple.index(key) for key in keys], triple) if searches else {}
-    if not searches and not keys:
-        groups = {(): 0}
-    distinct = {
-        it.res: _distinct(file, searches, triple.index(it.vars))
-        for it in part.A
-        if it.name == "Aggregate_Count" and it.distinct
-    }
-    return _bindings(ctx, part, keys, groups, distinct)
+    count = file.count(searches)
+    return [tuple(
+        Literal(_distinct(cells, searches, triple.index(it.vars)) if it.distinct else count) for it in part.A)]
 
 
 def _pattern(part: Any) -> tuple[list[Any], list[Variable]]:
@@ -50,67 +41,36 @@ def _pattern(part: Any) -> tuple[list[Any], list[Variable]]:
     variables = [term for term in triple if isinstance(term, (Variable, BNode))]
     if isinstance(triple[1], Path) or len(set(variables)) < len(variables):
         raise NotImplementedError
-    if not all(isinstance(key, Variable) for key in keys) or not set(keys) <= set(variables):
-        raise NotImplementedError
     return triple, keys
 
 
-def _is_counted(aggregate: Any, triple: list[Any], keys: list[Variable]) -> bool:
-    if aggregate.name == "Aggregate_Sample":
-        return isinstance(aggregate.vars, Variable) and aggregate.vars in keys
-    if aggregate.name != "Aggregate_Count" or (aggregate.distinct and (keys or aggregate.vars == "*")):
+def _is_counted(aggregate: Any, triple: list[Any]) -> bool:
+    if aggregate.name != "Aggregate_Count" or (aggregate.distinct and aggregate.vars == "*"):
         return False
     return aggregate.vars == "*" or (isinstance(aggregate.vars, Variable) and aggregate.vars in triple)
 
 
-def _distinct(file: OpenFile, searches: list[Search], role: int) -> int:
+def _by_predicate(file: OpenFile, aggregates: list[Any], key: Variable) -> list[Row]:
+    """A row for each predicate."""
+    names = [(it.name, it.vars, bool(it.distinct)) for it in aggregates]
+    if not set(names) <= {("Aggregate_Sample", key, False), ("Aggregate_Count", "*", False)}:
+        raise NotImplementedError
+    node = file.node_of_predicate
+    return [
+        tuple(node[number] if name == "Aggregate_Sample" else Literal(count) for name, _, _ in names)
+        for number, count in file.by_predicate().items()
+    ]
+
+
+def _distinct(cells: Cells, searches: list[Search], role: int) -> int:
     """How many different terms a role has in the triples of these searches; literals differ as rdflib says."""
+    file = cells.file
     numbers: set[int] = set()
     for search in searches:
         numbers.update(file.graph.id_array(*search).column(ROLES[role]))
-    literals = {number for number in numbers if file.is_literal(role, number)}
-    return len(numbers) - len(literals) + len(set(_terms(file, role, literals).values()))
-
-
-def _groups(file: OpenFile, search: Search, places: list[int], triple: list[Any]) -> Groups:
-    """How many triples of a search have each of the terms at these places."""
-    if not places:
-        return {(): file.count([search])}
-    numbers: Counter[Any] = Counter()
-    if places == [1] and search == (None, None, None):
-        numbers.update(file.by_predicate())
-    else:
-        numbers.update(map(itemgetter(*places), file.graph.find_ids(*search)))
-    rows = [(number if len(places) > 1 else (number,), count) for number, count in numbers.items()]
-    terms = [_terms(file, place, {row[at] for row, _ in rows}) for at, place in enumerate(places)]
-    groups: Groups = {}
-    for row, count in rows:
-        key = tuple(known[number] for known, number in zip(terms, row))
-        groups[key] = groups.get(key, 0) + count  # (two spellings may be one term of rdflib)
-    return groups
-
-
-def _terms(file: OpenFile, role: int, numbers: set[int]) -> dict[int, Any]:
-    """The terms of numbers of a role."""
     if role == 1:
-        return {number: file.predicate_term[number] for number in numbers}
-    if role == 0:
-        return dict(file.node_terms(numbers))
-    terms = file.node_terms({file.node_of_object(number) for number in numbers})
-    return {number: terms[file.node_of_object(number)] for number in numbers}
-
-
-def _bindings(
-    ctx: Any, part: Any, keys: list[Variable], groups: Groups, distinct: dict[Any, int]
-) -> Iterator[Any]:
-    for key, count in groups.items():
-        values: dict[Variable, Any] = dict(zip(keys, key))
-        found: dict[Any, Optional[Any]] = {}
-        for aggregate in part.A:
-            is_count = aggregate.name == "Aggregate_Count"
-            found[aggregate.res] = (
-                Literal(distinct.get(aggregate.res, count)) if is_count else values[aggregate.vars]
-            )
-        yield FrozenBindings(ctx, found)
-    if not groups:
-        yield FrozenBindings(ctx)  # as rdflib does for no groups
+        return len(numbers)
+    nodes = map(file.node_of_object, numbers) if role == 2 else numbers
+    literals = {node for node in nodes if file.is_literal(*file.place(node))}
+    same = cells.same(literals)
+    return len(numbers) - len(literals) + len({same.get(node, node) for node in literals})

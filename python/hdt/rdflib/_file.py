@@ -2,15 +2,18 @@
 
 from __future__ import annotations
 
-from bisect import bisect_right
+from bisect import bisect_left, bisect_right
 from collections.abc import Iterable, Iterator, Sequence
 from itertools import chain, islice, product
 from typing import Any, Optional, TypeVar
 
 import hdt
-from hdt.rdflib._terms import XSD_STRING, Kept, Term, string_of, term_of
+from hdt._rdflib_terms import string_of
+from hdt.rdflib._terms import XSD_STRING, Kept, Term, term_of
+from rdflib.term import Identifier
 
 Ids = tuple[Optional[int], ...]
+Page = list[tuple[int, int, int]]
 Search = tuple[Optional[int], Optional[int], Optional[int]]  # the parameters of `hdt.Graph.find_ids`
 T = TypeVar("T")
 
@@ -34,7 +37,8 @@ class OpenFile:
 
     Whoever goes through a file holds this, so that nothing is mixed if the store opens another file meanwhile. Subjects
     and objects together are the *nodes*, with one row of IDs: first the strings that are both, then those that are
-    subjects only, then those that are objects only. So a node is compared by its ID alone.
+    subjects only, then those that are objects only; and a predicate that is neither has its own ID, negated. So a term
+    of the file is compared by its ID alone.
     """
 
     def __init__(self, graph: hdt.Graph, scope: str, exact: bool, keep: int) -> None:
@@ -45,10 +49,11 @@ class OpenFile:
         self.predicate_term: Kept[int, Term] = Kept(keep, lambda number: self._term(1, number))
         self._of_predicate: Kept[int, int] = Kept(keep, lambda p: graph.matching_ids(None, p, None))
         self._like: Kept[tuple[int, str], tuple[int, ...]] = Kept(keep, self._spellings)
-        # By role, the IDs to search for if it has to be the term with an ID: a node's, or a predicate's.
-        self.ids: tuple[Kept[int, Ids], ...] = (
+        self.node_of_predicate: Kept[int, int] = Kept(keep, self._node_of_predicate)
+        # By role, the IDs to search for if it has to be the term with an ID, or a term that the file lacks.
+        self.ids: tuple[Kept[Any, Ids], ...] = (
             Kept(keep, lambda node: self._ids_of_node(0, node)),
-            Kept(keep, lambda number: (number,)),
+            Kept(keep, lambda node: self._ids_of_node(1, node)),
             Kept(keep, lambda node: self._ids_of_node(2, node)),
         )
         self._literals = [graph.ids_with_prefix('"', role) for role in ROLES]
@@ -57,6 +62,8 @@ class OpenFile:
 
     def place(self, node: int) -> tuple[int, int]:
         """A role that has the node, and its number there."""
+        if node < 0:
+            return 1, -node
         return (0, node) if node <= self.subjects else (2, node - self.more)
 
     def node_of_object(self, number: int) -> int:
@@ -67,11 +74,48 @@ class OpenFile:
         """Whether the string with an ID is that of a literal."""
         return any(number in literals for literals in self._literals[role])
 
-    def _ids_of_node(self, role: int, node: int) -> Ids:
+    def nodes(self) -> Iterator[int]:
+        """Each subject and object, once."""
+        return iter(range(1, self.graph.count("object") + self.more + 1))
+
+    def is_node(self, cell: Any) -> bool:
+        """Whether what is an ID of this class, or a term, is a subject or an object."""
+        if isinstance(cell, Identifier):
+            return bool(self.ids[0][cell] or self.ids[2][cell])
+        return bool(cell > 0)
+
+    def node_of(self, string: str) -> Optional[int]:
+        """The node with a string, be it that of a predicate only."""
+        if (number := self.graph.number("subject", string)) is not None:
+            return number
+        if (number := self.graph.number("object", string)) is not None:
+            return self.node_of_object(number)
+        number = self.graph.number("predicate", string)
+        return None if number is None else -number
+
+    def _node_of_predicate(self, number: int) -> int:
+        node = self.node_of(self.graph.string("predicate", number))
+        return -number if node is None else node
+
+    def subjects_of(self, predicate: int) -> set[int]:
+        """The subjects that a predicate has. Their IDs are in memory."""
+        return set(self.graph.id_array(None, predicate, None).column("subject"))
+
+    def objects_of(self, predicate: int) -> set[int]:
+        """The nodes that are objects of a predicate. Their IDs are in memory."""
+        return set(map(self.node_of_object, self.graph.id_array(None, predicate, None).column("object")))
+
+    def _ids_of_node(self, role: int, node: Any) -> Ids:
+        """The IDs of a role that are the same term as a node, or as a term without a node (which only another spelling
+        of a literal may have)."""
+        if isinstance(node, Identifier):
+            return () if self.exact else self.spellings(role, node)
         at, number = self.place(node)
         if not self.exact and self.is_literal(at, number):
             return self._like[role, self.graph.string(ROLES[at], number)]
-        return (number,) if at == role or node <= self.shared else ()
+        if at == role or (role != 1 and 0 < node <= self.shared):
+            return (number,)
+        return self._known(role, [self.graph.string(ROLES[at], number)]) if role == 1 else ()
 
     # ---- terms
 
@@ -96,12 +140,16 @@ class OpenFile:
             found.update((node, self.node_term[node]) for node in lacking)
             return found
         lacking.sort()
-        middle = bisect_right(lacking, self.subjects)
-        strings = self.graph.strings("subject", lacking[:middle])
-        strings += self.graph.strings("object", [node - self.more for node in lacking[middle:]])
-        for node, string in zip(lacking, strings):
+        for node, string in zip(lacking, self.strings(lacking)):
             found[node] = self.node_term.keep(node, self._made(*self.place(node), string))
         return found
+
+    def strings(self, nodes: list[int]) -> list[str]:
+        """The strings of nodes that ascend, in their order."""
+        first, middle = bisect_left(nodes, 0), bisect_right(nodes, self.subjects)
+        strings = [self.graph.string("predicate", -node) for node in nodes[:first]]
+        strings += self.graph.strings("subject", nodes[first:middle])
+        return strings + self.graph.strings("object", [node - self.more for node in nodes[middle:]])
 
     # ---- spellings
 
@@ -165,10 +213,17 @@ class OpenFile:
 
     def found(self, search: Search) -> Iterator[tuple[int, int, int]]:
         """The triples that a search finds, as IDs. As most of a join find few, the first page is asked for at once."""
+        return chain.from_iterable(self.pages(search))
+
+    def pages(self, search: Search) -> Iterator[Page]:
+        """The triples that a search finds, in lists of up to 4,096, the first of up to 64; none of them is empty."""
         page, following = self.graph.page_ids(*search, limit=_FIRST)
-        if following is None:
-            return iter(page)
-        return chain(page, self.graph.find_ids(*search, start=_FIRST))
+        if page:
+            yield page
+        if following is not None:
+            more = self.graph.find_ids(*search, start=_FIRST)
+            while page := list(islice(more, _PORTION)):
+                yield page
 
     def triples(self, given: Sequence[Any], searches: list[Search], skip: int = 0) -> Iterator[tuple[Any, Any, Any]]:
         """The triples that searches find, each once, as terms, without the first `skip` ones.

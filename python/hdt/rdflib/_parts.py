@@ -8,7 +8,9 @@ from typing import Any
 import hdt
 from hdt.parts import open_any
 from hdt.parts._string_ids import StringIds
-from hdt.rdflib._file import OpenFile, Search
+from hdt.rdflib._file import ROLES, Ids, OpenFile, Search, portions
+from hdt.rdflib._terms import Kept
+from rdflib.term import Identifier
 
 _LAST: Any = "\U0010ffff"  # no string of a term is greater
 
@@ -21,13 +23,44 @@ class OpenParts(OpenFile):
         none: Any = ""
         self.shared, self.subjects, self.more = _LAST, _LAST, none
 
+        self.node_of_predicate = Kept(keep, lambda string: string)
+        self._is_node: Kept[str, bool] = Kept(keep, lambda string: any(
+            graph.number(role, string) is not None for role in (ROLES[0], ROLES[2])))
+
+    def place(self, node: Any) -> tuple[int, Any]:
+        """Each role has the string."""
+        return 0, node
+
+    def nodes(self) -> Iterator[Any]:
+        """Each subject and object, once. Their strings are in memory."""
+        return iter(dict.fromkeys(string for s, _, o in self.graph.find() for string in (s, o)))
+
+    def is_node(self, cell: Any) -> bool:
+        """Whether a string, or a term, is a subject or an object."""
+        if isinstance(cell, Identifier):
+            return super().is_node(cell)
+        return self._is_node[cell]
+
+    def node_of(self, string: str) -> Any:
+        """The string, if the folder has it in some role."""
+        return next((string for role in ROLES if self.graph.number(role, string) is not None), None)
+
+    def _ids_of_node(self, role: int, node: Any) -> Ids:
+        if isinstance(node, Identifier):
+            return super()._ids_of_node(role, node)
+        return self._like[role, node] if node.startswith('"') and not self.exact else (node,)
+
+    def strings(self, nodes: list[Any]) -> list[str]:
+        """The strings of nodes, which are they."""
+        return nodes
+
     def by_predicate(self) -> dict[Any, int]:
         """How many triples each predicate has."""
         return dict(self.graph.predicates())
 
-    def found(self, search: Search) -> Iterator[Any]:
+    def pages(self, search: Search) -> Iterator[Any]:
         """The triples that a search finds. One part after another is asked, and the first triples come at once."""
-        return self.graph.find_ids(*search)
+        return portions(self.graph.find_ids(*search))
 
 
 def opened_at(path: hdt.Path, scope: str, exact: bool, keep: int) -> OpenFile:

@@ -4,23 +4,25 @@ from __future__ import annotations
 
 import os
 import tempfile
-import threading
-from collections.abc import Iterator, Sequence
+from collections.abc import Callable, Iterator, Sequence
 from itertools import islice
 from pathlib import Path
-from typing import Any, Optional
+from typing import Any, Optional, TypeVar
 
 import hdt
 import rdflib
+from hdt._forks import Locked
+from hdt.rdflib._describe import described
 from hdt.rdflib._file import OpenFile
 from hdt.rdflib._parts import opened_at
 from hdt.rdflib._terms import term_of
+from hdt.rdflib._translation import translated
 from rdflib.graph import Graph
-from rdflib.plugins.sparql.algebra import translateQuery
 from rdflib.plugins.sparql.evaluate import evalQuery
-from rdflib.plugins.sparql.parser import parseQuery
 from rdflib.plugins.sparql.processor import SPARQLResult
 from rdflib.store import VALID_STORE, Store
+
+T = TypeVar("T")
 
 _NO_CONTEXTS: tuple[()] = ()
 _KEPT = 65_536  # terms, and strings, that are kept
@@ -247,17 +249,20 @@ class HDTStore(Store):
         """Evaluate the text of a SPARQL query with rdflib's engine, but with its literals as they are spelled.
 
         rdflib itself reads `1e0` as `1.0` and `2020-01-01T00:00:00Z` with `+00:00`, which finds nothing in a file that
-        has the text of the query. A prepared query is left to rdflib: it was read before. Raises what rdflib raises.
+        has the text of the query. DESCRIBE, which rdflib 6.1.1 can't evaluate, gives the triples of each resource as
+        their subject, and those of the blank nodes that they lead to. A prepared query is left to rdflib: it was read
+        before. Raises what rdflib raises.
 
         >>> Graph(HDTStore("graph.hdt")).query('ASK { ?s ?p "x" }').askAnswer
         True
         """
         if not isinstance(query, str):
             raise NotImplementedError  # rdflib's Graph.query evaluates it
-        base = kwargs.get("base")
-        with _ExactLiterals():
-            prepared = translateQuery(parseQuery(query), base, initNs)
-        return SPARQLResult(evalQuery(Graph(self, queryGraph), prepared, initBindings, base))
+        base, graph = kwargs.get("base"), Graph(self, queryGraph)
+        prepared, named = exact_literals.made_by(lambda: translated(query, base, initNs))
+        if named is not None:
+            return SPARQLResult(described(graph, prepared, named, initBindings, base))
+        return SPARQLResult(evalQuery(graph, prepared, initBindings, base))
 
     # ---- namespaces, which are kept in memory only
 
@@ -305,18 +310,32 @@ def _reopened(kind: Any, path: Any, identifier: Any, options: dict[str, Any], pr
     return store
 
 
-class _ExactLiterals:
-    """While it is entered, rdflib makes literals with the text that they are given.
+class _ExactLiterals(Locked):
+    """Calls during which rdflib makes literals with the text that they are given.
 
     The flag is rdflib's, and one for all threads: literals that other threads make meanwhile are exact too.
     """
 
-    lock = threading.RLock()
+    def __init__(self) -> None:
+        super().__init__()
+        self._before: Optional[bool] = None  # the flag, while a call runs
 
-    def __enter__(self) -> None:
-        self.lock.acquire()
-        self.before, rdflib.NORMALIZE_LITERALS = rdflib.NORMALIZE_LITERALS, False
+    def made_by(self, call: Callable[[], T]) -> T:
+        """What a call returns."""
+        with self._lock:
+            self._before = rdflib.NORMALIZE_LITERALS
+            try:
+                rdflib.NORMALIZE_LITERALS = False
+                return call()
+            finally:
+                self._restore()
 
-    def __exit__(self, *_: object) -> None:
-        rdflib.NORMALIZE_LITERALS = self.before
-        self.lock.release()
+    def _restore(self) -> None:
+        if self._before is not None:
+            rdflib.NORMALIZE_LITERALS, self._before = self._before, None
+
+    def _is_left_in_use(self) -> None:
+        self._restore()
+
+
+exact_literals = _ExactLiterals()

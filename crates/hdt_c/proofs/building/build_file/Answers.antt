@@ -5,13 +5,13 @@ use Rattle.std.specs.Prelude.{◌≡◌, ◌≢◌, ℕ, Bool, true, false, List
 use Rattle.hdt_wire.specs.Counted.{inner}
 use Rattle.hdt_dict.specs.Strings.{BorrowedString}
 use Rattle.hdt_build.specs.Built.{Builds}
-use Rattle.hdt_terms.specs.Terms.{IsIri}
-use Rattle.hdt_build.specs.Options.{AreValidOptions, IsBlockSize}
+use Rattle.hdt_build.specs.Options.{AreValidOptions}
 use Rattle.hdt_build.specs.Reading.{IsBuildFaultOf}
 use Rattle.hdt_build.specs.declared.fault.BuildFault.{BuildFault}
 use Rattle.hdt_build.specs.declared.fault.BuildFault.TheVariants.{Line, NoTriples, BadOptions, OutOfMemory, Write}
 use Rattle.hdt_build.specs.declared.options.Options.{Options}
-use Rattle.hdt_c.specs.Building.{AreGivenOptions, AreInvalidOptions, HasBuildFault}
+use Rattle.hdt_c.specs.Building.{AreGivenOptions, HasBuildFault}
+use Rattle.hdt_c.proofs.OptionLaws.{not_invalid}
 use Rattle.hdt_c.proofs.building.build_file.Goals as goal
 
 is_bad : BuildFault → Bool
@@ -24,20 +24,6 @@ is_bad (Write n) = false
 -- an error of a result is its only one
 err_is : {A : Type 0} (r : Result A BuildFault) (e f : BuildFault) → r ≡ Err e → r ≡ Err f → e ≡ f
 err_is r e f a b = cc
-
--- options are valid if others with the same base and block size are
-valid_for : (base : List ℕ) (b : ℕ) (options other : Options) → AreGivenOptions base b options
-    → AreGivenOptions base b other → AreValidOptions options → AreValidOptions other
-valid_for base b options other given same valid = record {
-  block_size = subst IsBlockSize (given.size_is ∙ sym same.size_is) valid.block_size;
-  base = subst IsIri (given.base_is ∙ sym same.base_is) valid.base;
-}
-
--- the options are valid, unless it is proved that they are not
-not_invalid : (base : List ℕ) (b : ℕ) (options : Options) → AreGivenOptions base b options
-    → ((AreValidOptions options → ⊥) → ⊥) → AreInvalidOptions base b → ⊥
-not_invalid base b options given right invalid =
-    right (λ valid. invalid.bad (valid_for base b options invalid.options given invalid.given valid))
 
 -- the error that is returned is in the options or in the text
 stands : (text base : List ℕ) (b : ℕ) (options : Options) → AreGivenOptions base b options

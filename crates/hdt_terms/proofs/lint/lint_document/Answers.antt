@@ -1,26 +1,27 @@
-use Rattle.std.proofs.Common.{◌∷◌, ◌++◌, ◌∙◌, [], arith, inl, inr, refl}
+use Rattle.std.proofs.Common.{◌∷◌, ◌++◌, ◌∙◌, [], arith, inl, inr, length, refl}
 use Rattle.std.proofs.lemmas.Result.{err_from_is_err_and}
 use Rattle.hdt_terms.specs.LinesReader.{line_number}
 use Rattle.hdt_terms.specs.Documents.{DocumentLine}
 use Rattle.hdt_terms.specs.Lint.{numbered}
 use Rattle.hdt_terms.proofs.DocumentLines.{begins_with, below_most, counted_on, cut_short, fault_behind, fewer_before}
-use Rattle.hdt_terms.proofs.DocumentLines.{linted_on, no_bytes, none_before, none_linted, none_read, nothing_linted}
+use Rattle.hdt_terms.proofs.DocumentLines.{no_bytes, none_before, none_linted, none_read, nothing_linted}
 use Rattle.hdt_terms.proofs.DocumentLines.{read_on, stops_at, writer_failed, wrote, wrote_all, wrote_prefix}
+use Rattle.hdt_terms.proofs.LineStarts.{counted_start, linted_start, whole_of_start}
 use Rattle.hdt_terms.proofs.lint.lint_document.Goals as goal
 
 pub returns-in_err-lines-clause-stopped : goal.returns-in_err-lines-clause-stopped
 returns-in_err-lines-clause-stopped g c =
     let p = err_from_is_err_and c.from_residual.result c.from_residual.ensures.1 in
-    rw (p.1, p.2) (nothing_linted _ _ _ _ _)
+    rw (p.1, p.2) (nothing_linted _ _ _ _ _ _)
 
 pub lines-init : goal.lines-init
 lines-init g c = record {
   linted = (
     [],
     none_read c.in_ok-lines.lines _ c.in_ok-lines.ensures,
-    none_linted _ _ _ _ _ _ c.new-linter.ensures.kept c.new-linter.ensures.reported c.new-linter.ensures.faulty,
+    none_linted _ _ _ _ _ _ _ c.new-linter.ensures.kept c.new-linter.ensures.reported c.new-linter.ensures.faulty,
     refl,
-    none_before _,
+    none_before _ _,
   );
   within = omega arith;
   keep = c.new-linter.ensures.keep;
@@ -48,7 +49,7 @@ pub returns-in_err-lint_line-clause-stopped : goal.returns-in_err-lint_line-clau
 returns-in_err-lint_line-clause-stopped g c =
     let inv = c.lines.invariant.linted in
     let p = err_from_is_err_and c.from_residual-in_err-lint_line.result c.from_residual-in_err-lint_line.ensures.1 in
-    rw (p.1, p.2) (cut_short c.args.keep c.lines.lines _ _ _ _ _ _ _ inv.0 _ inv.1 (inl refl)
+    rw (p.1, p.2) (cut_short c.args.longest c.args.keep c.lines.lines _ _ _ _ _ _ _ inv.0 _ inv.1 (inl refl)
     (c.lines.linter.kept.items, inv.2.kept_is) (c.lines.linter.reported.items, inv.2.reported_is))
 
 pub returns-in_err-written-clause-stopped : goal.returns-in_err-written-clause-stopped
@@ -57,14 +58,18 @@ returns-in_err-written-clause-stopped g c =
     let p = err_from_is_err_and c.from_residual-in_err-written.result c.from_residual-in_err-written.ensures.1 in
     let failed = c.in_err-written.ensures in
     let lint = rw c.line_number-number.ensures at c.in_ok-lint_line.ensures in
-    let line : DocumentLine =
-    numbered (line_number c.next_whole_line.new.self) c.in-Ok.n c.next_whole_line.new.bytes.items in
-    let more = read_on c.in-Ok.n c.lines.lines c.next_whole_line.new.self _ _ _ c.next_whole_line.new.bytes.items inv.0
-    inv.1 (c.is_another_wanted.ensures.going c.lines-test.true) c.in-Ok.ensures.does in
-    let linted = linted_on c.args.keep inv.0 line _ _ _ _ _ _ c.lint_line.new.self.kept.items
-    c.lint_line.new.self.reported.items _ c.lint_line.new.self.faulty inv.2
-    (rw c.lines.invariant.keep at lint.kept) lint.reported lint.faulty in
-    rw (p.1, p.2) (cut_short c.args.keep c.next_whole_line.new.self _ _ _ _ _ _ _ (inv.0 ++ line
+    let held = c.in-Ok.ensures.does in
+    let whole = whole_of_start _ c.in-Ok.n c.lines.lines c.next_line_start.new.self _ _
+    c.next_line_start.new.bytes.items held in
+    let number = line_number c.next_line_start.new.self in
+    let line : DocumentLine = numbered number (length held.text) (held.text ++ held.end) in
+    let more = read_on (length held.text) c.lines.lines c.next_line_start.new.self _ _ _ (held.text ++ held.end) inv.0
+    inv.1 (c.is_another_wanted.ensures.going c.lines-test.true) whole in
+    let linted = linted_start c.args.longest c.args.keep inv.0 number c.in-Ok.n held.text held.end
+    c.next_line_start.new.bytes.items _ _ _ _ _ _ c.lint_line.new.self.kept.items c.lint_line.new.self.reported.items _
+    c.lint_line.new.self.faulty held.len held.bytes_are inv.2 (rw c.lines.invariant.keep at lint.kept) lint.reported
+    lint.faulty in
+    rw (p.1, p.2) (cut_short c.args.longest c.args.keep c.next_line_start.new.self _ _ _ _ _ _ _ (inv.0 ++ line
     ∷ []) c.in_err-written.field-0.0 more (inr (failed.err.0, failed.err.1))
     (wrote_prefix _ _ _ _ c.lint_line.new.self.kept.items linted.kept_is failed.kept_part)
     (wrote_prefix _ _ _ _ c.lint_line.new.self.reported.items linted.reported_is failed.reported_part))
@@ -81,13 +86,17 @@ lines-preserved g c =
     let inv = c.lines.invariant.linted in
     let done = c.in_ok-written.ensures in
     let lint = rw c.line_number-number.ensures at c.in_ok-lint_line.ensures in
-    let line : DocumentLine =
-    numbered (line_number c.next_whole_line.new.self) c.in-Ok.n c.next_whole_line.new.bytes.items in
-    let more = read_on c.in-Ok.n c.lines.lines c.next_whole_line.new.self _ _ _ c.next_whole_line.new.bytes.items inv.0
-    inv.1 (c.is_another_wanted.ensures.going c.lines-test.true) c.in-Ok.ensures.does in
-    let linted = linted_on c.args.keep inv.0 line _ _ _ _ _ _ c.lint_line.new.self.kept.items
-    c.lint_line.new.self.reported.items _ c.lint_line.new.self.faulty inv.2
-    (rw c.lines.invariant.keep at lint.kept) lint.reported lint.faulty in
+    let held = c.in-Ok.ensures.does in
+    let whole = whole_of_start _ c.in-Ok.n c.lines.lines c.next_line_start.new.self _ _
+    c.next_line_start.new.bytes.items held in
+    let number = line_number c.next_line_start.new.self in
+    let line : DocumentLine = numbered number (length held.text) (held.text ++ held.end) in
+    let more = read_on (length held.text) c.lines.lines c.next_line_start.new.self _ _ _ (held.text ++ held.end) inv.0
+    inv.1 (c.is_another_wanted.ensures.going c.lines-test.true) whole in
+    let linted = linted_start c.args.longest c.args.keep inv.0 number c.in-Ok.n held.text held.end
+    c.next_line_start.new.bytes.items _ _ _ _ _ _ c.lint_line.new.self.kept.items c.lint_line.new.self.reported.items _
+    c.lint_line.new.self.faulty held.len held.bytes_are inv.2 (rw c.lines.invariant.keep at lint.kept) lint.reported
+    lint.faulty in
     record {
       linted = (
         inv.0 ++ line ∷ [],
@@ -99,8 +108,10 @@ lines-preserved g c =
               linted.reported_is done.reported;
           faulty_is = done.others.1 ∙ linted.faulty_is;
         },
-        counted_on inv.0 line c.lines.count _ _ inv.3 (c.from.ensures ∙ lint.count) refl,
-        fewer_before inv.0 line c.lines.count c.args.most inv.3
+        counted_on c.args.longest inv.0 line c.lines.count _ _ inv.3 (counted_start c.args.longest number c.in-Ok.n _
+            held.text held.end c.next_line_start.new.bytes.items held.len held.bytes_are
+            (c.from.ensures ∙ lint.count)) refl,
+        fewer_before c.args.longest inv.0 line c.lines.count c.args.most inv.3
             (c.is_another_wanted.ensures.fewer c.lines-test.true),
       );
       within = rw c.from.ensures
@@ -120,7 +131,8 @@ returns-in_err-write_both_if_long-clause-stopped g c =
     let p = err_from_is_err_and c.from_residual-in_err-write_both_if_long.result
     c.from_residual-in_err-write_both_if_long.ensures.1 in
     let failed = c.in_err-write_both_if_long.ensures in
-    rw (p.1, p.2) (cut_short c.args.keep c.lines.lines _ _ _ _ _ _ _ inv.0 c.in_err-write_both_if_long.field-0.0 inv.1
+    rw (p.1, p.2) (cut_short c.args.longest c.args.keep c.lines.lines _ _ _ _ _ _ _ inv.0
+    c.in_err-write_both_if_long.field-0.0 inv.1
     (inr (failed.err.0, failed.err.1)) (wrote_prefix _ _ _ _ c.lines.linter.kept.items inv.2.kept_is failed.kept_part)
     (wrote_prefix _ _ _ _ c.lines.linter.reported.items inv.2.reported_is failed.reported_part))
 

@@ -2,7 +2,7 @@ use Rattle.std.proofs.Common.{◌≡◌, ◌+◌, ◌-◌, ◌<◌, ◌≤◌, �
 use Rattle.hdt_wire.specs.Counted.{inner, failures}
 use Rattle.hdt_terms.specs.LinesReader.{left}
 use Rattle.hdt_terms.specs.Documents.{DocumentLine}
-use Rattle.hdt_terms.specs.Lint.{GainsBytes, faulty_lines}
+use Rattle.hdt_terms.specs.Lint.{GainsBytes, faulty_lines_within}
 use Rattle.hdt_terms.proofs.DocumentLines.{HasReadLines, Linted}
 use Rattle.hdt_terms.proofs.lint.lint_document.Given as goal
 
@@ -12,12 +12,12 @@ invariant-lines g l = record {
   linted : (lines : List DocumentLine)
       × HasReadLines l.lines (g.R.Read.remaining (inner l.fn.input))
       (left l.lines (g.R.Read.remaining (inner l.input))) lines
-      × Linted l.keep lines (g.K.Write.contents (inner l.fn.kept)) (g.K.Write.contents (inner l.kept))
+      × Linted l.longest l.keep lines (g.K.Write.contents (inner l.fn.kept)) (g.K.Write.contents (inner l.kept))
       (g.T.Write.contents (inner l.fn.reported))
       (g.T.Write.contents (inner l.reported)) l.linter.kept.items l.linter.reported.items l.linter.faulty
-      × (l.count ≡ length (faulty_lines lines))
+      × (l.count ≡ length (faulty_lines_within l.longest lines))
       × ((before : List DocumentLine) (last : DocumentLine) → lines ≡ before ++ last ∷ []
-      → length (faulty_lines before) < l.most);
+      → length (faulty_lines_within l.longest before) < l.most);
   within : l.count ≤ l.most;
   keep : l.linter.keep ≡ l.keep;
   kept : failures l.kept ≡ failures l.fn.kept;

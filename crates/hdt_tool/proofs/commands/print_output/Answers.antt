@@ -1,50 +1,45 @@
-use Rattle.std.proofs.Common.{[], Err, refl}
-use Rattle.std.proofs.lemmas.Result.{err_from_is_err_and}
+use Rattle.std.proofs.Common.{[], Err}
+use Rattle.std.proofs.lemmas.Result.{IfErr-weaker, IfOk-weaker, err_from_is_err_and}
 use Rattle.hdt_wire.specs.Counted.{inner}
-use Rattle.hdt_dict.specs.Dictionary.{role_strings}
 use Rattle.hdt_tool.specs.Outcomes.{Prints, PrintsWithCount, ReadsWith}
-use Rattle.hdt_tool.specs.StringsText.{string_lines}
-use Rattle.hdt_tool.proofs.Outputs.{counts_non_terms, counts_nothing, nothing_built, prints_text}
+use Rattle.hdt_tool.proofs.Outputs.{counts_non_terms, counts_nothing, not_in_pieces, nothing_built}
+use Rattle.hdt_tool.proofs.Outputs.{prints_text}
 use Rattle.hdt_tool.proofs.Outputs.{reads_printed, writes_prefix}
-use Rattle.hdt_tool.proofs.Pieces.{all_lines, role_halts, role_reported, role_writes}
+use Rattle.hdt_tool.proofs.Pieces.{pieces_halt, pieces_reported, pieces_write}
 use Rattle.hdt_tool.proofs.commands.print_output.Goals as goal
 
-pub returns-in-Strings-clause-ok : goal.returns-in-Strings-clause-ok
-returns-in-Strings-clause-ok g c =
-    let h = c.in_ok-print_file_strings-in-Strings.ensures.ok in
-    let lines = all_lines _ _ _ _ _ c.in_ok-bytes.ensures.ok c.deref.ensures.value h.graph h.encoded in
-    rw c.in-Strings.is (record {
-      text = string_lines 1 (role_strings h.graph.dictionary c.in-Strings.role);
-      prints = record { bytes = lines.bytes; read = lines.read; holds = (lines.holds, refl) };
-      written = h.holds;
-    })
+pub returns-then-prints_in_pieces-clause-ok : goal.returns-then-prints_in_pieces-clause-ok
+returns-then-prints_in_pieces-clause-ok g c =
+    IfOk-weaker c.print_in_pieces.result _ _
+    (λ n h. record {
+      text = h.0;
+      prints = record {
+        bytes = c.in_ok-bytes.bytes.items;
+        read = c.in_ok-bytes.ensures.ok;
+        holds = rw c.deref.ensures.value at h.1;
+      };
+      written = h.2;
+    }) c.print_in_pieces.ensures.ok
 
-pub returns-in_err-print_file_strings-in-Strings-clause-write
-    : goal.returns-in_err-print_file_strings-in-Strings-clause-write
-returns-in_err-print_file_strings-in-Strings-clause-write g c =
-    let p = err_from_is_err_and c.from_residual-in_err-print_file_strings-in-Strings.result
-    c.from_residual-in_err-print_file_strings-in-Strings.ensures.1 in
-    rw (p.1, p.2, c.in-Strings.is)
-    (role_writes _ _ _ _ _ _ _ _ _ c.in_err-print_file_strings-in-Strings.field-0.0 _ c.in_ok-bytes.ensures.ok
-    c.deref.ensures.value c.in_err-print_file_strings-in-Strings.ensures.err)
+pub returns-then-prints_in_pieces-clause-write : goal.returns-then-prints_in_pieces-clause-write
+returns-then-prints_in_pieces-clause-write g c =
+    IfErr-weaker c.print_in_pieces.result _ _
+    (λ e h. pieces_write _ _ _ _ _ _ _ _ _ e _
+    (c.prints_in_pieces.ensures.0 c.if-prints_in_pieces.true) c.in_ok-bytes.ensures.ok c.deref.ensures.value h)
+    c.print_in_pieces.ensures.err
 
-pub returns-in_err-print_file_strings-in-Strings-clause-reported
-    : goal.returns-in_err-print_file_strings-in-Strings-clause-reported
-returns-in_err-print_file_strings-in-Strings-clause-reported g c =
-    let p = err_from_is_err_and c.from_residual-in_err-print_file_strings-in-Strings.result
-    c.from_residual-in_err-print_file_strings-in-Strings.ensures.1 in
-    rw (p.1, p.2, c.in-Strings.is)
-    (role_reported _ _ _ _ _ _ _ _ _ c.in_err-print_file_strings-in-Strings.field-0.0 _ c.in_ok-bytes.ensures.ok
-    c.deref.ensures.value c.in_err-print_file_strings-in-Strings.ensures.err)
+pub returns-then-prints_in_pieces-clause-reported : goal.returns-then-prints_in_pieces-clause-reported
+returns-then-prints_in_pieces-clause-reported g c =
+    IfErr-weaker c.print_in_pieces.result _ _
+    (λ e h. pieces_reported _ _ _ _ _ _ _ _ _ e _ c.in_ok-bytes.ensures.ok c.deref.ensures.value h)
+    c.print_in_pieces.ensures.err
 
-pub returns-in_err-print_file_strings-in-Strings-clause-unwritten
-    : goal.returns-in_err-print_file_strings-in-Strings-clause-unwritten
-returns-in_err-print_file_strings-in-Strings-clause-unwritten g c =
-    let p = err_from_is_err_and c.from_residual-in_err-print_file_strings-in-Strings.result
-    c.from_residual-in_err-print_file_strings-in-Strings.ensures.1 in
-    rw (p.1, p.2, c.in-Strings.is)
-    (role_halts _ _ _ _ _ _ _ _ _ c.in_err-print_file_strings-in-Strings.field-0.0 _ c.in_ok-bytes.ensures.ok
-    c.deref.ensures.value c.in_err-print_file_strings-in-Strings.ensures.err)
+pub returns-then-prints_in_pieces-clause-unwritten : goal.returns-then-prints_in_pieces-clause-unwritten
+returns-then-prints_in_pieces-clause-unwritten g c =
+    IfErr-weaker c.print_in_pieces.result _ _
+    (λ e h. pieces_halt _ _ _ _ _ _ _ _ _ e _
+    (c.prints_in_pieces.ensures.0 c.if-prints_in_pieces.true) c.in_ok-bytes.ensures.ok c.deref.ensures.value h)
+    c.print_in_pieces.ensures.err
 
 pub returns-in-SkipNonTerms-clause-ok : goal.returns-in-SkipNonTerms-clause-ok
 returns-in-SkipNonTerms-clause-ok g c =
@@ -81,14 +76,17 @@ returns-in_err-write_text-in-SkipNonTerms-clause-write g c =
     (rw c.deref-in-SkipNonTerms-2.ensures.value at c.in_err-write_text-in-SkipNonTerms.ensures.failed))
 
 pub file_text-requires : goal.file_text-requires
-file_text-requires g c = prints_text c.args.action.now c.requires c.in_default.not-Strings c.in_default.not-SkipNonTerms
-    c.in_default.not-VerifyTerms
+file_text-requires g c =
+    prints_text c.args.action.now c.requires
+    (not_in_pieces c.args.action.now _ c.prints_in_pieces.ensures.1 c.if-prints_in_pieces.false)
+    c.in_default.not-SkipNonTerms c.in_default.not-VerifyTerms
 
 pub returns-clause-ok : goal.returns-clause-ok
 returns-clause-ok g c =
     let action = c.args.action.now in
-    let only = prints_text action c.requires c.in_default.not-Strings c.in_default.not-SkipNonTerms
-    c.in_default.not-VerifyTerms in
+    let only = prints_text action c.requires
+    (not_in_pieces action _ c.prints_in_pieces.ensures.1 c.if-prints_in_pieces.false)
+    c.in_default.not-SkipNonTerms c.in_default.not-VerifyTerms in
     let made = c.in_ok-text-in_default in
     record {
       text = made.text.items;

@@ -2,21 +2,21 @@ use Rattle.std.proofs.Common.{◌∙◌, ap, subst, sym}
 use Rattle.std.proofs.lemmas.Result.{IfErr-weaker, IfOk-weaker, err_from_is_err_and}
 use Rattle.hdt_file.specs.Graph.{layout_view}
 use Rattle.hdt_tool.specs.Faults.{tool_fault_of}
-use Rattle.hdt_tool.specs.Outcomes.{IsFaultOfBytes, PrintsCountingNonTerms}
+use Rattle.hdt_tool.specs.Outcomes.{CountsNonTerms, IsFaultOfBytes, PrintsCountingNonTerms}
 use Rattle.hdt_tool.specs.declared.request.Action.{Action}
 use Rattle.hdt_tool.specs.declared.request.Action.TheVariants.{VerifyTerms}
 use Rattle.hdt_tool.proofs.NonTermLaws.{first_fault, tight_fault, tight_verdict}
+use Rattle.hdt_tool.proofs.Outputs.{counts_kept}
 use Rattle.hdt_tool.proofs.non_term_text.text_and_count.Goals as goal
 
-pub returns-in_ok-kept_text-in-SkipNonTerms-clause-ok : goal.returns-in_ok-kept_text-in-SkipNonTerms-clause-ok
-returns-in_ok-kept_text-in-SkipNonTerms-clause-ok c =
-    let made = c.in_ok-kept_text-in-SkipNonTerms.field-0 in
+pub returns-in_ok-kept_count-in-SkipNonTerms-clause-ok : goal.returns-in_ok-kept_count-in-SkipNonTerms-clause-ok
+returns-in_ok-kept_count-in-SkipNonTerms-clause-ok c =
+    let made = c.in_ok-kept_count-in-SkipNonTerms.field-0 in
+    let asked = subst CountsNonTerms c.in-SkipNonTerms.is c.requires in
     subst (λ (a : Action). PrintsCountingNonTerms a c.args.bytes.now made.0.items made.1) (sym c.in-SkipNonTerms.is)
-    (record {
-      graph = layout_view c.in_ok-layout-in-SkipNonTerms.layout;
-      encoded = c.in_ok-layout-in-SkipNonTerms.ensures.found;
-      holds = c.in_ok-kept_text-in-SkipNonTerms.ensures;
-    })
+    (counts_kept c.in-SkipNonTerms.given _ c.in-SkipNonTerms.most c.args.bytes.now made.0.items made.1
+    (layout_view c.in_ok-layout-in-SkipNonTerms.layout) asked c.in_ok-layout-in-SkipNonTerms.ensures.found
+    c.in_ok-kept_count-in-SkipNonTerms.ensures)
 
 pub returns-in_ok-verify_tight-in-VerifyTerms-true-clause-ok
     : goal.returns-in_ok-verify_tight-in-VerifyTerms-true-clause-ok

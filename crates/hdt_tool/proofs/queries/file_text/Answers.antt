@@ -1,17 +1,15 @@
-use Rattle.std.proofs.Common.{◌≡◌, ◌≢◌, ◌⊎◌, ◌∙◌, ℕ, List, None, Some, ap, subst, sym}
+use Rattle.std.proofs.Common.{◌≡◌, ◌≢◌, ◌⊎◌, ◌∙◌, ℕ, List, Some, ap, subst, sym}
 use Rattle.std.proofs.lemmas.Result.{IfErr-weaker, IfOk-weaker, err_from_is_err_and}
 use Rattle.hdt_dict.specs.Dictionary.{role_strings}
 use Rattle.hdt_dict.specs.Ids.{string_at_id}
 use Rattle.hdt_file.specs.Graph.{graph_view, layout_view}
 use Rattle.hdt_tool.specs.declared.fault.ToolFault.TheVariants.{OutOfMemory, NoSuchTerm}
 use Rattle.hdt_tool.specs.declared.request.Action.{Action}
-use Rattle.hdt_tool.specs.declared.request.OutputFormat.{OutputFormat}
 use Rattle.hdt_tool.specs.Outcomes.{IsFaultOfBytes, Prints}
 use Rattle.hdt_tool.specs.ListedStrings.{IsListFault, PrintsListed}
 use Rattle.hdt_tool.specs.StringsText.{PrintsNumber}
-use Rattle.hdt_tool.specs.TriplesText.{PrintsFound}
 use Rattle.hdt_tool.specs.PrintedReports.{verdict}
-use Rattle.hdt_tool.proofs.InputFaults.{no_counts, no_find, no_listing, no_match, no_number, no_term, no_text}
+use Rattle.hdt_tool.proofs.InputFaults.{no_counts, no_listing, no_match, no_number, no_term}
 use Rattle.hdt_tool.proofs.queries.file_text.Goals as goal
 
 pub returns-in_ok-verdict-in-Verify-clause-ok : goal.returns-in_ok-verdict-in-Verify-clause-ok
@@ -88,43 +86,6 @@ returns-in_ok-read-in-Number-clause-err c =
     ⊎ ((e ≡ NoSuchTerm) × ((n : ℕ) → string_at_id (role_strings graph.dictionary c.in-Number.role) n ≢ Some x)))
     c.deref-in-Number.ensures.value h)))
     c.number_text.ensures.err
-
-pub returns-in_ok-layout-in-Find-clause-ok : goal.returns-in_ok-layout-in-Find-clause-ok
-returns-in_ok-layout-in-Find-clause-ok c =
-    let graph = layout_view c.in_ok-layout-in-Find.layout in
-    IfOk-weaker c.triples_text.result _ _
-    (λ text h. subst (λ (a : Action). Prints a c.args.bytes.now text.items) (sym c.in-Find.is) (record {
-      graph = graph;
-      encoded = c.in_ok-layout-in-Find.ensures.found;
-      holds = subst (λ (f : OutputFormat). PrintsFound graph c.in-Find.given f None text.items) c.find_format.ensures h;
-    })) c.triples_text.ensures.ok
-
-pub returns-in_ok-layout-in-Find-clause-err : goal.returns-in_ok-layout-in-Find-clause-err
-returns-in_ok-layout-in-Find-clause-err c =
-    let graph = layout_view c.in_ok-layout-in-Find.layout in
-    IfErr-weaker c.triples_text.result _ _
-    (λ e h. subst (λ (a : Action). IsFaultOfBytes a c.args.bytes.now e) (sym c.in-Find.is)
-    (no_find c.in-Find.given c.in-Find.numbers c.find_format.result c.args.bytes.now e c.find_format.ensures
-    (no_text c.in-Find.given c.find_format.result None c.args.bytes.now graph e c.in_ok-layout-in-Find.ensures.found
-    h))) c.triples_text.ensures.err
-
-pub returns-in_ok-read-in-Search-clause-ok : goal.returns-in_ok-read-in-Search-clause-ok
-returns-in_ok-read-in-Search-clause-ok c =
-    IfOk-weaker c.triples_text-in-Search.result _ _
-    (λ text h. subst (λ (a : Action). Prints a c.args.bytes.now text.items) (sym c.in-Search.is)
-    (record {
-      graph = layout_view c.in_ok-read-in-Search.field-0;
-      encoded = c.in_ok-read-in-Search.ensures.found;
-      holds = h;
-    })) c.triples_text-in-Search.ensures.ok
-
-pub returns-in_ok-read-in-Search-clause-err : goal.returns-in_ok-read-in-Search-clause-err
-returns-in_ok-read-in-Search-clause-err c =
-    IfErr-weaker c.triples_text-in-Search.result _ _
-    (λ e h. subst (λ (a : Action). IsFaultOfBytes a c.args.bytes.now e) (sym c.in-Search.is)
-    (no_text c.in-Search.given c.in-Search.format c.in-Search.most c.args.bytes.now
-    (layout_view c.in_ok-read-in-Search.field-0) e c.in_ok-read-in-Search.ensures.found h))
-    c.triples_text-in-Search.ensures.err
 
 pub returns-in_ok-graph-in-Count-clause-ok : goal.returns-in_ok-graph-in-Count-clause-ok
 returns-in_ok-graph-in-Count-clause-ok c =

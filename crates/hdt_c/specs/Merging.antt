@@ -1,0 +1,75 @@
+-- The report of merging graphs into one file.
+use Rattle.std.specs.Prelude.{◌≡◌, ◌⊎◌, ℕ, List, [], map, Option, Some, None}
+use Rattle.std.specs.List.{Contains, flat_map}
+use Rattle.hdt_file.specs.Denoted.{StringTriple}
+use Rattle.hdt_file.specs.Graph.{graph_view}
+use Rattle.hdt_file.specs.declared.graph.Graph.{Graph}
+use Rattle.hdt_build.specs.Built.{IsBuilt}
+use Rattle.hdt_build.specs.Layouts.{denoted_by}
+use Rattle.hdt_build.specs.declared.options.Options.{Options}
+use Rattle.hdt_build.specs.declared.options.Report.{Report}
+use Rattle.hdt_c.specs.Building.{AreGivenOptions, AreInvalidOptions, built_report, report_for}
+use Rattle.hdt_c.specs.Bytes.{HoldsBytes, HoldsNoBytes}
+use Rattle.hdt_c.specs.Handle.{IsClosed}
+use Rattle.hdt_c.specs.Inside.ResourceKind.{graph_of}
+use Rattle.hdt_c.specs.ReasonNumbers.{bad_options_reason, no_triples_reason, out_of_memory_reason}
+use Rattle.hdt_c.specs.declared.bytes.HdtBytes.{HdtBytes}
+use Rattle.hdt_c.specs.declared.handle.HdtGraph.{HdtGraph}
+use Rattle.hdt_c.specs.declared.report.HdtReport.{HdtReport}
+
+-- the state of a handle, and its graph
+abbrev pub content : HdtGraph → ℕ × Option Graph
+content h = (h.state, graph_of h.resource.value)
+
+-- each handle is open or closed as before, and has the same graph
+abbrev pub SameGraphs : List HdtGraph → List HdtGraph → Type 0
+SameGraphs old new = map content new ≡ map content old
+
+-- the triples of a graph, if there is one
+abbrev pub triples_of_graph : Option Graph → List StringTriple
+triples_of_graph None = []
+triples_of_graph (Some g) = denoted_by (graph_view g)
+
+-- the triples of the graphs of all handles, one graph after another, with duplicates
+abbrev pub triples_in : List HdtGraph → List StringTriple
+triples_in hs = flat_map (λ h. triples_of_graph (graph_of h.resource.value)) hs
+
+-- one of the handles is closed
+pub record HasClosed (handles : List HdtGraph) : Type 0 where
+  pub handle : HdtGraph
+  pub is_in : Contains handles handle
+  pub closed : IsClosed handle
+
+-- the options are not invalid, and the bytes are the canonical file of the triples of all graphs
+pub record MergesGraphs (handles : List HdtGraph) (base : List ℕ) (b : ℕ) (bytes : List ℕ)
+    (report : Report) : Type 0 where
+  pub options : Options
+  pub given : AreGivenOptions base b options
+  pub right : AreInvalidOptions base b → ⊥
+  pub built : IsBuilt options (triples_in handles) bytes report
+
+-- the reason if there is no file: there are no handles; or the options are not valid; or memory ran out
+abbrev pub RefusesMerging : List HdtGraph → List ℕ → ℕ → ℕ → Type 0
+RefusesMerging handles base b reason = ((reason ≡ no_triples_reason) × (handles ≡ []))
+    ⊎ (((reason ≡ bad_options_reason) × AreInvalidOptions base b) ⊎ (reason ≡ out_of_memory_reason))
+
+-- the bytes are the file, and the report says so
+pub record MergesBytes (handles : List HdtGraph) (base : List ℕ) (b : ℕ) (out : HdtBytes)
+    (reported : HdtReport) : Type 0 where
+  pub bytes : List ℕ
+  pub report : Report
+  pub is : MergesGraphs handles base b bytes report
+  pub made : HoldsBytes out bytes
+  pub is_reported : reported ≡ built_report report
+
+-- there are no bytes, and the report has the reason
+pub record FailsToMerge (handles : List HdtGraph) (base : List ℕ) (b : ℕ) (out : HdtBytes)
+    (reported : HdtReport) : Type 0 where
+  pub reason : ℕ
+  pub stands : RefusesMerging handles base b reason
+  pub made : HoldsNoBytes out
+  pub is_reported : reported ≡ report_for reason
+
+-- the result of `hdt_merge` if all handles are open
+abbrev pub ReportsMerge : List HdtGraph → List ℕ → ℕ → HdtBytes → HdtReport → Type 0
+ReportsMerge handles base b out report = MergesBytes handles base b out report ⊎ FailsToMerge handles base b out report

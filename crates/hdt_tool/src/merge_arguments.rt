@@ -1,0 +1,40 @@
+//! Reading the arguments of `merge`. FILE is the first path of its command line and PATHS a list of all others, so OUT
+//! is the last one of that list.
+ghost use Rattle.std.specs.Prelude.{IfOk, IfErr, codes};
+ghost use Rattle.clap.specs.Words.{found_of, rows_of};
+ghost use Rattle.hdt_tool.specs.CommandLine.{IsQueryAction, ParsesAsMergeOptions, Refutes};
+ghost use Rattle.hdt_tool.specs.declared.request.MergeOptions.{MergeOptions};
+
+use crate::arguments::build_options;
+use crate::fault::UsageFault;
+use crate::request::{Action, MergeOptions};
+use crate::split_arguments::owned_paths;
+use clap::ArgMatches;
+use std::alloc::Global;
+
+/// For a command line with one path.
+const OUT_MESSAGE: &str = "error: OUT is missing
+
+For more information, try '--help'.";
+
+/// The action of `merge`. The paths between FILE and OUT are further files, and the new file has the options of one
+/// that `build` makes.
+pub(crate) fn merge_action<'m>(
+    alloc: Global,
+    matches: &ArgMatches<'m>,
+) -> Result<Action, UsageFault>
+    ensures ok { IfOk result (IsQueryAction (codes "merge") (rows_of (found_of matches.now))) }
+    ensures refused { IfErr result
+        (Refutes ((options : MergeOptions) × ParsesAsMergeOptions (rows_of (found_of matches.now)) options)) }
+{
+    let options = build_options(alloc, matches)?;
+    let mut others = owned_paths(alloc, matches)?;
+    let Some(out) = others.pop() else {
+        return Err(UsageFault::text(alloc, OUT_MESSAGE));
+    };
+    Ok(Action::Merge(MergeOptions {
+        others,
+        out,
+        options,
+    }))
+}

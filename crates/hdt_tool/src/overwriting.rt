@@ -1,0 +1,113 @@
+//! Refusing to write to a file that the command reads.
+ghost use Rattle.std.specs.Prelude.{◌≡◌, ◌⊎◌};
+
+use crate::error_lines::OUT_OF_MEMORY;
+use crate::files::{STDERR_PATH, STDOUT_PATH, output_path, would_overwrite};
+use crate::request::{Action, Request};
+use crate::status::print_error_line;
+use std::alloc::{AllocError, Global};
+
+/// The name of standard error.
+const STDERR_NAME: &str = "standard error";
+
+/// An input and an output of a command that lead to the same file, by their names in its help.
+#[derive(Clone, Copy)]
+pub(crate) struct SameFile<'a> {
+    /// The name of the input.
+    input: &'a str,
+    /// The name of the output.
+    output: &'a str,
+}
+
+impl SameFile<'_> {
+    /// Whether a message on standard error would change the input.
+    fn takes_messages(self) -> bool {
+        self.output == STDERR_NAME
+    }
+
+    /// The message, without a line feed at its end.
+    fn message(self, alloc: Global) -> Result<String, AllocError> {
+        let (input, output) = (self.input, self.output);
+        format!(in alloc;
+            "error: {input} and {output} are the same file
+
+For more information, try '--help'."
+        )
+    }
+}
+
+/// The name of the file that a command reads.
+fn input_name<'a>(action: &Action) -> &'a str {
+    match action {
+        Action::Build(_) | Action::Rewrite(_) | Action::Lint { .. } | Action::Split(_) => "IN",
+        _ => "FILE",
+    }
+}
+
+/// The paths of the inputs after the first one.
+fn other_inputs(action: &Action) -> &[String] {
+    match action {
+        Action::Split(options) => options.others.as_slice(),
+        Action::Merge(options) => options.others.as_slice(),
+        _ => &[],
+    }
+}
+
+/// The name of an output that leads to the file at a path; `None` if none does. OUT of `rewrite` and `merge` may be an
+/// input, which is replaced once all were read.
+fn output_over<'a>(rt: &HostRuntime, request: &Request, path: &str) -> Option<&'a str> {
+    if would_overwrite(rt, STDERR_PATH, path) {
+        return Some(STDERR_NAME);
+    }
+    if let (Action::Build(_), Some(out)) = (&request.action, &request.out) {
+        if would_overwrite(rt, output_path(out.as_str()), path) {
+            return Some("OUT");
+        }
+    }
+    if would_overwrite(rt, STDOUT_PATH, path) {
+        return Some("standard output");
+    }
+    None
+}
+
+/// An input and an output of a request that are the same regular file or block device: a command that reads while it
+/// writes would never end, and any other would change the file that it was given. `None` if there are none. (Contracts
+/// cannot describe the file system; tests/test_overwriting.py checks this.)
+pub(crate) fn same_file<'a>(rt: &HostRuntime, request: &Request) -> Option<SameFile<'a>> {
+    if let Some(output) = output_over(rt, request, request.file.as_str()) {
+        let input = input_name(&request.action);
+        return Some(SameFile { input, output });
+    }
+    match &request.action {
+        Action::Answer(_) => {
+            let output = output_over(rt, request, "-")?;
+            Some(SameFile {
+                input: "standard input",
+                output,
+            })
+        }
+        action => {
+            'others: for path in other_inputs(action) {
+                if let Some(output) = output_over(rt, request, path.as_str()) {
+                    let input = input_name(action);
+                    return Some(SameFile { input, output });
+                }
+            }
+            None
+        }
+    }
+}
+
+/// The status if an input is an output, too: 2, or 4 if there is no memory for the message. Prints the message, but not
+/// into the input.
+pub(crate) fn refuse_same_file(rt: &HostRuntime, same: SameFile<'_>) -> u8
+    ensures { (result ≡ 2) ⊎ (result ≡ 4) }
+{
+    if same.takes_messages() {
+        return 2;
+    }
+    match same.message(rt.alloc()) {
+        Ok(text) => print_error_line(rt, 2, text.as_str()),
+        Err(AllocError) => print_error_line(rt, 4, OUT_OF_MEMORY),
+    }
+}

@@ -1,0 +1,119 @@
+"""Merging: one file of many, or of open graphs."""
+
+from __future__ import annotations
+
+import ctypes
+import os
+from collections.abc import Iterable, Iterator, Sequence
+from contextlib import ExitStack, closing, contextmanager
+from typing import Any, Union
+
+from . import _library
+from ._build import check_header
+from ._calls import Counts, Path, closed, counts_of, encoded
+from ._faults import NoTriples
+from ._files import _checked, replace
+from ._graph import Graph
+from ._library import Handle, Made, PlainHandle, Report, library
+from ._progress import Meter, Progress
+
+
+@contextmanager
+def _kept_open(graph: Graph) -> Iterator[Handle]:
+    """A handle of a graph, which stays open meanwhile: a `close` in another thread waits, as for any call.
+
+    Raises ValueError if the graph is closed, and MemoryError.
+    """
+    try:
+        shared = graph._free.pop()
+    except IndexError:
+        shared = graph._another()
+    try:
+        with shared._lock:
+            if graph._is_closed:
+                raise closed()
+            yield shared.handle
+    finally:
+        graph._free.append(shared)
+
+
+class _Row:
+    """Handles of graphs side by side, as the library takes them. Used with `with`, they are closed behind it."""
+
+    def __init__(self, graphs: Sequence[Graph]) -> None:
+        self._graphs = graphs
+        self._handles: Any = (PlainHandle * len(graphs))()
+        self._kept = ExitStack()
+
+    def __enter__(self) -> Any:
+        try:
+            for graph, handle in zip(self._graphs, self._handles):
+                first, other = self._kept.enter_context(_kept_open(graph)), ctypes.pointer(handle)
+                if library.hdt_share(first, ctypes.cast(other, ctypes.POINTER(Handle))) != _library.DONE:
+                    raise MemoryError
+        except BaseException:
+            self.__exit__()
+            raise
+        return self._handles
+
+    def __exit__(self, *_: object) -> None:
+        with self._kept:
+            for handle in self._handles:
+                library.hdt_close(ctypes.cast(ctypes.pointer(handle), ctypes.POINTER(Handle)))
+
+
+def merged(graphs: Sequence[Graph], made: Made, base: str, block_size: int) -> Counts:
+    """Make the file of all triples of these graphs, and return its counts. Raises what `merge` does, but OSError."""
+    report, name = Report(), encoded(base)
+    with _Row(graphs) as row:
+        library.hdt_merge(ctypes.addressof(row), len(graphs), name, len(name), _checked(block_size), made, report)
+    return counts_of(report)
+
+
+def _opened(inputs: Sequence[Union[Path, Graph]], kept: ExitStack, progress: Progress) -> list[Graph]:
+    """The graphs of the inputs, of which those of paths are closed with `kept`. Raises what `merge` does."""
+    sizes = [0 if isinstance(it, Graph) else os.stat(os.fsdecode(it)).st_size for it in inputs]
+    graphs = []
+    with closing(Meter(progress, sum(sizes))) as meter:
+        for it, size in zip(inputs, sizes):
+            graphs.append(it if isinstance(it, Graph) else kept.enter_context(Graph._of_file(it, None)))
+            meter.count(size)
+    return graphs
+
+
+def merge(
+    inputs: Iterable[Union[Path, Graph]],
+    out_path: Path,
+    base: str = "http://example.org/dataset",
+    block_size: int = 16,
+    progress: Progress = False,
+) -> Counts:
+    """Merge files, by their paths, and open graphs into one file of all their triples, and return its counts.
+
+    Each triple is in the file once. The order of the inputs makes no difference: the file is the one that `build` makes
+    of the triples as one text. So a blank node label in two inputs is one node. `base` and `block_size` are those of
+    `build`. The output is replaced atomically, as by `build`, and may be one of the inputs. Graphs stay open.
+    `progress` is that of `build`: it is told the bytes of the files that are open, for each input. The merge comes
+    after it.
+
+    Errors: `Fault` with the path of an input and its first error; ValueError for the options and for a closed graph;
+    `NoTriples` if there are no inputs; TypeError; MemoryError; OSError; what `progress` raises. The time is linear in
+    the inputs, with their strings decoded, except for sorting. All inputs are open at once. Memory beside them: the
+    distinct strings, decoded, with some 50 bytes each, 24 bytes for each triple of each input, 8 bytes for each string
+    of one input at a time, and the file. The strings of a hostile file of n bytes can take up to n² / 4: limit the
+    memory of the process for files of strangers.
+
+    >>> with hdt.open("graph.hdt") as graph:
+    ...     hdt.merge([graph, "graph.hdt"], "merged.hdt")
+    Counts(triples=3, shared=2, subjects=0, predicates=2, objects=1)
+    """
+    if isinstance(inputs, (str, bytes, os.PathLike, Graph)):
+        raise TypeError("inputs are paths and graphs, not one of them")
+    given = list(inputs)
+    check_header(base, block_size)
+    if not given:
+        raise NoTriples("there are no inputs")
+    with ExitStack() as kept, Made() as made:
+        counts = merged(_opened(given, kept, progress), made, base, block_size)
+        replace(out_path, made.view())
+    return counts

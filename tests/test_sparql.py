@@ -1,0 +1,349 @@
+"""The SPARQL server: the protocol, formats, limits, and that a query fetches nothing."""
+
+from __future__ import annotations
+
+import io
+import json
+import os
+import re
+import shutil
+import signal
+import socket
+import subprocess
+import sys
+import threading
+import time
+from collections.abc import Iterator
+from pathlib import Path
+from typing import Any, NamedTuple
+from urllib.parse import quote, urlencode
+from xml.etree import ElementTree
+
+import pytest
+
+from support.built import SAMPLES
+from support.python_package import ENVIRONMENT
+from support.rdflib_package import hdt, store
+
+import rdflib
+from hdt import sparql
+
+assert store
+pytestmark = pytest.mark.filterwarnings("ignore")
+
+ODD = r'''<u:a> <u:p> "a\"b\\c\nd\te, \u00E9" .
+<u:a> <u:p> "x"@en .
+<u:a> <u:q> _:b .
+_:b <u:p> "1"^^<http://www.w3.org/2001/XMLSchema#integer> .
+'''
+ALL = "SELECT * { ?s ?p ?o } ORDER BY ?p ?o"
+SLOW = 'SELECT * { BIND(regex("aaaaaaaaaaaaaaaaaaaaaaaaaaaaaaaaaaaaaaaaaaaaa!", "^(a+)+$") AS ?x) }'
+
+
+class Got(NamedTuple):
+    """An answer."""
+
+    status: int
+    headers: dict[str, str]
+    body: bytes
+
+    @property
+    def text(self) -> str:
+        """The body as text."""
+        return self.body.decode()
+
+
+class Site:
+    """An application, and its file."""
+
+    def __init__(self, folder: Path, **options: Any) -> None:
+        self.path = folder / "odd.hdt"
+        (folder / "odd.nt").write_text(ODD)
+        hdt.build(folder / "odd.nt", self.path)
+        self.application = sparql.Application({"datasets": {"odd": str(self.path)}, "log": False, **options})
+
+    def ask(self, method: str = "GET", query: str = "", body: bytes = b"", path: str = "/odd", **headers: str) -> Got:
+        """The answer to a request."""
+        environ = {"REQUEST_METHOD": method, "PATH_INFO": path, "QUERY_STRING": query, "wsgi.input": io.BytesIO(body),
+                   "CONTENT_LENGTH": str(len(body)), **headers}
+        found: list[Any] = []
+        pieces = self.application(environ, lambda status, its: found.extend((status, its)))
+        assert len({name for name, _ in found[1]}) == len(found[1])
+        return Got(int(found[0][:3]), dict(found[1]), b"".join(pieces))
+
+    def get(self, text: str, accept: str = "") -> Got:
+        """The answer to a query."""
+        return self.ask(query=urlencode({"query": text}), HTTP_ACCEPT=accept)
+
+
+@pytest.fixture(scope="module")
+def site(tmp_path_factory: pytest.TempPathFactory) -> Iterator[Site]:
+    """A site."""
+    it = Site(tmp_path_factory.mktemp("site"))
+    yield it
+    it.application.close()
+
+
+# ---- the protocol
+
+FORM, QUERY = "application/x-www-form-urlencoded", "application/sparql-query"
+
+
+def test_ways_to_ask(site: Site) -> None:
+    """A query comes by GET, by a form and by itself."""
+    form, text = urlencode({"query": ALL}).encode(), ALL.encode()
+    answers = [site.ask(query=form.decode()), site.ask("POST", body=form, CONTENT_TYPE=FORM),
+               site.ask("POST", body=form, CONTENT_TYPE=FORM + "; charset=UTF-8"),
+               site.ask("POST", body=text, CONTENT_TYPE=QUERY),
+               site.ask("POST", body=text, CONTENT_TYPE="Application/SPARQL-Query;charset=utf-8")]
+    assert [it.status for it in answers] == [200] * 5
+    assert len({it.body for it in answers}) == 1
+    assert len(json.loads(answers[0].body)["results"]["bindings"]) == 4
+    head = site.ask("HEAD", query=form.decode())
+    assert (head.status, head.body, head.headers["Content-Length"]) == (200, b"", str(len(answers[0].body)))
+    options = site.ask("OPTIONS")
+    assert options.status == 204 and "POST" in options.headers["Access-Control-Allow-Methods"]
+
+
+WRONG: dict[str, tuple[int, dict[str, Any]]] = {
+    "no query": (400, {}), "two queries": (400, {"query": "query=ASK%7B%7D&query=ASK%7B%7D"}),
+    "half an escape": (400, {"query": "query=%4"}), "no UTF-8": (400, {"query": "query=%ff"}),
+    "an update": (400, {"query": "update=CLEAR+ALL"}), "an update beside": (400, {"query": "query=ASK%7B%7D&update=x"}),
+    "a graph": (400, {"query": "query=ASK%7B%7D&default-graph-uri=http://127.0.0.1:1/"}),
+    "a named graph": (400, {"query": "query=ASK%7B%7D&named-graph-uri=http://127.0.0.1:1/"}),
+    "a graph beside a posted query": (400, {"method": "POST", "body": b"ASK{}", "CONTENT_TYPE": QUERY,
+                                            "query": "default-graph-uri=u:x"}),
+    "a method": (405, {"method": "PUT"}), "a path": (404, {"path": "/other"}), "the top": (404, {"path": "/"}),
+    "a type": (415, {"method": "POST", "body": b"x", "CONTENT_TYPE": "text/plain"}),
+    "a posted update": (415, {"method": "POST", "body": b"CLEAR ALL", "CONTENT_TYPE": "application/sparql-update"}),
+    "another charset": (415, {"method": "POST", "body": b"x", "CONTENT_TYPE": QUERY + ";charset=latin-1"}),
+    "no UTF-8 posted": (400, {"method": "POST", "body": b"ASK {} #\xff", "CONTENT_TYPE": QUERY}),
+    "no length": (411, {"method": "POST", "CONTENT_TYPE": QUERY, "CONTENT_LENGTH": ""}),
+    "an odd length": (411, {"method": "POST", "CONTENT_TYPE": QUERY, "CONTENT_LENGTH": "-1"}),
+    "a great length": (413, {"method": "POST", "CONTENT_TYPE": QUERY, "CONTENT_LENGTH": "9" * 30}),
+    "a short body": (400, {"method": "POST", "body": b"ASK", "CONTENT_TYPE": QUERY, "CONTENT_LENGTH": "9"}),
+    "a long query": (413, {"query": "query=" + "x" * 100_001}),
+    "a very long query": (413, {"query": "query=" + "x" * 300_001}),
+}
+
+
+@pytest.mark.parametrize("name", WRONG)
+def test_wrong_requests(site: Site, name: str) -> None:
+    """A wrong request has its status and a reason, and needs no process."""
+    status, request = WRONG[name]
+    got = site.ask(**request)
+    assert (got.status, got.headers["Content-Type"]) == (status, "text/plain;charset=utf-8")
+    assert re.fullmatch(r"[\w ]+: [^\n]+\.\n", got.text)
+
+
+@pytest.mark.parametrize("query, reason", [
+    ("SELECT * { ?s ?p }", "no query"), ("SELECT * { ?s x:p ?o }", "prefix"), ("", "no query"),
+    ("INSERT DATA { <u:a> <u:p> <u:b> }", "no query"), ("LOAD <http://127.0.0.1:1/>", "no query"),
+    ("SELECT * { GRAPH ?g { ?s ?p ?o } }", "dataset"), ("SELECT * { ?s ?p ?o }" + "}" * 99, "no query"),
+    ("SELECT * " + "{ " * 400 + "}" * 400, "")])
+def test_queries_that_cannot_be_evaluated(site: Site, query: str, reason: str) -> None:
+    """A query that can't be parsed, or evaluated, is answered 400 with the reason; and the next one is answered."""
+    got = site.get(query)
+    assert got.status == 400 and reason in got.text
+    assert site.get("ASK {}").status == 200
+
+
+# ---- formats
+
+
+def test_formats_of_solutions(site: Site) -> None:
+    """Solutions are written as JSON, XML, CSV and TSV, with their terms."""
+    found = json.loads(site.get(ALL).body)
+    assert found["head"]["vars"] == ["s", "p", "o"]
+    assert found["results"]["bindings"][0]["o"]["value"] == "1"
+    assert {row["s"]["type"] for row in found["results"]["bindings"]} == {"uri", "bnode"}
+    xml = site.get(ALL, "application/sparql-results+xml")
+    assert len(list(ElementTree.fromstring(xml.body).iter("{http://www.w3.org/2005/sparql-results#}result"))) == 4
+    assert xml.headers["Content-Type"] == "application/sparql-results+xml;charset=utf-8"
+    table = site.get(ALL, "text/csv").text
+    assert table.startswith('s,p,o\r\n_:b,u:p,1\r\n') and 'u:a,u:p,"a""b\\c\nd\te, \u00e9"\r\n' in table
+    lines = site.get(ALL, "text/tab-separated-values").text.split("\n")
+    assert lines[:2] == ["?s\t?p\t?o", '_:b\t<u:p>\t"1"^^<http://www.w3.org/2001/XMLSchema#integer>']
+    assert '<u:a>\t<u:p>\t"a\\"b\\\\c\\nd\\te, \u00e9"' in lines or any("\\u00E9" in it for it in lines)
+    assert all(line.count("\t") == 2 for line in lines[:-1])
+    lacking = site.get("SELECT ?s ?x { ?s <u:q> ?o }", "text/tab-separated-values").text
+    assert lacking == "?s\t?x\n<u:a>\t\n"
+
+
+@pytest.mark.parametrize("accept, media", [
+    ("", "application/sparql-results+json"), ("*/*", "application/sparql-results+json"),
+    ("application/json", "application/json"), ("text/*", "text/csv"), ("text/html, text/csv;q=0.5", "text/csv"),
+    ("application/xml;q=0.9, application/sparql-results+xml", "application/sparql-results+xml")])
+def test_negotiation(site: Site, accept: str, media: str) -> None:
+    """The format is that of the header Accept."""
+    assert site.get(ALL, accept).headers["Content-Type"].split(";")[0] == media
+
+
+GRAPHS = {"text/turtle": "turtle", "application/n-triples": "nt", "application/ld+json": "json-ld",
+          "application/rdf+xml": "xml"}
+
+
+@pytest.mark.parametrize("media", GRAPHS)
+def test_formats_of_graphs(site: Site, media: str) -> None:
+    """Graphs are written in each format, and read by rdflib as the same one."""
+    for query, count in (("CONSTRUCT { ?s <http://x/p> ?o } { ?s <u:p> ?o }", 3), ("DESCRIBE <http://none/>", 0)):
+        got = site.get(query, media)
+        assert (got.status, got.headers["Content-Type"].split(";")[0]) == (200, media)
+        assert len(rdflib.Graph().parse(data=got.text, format=GRAPHS[media])) == count
+    assert len(rdflib.Graph().parse(data=site.get("DESCRIBE <u:a>").text, format="turtle")) == 4
+
+
+def test_unacceptable_formats(site: Site) -> None:
+    """What can't be written in a format that the client accepts is answered 406."""
+    assert site.get(ALL, "image/png").status == 406
+    assert site.get("CONSTRUCT WHERE { ?s ?p ?o }", "text/csv").status == 406
+    assert site.get("ASK {}", "text/csv").status == 406
+    assert site.get("ASK {}", "application/sparql-results+xml").status == 200
+    got = site.get("CONSTRUCT { ?s <http://x/1> ?o } WHERE { ?s <u:p> ?o }", "application/rdf+xml")
+    assert got.status == 406 and "can't be written" in got.text
+
+
+# ---- limits
+
+
+def test_rows_are_limited(tmp_path: Path) -> None:
+    """An answer that is cut says so in a header."""
+    site = Site(tmp_path, max_rows=3)
+    try:
+        got = site.get(ALL)
+        assert (got.headers["X-SPARQL-MaxRows"], len(json.loads(got.body)["results"]["bindings"])) == ("3", 3)
+        assert "X-SPARQL-MaxRows" not in site.get(ALL + " LIMIT 3").headers
+        got = site.get("CONSTRUCT WHERE { ?s ?p ?o }", "application/n-triples")
+        assert (got.headers["X-SPARQL-MaxRows"], got.text.count(" .\n")) == ("3", 3)
+    finally:
+        site.application.close()
+
+
+def test_time_is_limited(tmp_path: Path) -> None:
+    """A query that takes too long is ended, even in a regular expression; meanwhile another one is sent away."""
+    site = Site(tmp_path, timeout=4, processes=1)
+    try:
+        assert site.get("ASK {}").status == 200
+        answers: list[Got] = []
+        thread = threading.Thread(target=lambda: answers.append(site.get(SLOW)))
+        began = time.monotonic()
+        thread.start()
+        time.sleep(1)
+        busy = site.get("ASK {}")
+        thread.join()
+        assert (busy.status, busy.headers["Retry-After"]) == (503, "1")
+        assert answers[0].status == 503 and "more than 4 seconds" in answers[0].text
+        assert 3 < time.monotonic() - began < 30
+        assert site.get("ASK {}").status == 200
+    finally:
+        site.application.close()
+
+
+def test_memory_is_limited(tmp_path: Path) -> None:
+    """A query that needs too much memory is ended, and the next one is answered."""
+    site = Site(tmp_path, memory=600)
+    doubled = "".join(f"BIND(CONCAT(?x{n}, ?x{n}) AS ?x{n + 1}) " for n in range(31))
+    try:
+        got = site.get(f'SELECT (STRLEN(?x31) AS ?n) {{ BIND("aa" AS ?x0) {doubled} }}')
+        assert got.status == 503 and "memory" in got.text
+        assert site.get("ASK {}").status == 200
+    finally:
+        site.application.close()
+
+
+def test_a_process_that_ends(tmp_path: Path) -> None:
+    """Where a process is killed, its query is answered 503, and another process is started."""
+    site = Site(tmp_path, processes=1)
+    try:
+        worker = site.application.workers._free.get()
+        site.application.workers._free.put(worker)
+        assert worker is None and site.get("ASK {}").status == 200
+        worker = site.application.workers._free.get()
+        site.application.workers._free.put(worker)
+        assert worker
+        os.kill(worker._process.pid, signal.SIGKILL)
+        worker._process.wait()
+        assert site.get("ASK {}").status == 503
+        assert site.get("ASK {}").status == 200
+    finally:
+        site.application.close()
+
+
+def test_a_file_that_is_replaced(tmp_path: Path) -> None:
+    """A new file is taken up at the next query; one that can't be opened leaves the previous one in use."""
+    site = Site(tmp_path)
+    count = "SELECT (COUNT(*) AS ?n) { ?s ?p ?o }"
+    try:
+        assert site.get(count, "text/csv").text == "n\r\n4\r\n"
+        shutil.copy(SAMPLES / "three.hdt", tmp_path / "new.hdt")
+        os.replace(tmp_path / "new.hdt", site.path)
+        assert site.get(count, "text/csv").text == "n\r\n3\r\n"
+        (tmp_path / "bad.hdt").write_bytes(b"$HDT nonsense")
+        os.replace(tmp_path / "bad.hdt", site.path)
+        assert site.get(count, "text/csv").text == "n\r\n3\r\n"
+        site.path.unlink()
+        assert site.get(count, "text/csv").text == "n\r\n3\r\n"
+        site.application.close()
+    finally:
+        site.application.close()
+    other = sparql.Application({"datasets": {"odd": str(site.path)}, "log": False})
+    site.application = other
+    got = site.get(count)
+    other.close()
+    assert (got.status, got.headers["Retry-After"]) == (503, "60")
+
+
+def test_a_query_fetches_nothing(site: Site) -> None:
+    """No query makes the server connect to an address that it names."""
+    with socket.create_server(("127.0.0.1", 0)) as listening:
+        listening.settimeout(1)
+        address = f"<http://127.0.0.1:{listening.getsockname()[1]}/x>"
+        for query in (f"SELECT * {{ SERVICE {address} {{ ?s ?p ?o }} }}",
+                      f"SELECT * {{ ?s ?p ?o FILTER EXISTS {{ SERVICE SILENT {address} {{ ?s ?p ?o }} }} }}",
+                      f"SELECT * {{ {{ SELECT * {{ OPTIONAL {{ SERVICE {address} {{ ?s ?p ?o }} }} }} }} }}",
+                      f"SELECT * FROM {address} {{ ?s ?p ?o }}", f"DESCRIBE * FROM {address} {{ ?s ?p ?o }}",
+                      f"SELECT * FROM NAMED {address} {{ GRAPH ?g {{ ?s ?p ?o }} }}",
+                      f"SELECT * {{ GRAPH {address} {{ ?s ?p ?o }} }}", f"LOAD {address}",
+                      f"BASE {address} PREFIX x: {address} ASK {{ <y> a x:z }}", f"DESCRIBE {address}"):
+            assert site.get(query).status in (200, 400)
+        for name in ("default-graph-uri", "named-graph-uri", "using-graph-uri"):
+            site.ask(query=f"query={quote(ALL)}&{name}={quote(address[1:-1])}")
+        with pytest.raises(socket.timeout):
+            listening.accept()
+
+
+# ---- as a command
+
+
+def run(*words: str) -> tuple[int, str]:
+    """The status and the standard error of the command."""
+    done = subprocess.run([sys.executable, "-m", "hdt.sparql", *words], env=ENVIRONMENT, stderr=subprocess.PIPE,
+                          text=True)
+    return done.returncode, done.stderr
+
+
+def test_wrong_commands(tmp_path: Path) -> None:
+    """A wrong command ends with status 2 and one line that says what is wrong."""
+    (tmp_path / "bad.hdt").write_bytes(b"nonsense")
+    for words in (["x"], [f"x={tmp_path}/none.hdt"], [f"x={tmp_path}/bad.hdt"], ["a/b=" + str(SAMPLES / "three.hdt")],
+                  ["--timeout", "0", "x=" + str(SAMPLES / "three.hdt")]):
+        status, err = run(*words)
+        assert status == 2 and re.fullmatch(r"hdt\.sparql: [^\n]+\n", err), err
+    assert run()[0] == 2
+
+
+def test_as_a_command() -> None:
+    """The command says its addresses; rdflib's client reads its answers."""
+    command = [sys.executable, "-W", "ignore", "-m", "hdt.sparql", "--port", "0", f"three={SAMPLES / 'three.hdt'}"]
+    with subprocess.Popen(command, env=ENVIRONMENT, stderr=subprocess.PIPE, text=True) as process:
+        try:
+            assert process.stderr
+            address = process.stderr.readline().strip()
+            assert re.fullmatch(r"http://127\.0\.0\.1:\d+/three", address)
+            graph: Any = rdflib.Graph("SPARQLStore")
+            graph.open(address)
+            assert {str(o) for o in graph.objects(rdflib.URIRef("u:a"))} == {"u:b", "x"}
+            assert len(list(graph.query("SELECT * { ?s <u:p>+ ?o }"))) == 4
+        finally:
+            process.terminate()
+            process.wait(10)
