@@ -1,11 +1,11 @@
 -- Front codings in memory.
-use Rattle.std.proofs.Common.{◌≡◌, ◌∙◌, ℕ, zero, suc, ◌+◌, ◌<◌, ◌≤◌, Bool, true, false, cond, nat_eq, List, [], ◌∷◌, ◌++◌}
-use Rattle.std.proofs.Common.{length, take, get_or, ap, sym, refl, arith}
+use Rattle.std.proofs.Common.{◌≡◌, ◌∙◌, ℕ, zero, suc, ◌+◌, ◌-◌, ◌<◌, ◌≤◌, Bool, true, false, cond, nat_eq, List, [], ◌∷◌, ◌++◌}
+use Rattle.std.proofs.Common.{length, take, get_or, ap, sym, refl, subst, arith}
 use Rattle.std.proofs.lemmas.Bool.Decides.{nat_tests}
-use Rattle.std.proofs.lemmas.List.{length_push, get_or_push}
+use Rattle.std.proofs.lemmas.List.{length_push, get_or_push, get_or_default}
 use Rattle.hdt_front.specs.Order.{lcp_len}
 use Rattle.hdt_front.specs.Section.{before}
-use Rattle.hdt_build.specs.Inside.FrontCoding.{coded_strings}
+use Rattle.hdt_build.specs.Inside.FrontCoding.{coded_strings, IsFrontCoding}
 
 pub coded_length : (x kept : List ℕ) (rests : List (List ℕ)) → length kept ≡ length rests
     → length (coded_strings x kept rests) ≡ length rests
@@ -77,3 +77,50 @@ equal_up_to (suc k) (b ∷ x) (c ∷ y) h =
     let rest = equal_up_to k x y s.1 in
     let same : b ≡ c = s.0 in
     λ i. same i ∷ rest i
+
+-- ---- a front coding as a list
+
+pub no_coding : IsFrontCoding [] [] []
+unfolding coded_strings
+no_coding = record { long = refl; last_is = refl }
+
+-- the last string is the one before the end
+pub front_last : (kept : List ℕ) (rests : List (List ℕ)) (last : List ℕ) (view : List (List ℕ))
+    → IsFrontCoding kept rests last → coded_strings [] kept rests ≡ view → last ≡ before view (length view)
+front_last kept rests last view h is =
+    subst (λ (v : List (List ℕ)). last ≡ before v (length v)) is
+    (h.last_is ∙ ap (before (coded_strings [] kept rests)) (sym (coded_length [] kept rests h.long)))
+
+pub before_last : (xs : List (List ℕ)) → 0 < length xs → before xs (length xs) ≡ get_or xs (length xs - 1) []
+before_last xs some =
+    let at : length xs ≡ length xs - 1 + 1 = omega (arith, some) in
+    ap (before xs) at ∙ before_next xs (length xs - 1)
+
+module _ (kept : List ℕ) (rests : List (List ℕ)) (last : List ℕ) (k : ℕ) (rest text : List ℕ)
+    (h : IsFrontCoding kept rests last) (same : k ≤ lcp_len last text) (split : text ≡ take k text ++ rest) where
+  over : text ≡ take k last ++ rest
+  over = split ∙ ap (λ (l : List ℕ). l ++ rest) (sym (equal_up_to k last text same))
+
+  pub coding_is : coded_strings [] (kept ++ k ∷ []) (rests ++ rest ∷ []) ≡ coded_strings [] kept rests ++ text ∷ []
+  coding_is = coded_push kept rests last k rest text h.long h.last_is over
+
+  pub coding_more : IsFrontCoding (kept ++ k ∷ []) (rests ++ rest ∷ []) (take k last ++ rest)
+  coding_more =
+      let one : length (rests ++ rest ∷ []) ≡ length rests + 1 = length_push rests rest in
+      let long = coded_length [] kept rests h.long in
+      record {
+        long = omega (arith, h.long, length_push kept k, one);
+        last_is = sym over ∙ sym (ap (λ (v : List (List ℕ)). before v (length (rests ++ rest ∷ []))) coding_is
+            ∙ ap (before (coded_strings [] kept rests ++ text ∷ [])) one
+            ∙ before_push (coded_strings [] kept rests) text (length rests) (sym long));
+      }
+
+-- the string at an index, from the one before it
+pub decoded_is : (kept : List ℕ) (rests view : List (List ℕ)) (at k : ℕ) (t : List ℕ) → length kept ≡ length rests
+    → coded_strings [] kept rests ≡ view → at < length rests → k ≡ get_or kept at k → t ≡ take k (before view at)
+    → t ++ get_or rests at [] ≡ get_or view at []
+decoded_is kept rests view at k t long is lt entry text =
+    let number : k ≡ get_or kept at 0 = entry ∙ get_or_default kept at k 0 (omega (arith, long, lt)) in
+    ap (λ (l : List ℕ). l ++ get_or rests at []) (text ∙ ap (λ (n : ℕ). take n (before view at)) number
+    ∙ ap (λ (v : List (List ℕ)). take (get_or kept at 0) (before v at)) (sym is))
+    ∙ sym (coded_at [] kept rests at long lt) ∙ ap (λ (v : List (List ℕ)). get_or v at []) is

@@ -55,6 +55,38 @@ fn append(
     last.extend_from_slice(rest)
 }
 
+/// Notes the index of a string if it is stored whole.
+fn note_whole(whole: &mut Vec<usize>, same: usize, at: usize) -> Result<(), AllocError> {
+    if same == 0 {
+        whole.push(at)?;
+    }
+    Ok(())
+}
+
+/// Appends a string that has `same` bytes in common with the last one. If memory runs out, removes all strings.
+fn push_coded(
+    kept: &mut Vec<usize>,
+    rests: &mut Arena,
+    last: &mut Vec<u8>,
+    same: usize,
+    text: &[u8],
+) -> Result<(), AllocError>
+    requires coding { IsFrontCoding kept.old.items rests.old last.old.items }
+    requires same { same ≤ lcp_len last.old.items text.now }
+    ensures coding { IsFrontCoding kept.new.items rests.new last.new.items }
+    ensures ok { OnOk result (coded_strings [] kept.new.items rests.new
+        ≡ coded_strings [] kept.old.items rests.old ++ text.now ∷ []) }
+{
+    let appended = append(kept, rests, last, same, text);
+    if appended.is_err() {
+        kept.clear();
+        rests.clear();
+        last.clear();
+        return appended;
+    }
+    appended
+}
+
 impl FrontCoded {
     /// An empty list.
     pub(crate) fn new(alloc: Global) -> Result<FrontCoded, AllocError>
@@ -75,35 +107,19 @@ impl FrontCoded {
         self.rests.len()
     }
 
-    /// Removes all strings.
-    fn clear(&mut self)
-        ensures { self.new ≡ [] }
-    {
-        self.kept.clear();
-        self.rests.clear();
-        self.last.clear();
-        self.whole.clear();
-    }
-
     /// Appends a string that has `same` bytes in common with the last one. If memory runs out, the list is emptied.
     fn push_after(&mut self, text: &[u8], same: usize) -> Result<(), AllocError>
         requires { same ≤ lcp_len (before self.old (length self.old)) text.now }
         ensures { OnOk result (self.new ≡ self.old ++ text.now ∷ []) }
     {
-        if same == 0 {
-            self.whole.push(self.rests.len())?;
-        }
-        let appended = append(
+        note_whole(&mut self.whole, same, self.rests.len())?;
+        push_coded(
             &mut self.kept,
             &mut self.rests,
             &mut self.last,
             same,
             text,
-        );
-        if appended.is_err() {
-            self.clear();
-        }
-        appended
+        )
     }
 
     /// Appends a string, and stores it whole. If memory runs out, the list is emptied.
@@ -151,7 +167,8 @@ impl FrontCoded {
         ensures { OnOk result (text.new.items ≡ slice_index_or self.now at []) }
     {
         text.truncate(self.kept[at]);
-        text.extend_from_slice(self.rests.get(at))
+        text.extend_from_slice(self.rests.get(at))?;
+        Ok(())
     }
 
     /// The indices of strings that are stored whole, ascending: each run of ascending strings begins at one of them.
