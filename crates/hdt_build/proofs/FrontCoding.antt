@@ -115,6 +115,10 @@ module _ (kept : List ℕ) (rests : List (List ℕ)) (last : List ℕ) (k : ℕ)
             ∙ before_push (coded_strings [] kept rests) text (length rests) (sym long));
       }
 
+  pub coding_step : (kept' : List ℕ) (rests' : List (List ℕ)) (last' : List ℕ) → kept' ≡ kept ++ k ∷ []
+      → rests' ≡ rests ++ rest ∷ [] → last' ≡ take k last ++ rest → IsFrontCoding kept' rests' last'
+  coding_step kept' rests' last' a b e = rw (a, b, e) coding_more
+
 -- the string at an index, from the one before it
 pub decoded_is : (kept : List ℕ) (rests view : List (List ℕ)) (at k : ℕ) (t : List ℕ) → length kept ≡ length rests
     → coded_strings [] kept rests ≡ view → at < length rests → k ≡ get_or kept at k → t ≡ take k (before view at)

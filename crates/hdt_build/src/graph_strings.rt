@@ -41,7 +41,7 @@ fn append_strings(
     let [shared, _, _, _] = graph.section_lens();
     let mut strings = graph.strings(alloc, role);
     'strings: while let Some(id) = strings.next()? {
-        let begins = id == 1 || id == shared + 1;
+        let begins = id == 1 || id.saturating_sub(1) == shared;
         let index = push_string(terms, begins, strings.string())?;
         made.push(index as u64)?;
     }

@@ -1,6 +1,6 @@
 //! Merging the ascending runs of a front-coded list.
-ghost use Rattle.std.specs.Prelude.{◌≡◌, ◌≢◌, ◌<◌, ◌≤◌, [], ℕ, length, slice_index, slice_index_or, IfOk, IfSome, OnOk};
-ghost use Rattle.std.specs.Prelude.{IsTrue};
+ghost use Rattle.std.specs.Prelude.{◌≡◌, ◌≢◌, ◌<◌, [], ℕ, List, length, slice_index, slice_index_or, IfOk, IfSome};
+ghost use Rattle.std.specs.Prelude.{IsTrue, OnOk};
 ghost use Rattle.std.specs.List.{All};
 ghost use Rattle.hdt_front.specs.Order.{IsAscending};
 ghost use Rattle.hdt_build.specs.Inside.SortedEntries.{AreIndicesOf, IsCursorOf, unranked};
@@ -97,11 +97,26 @@ fn are_ranked(ranks: &[u64]) -> bool
     true
 }
 
-/// Whether a run has a current string.
-fn has_current(cursors: &[RunCursor], run: usize) -> bool
-    ensures within { IsTrue result → run < length cursors.now }
+/// The current string of a run, and its index in the list; none at the end.
+fn current(cursors: &[RunCursor], run: usize) -> Option<(usize, &[u8])>
+    ensures { (xs : List (List ℕ)) → All (IsCursorOf xs) cursors.now
+        → IfSome result (λ given. (given.0 < length xs) × (slice_index_or xs given.0 [] ≡ given.1.now)) }
 {
-    run < cursors.len() && cursors[run].has_current()
+    if run < cursors.len() && cursors[run].has_current() {
+        return Some((cursors[run].at, cursors[run].text.as_slice()));
+    }
+    None
+}
+
+/// Advances the cursor of a run to its next string.
+fn step_run(cursors: &mut Vec<RunCursor>, run: usize, list: &FrontCoded) -> Result<(), AllocError>
+    requires { All (IsCursorOf list.now) cursors.old.items }
+    ensures { OnOk result (All (IsCursorOf list.now) cursors.new.items) }
+{
+    if run < cursors.len() && cursors[run].has_current() {
+        cursors[run].step(list)?;
+    }
+    Ok(())
 }
 
 /// The strings of a list in ascending order without duplicates, and the rank of each string of the list, if each run
@@ -119,15 +134,14 @@ fn merge_ascending(
     let mut ranks = Vec::from_elem(alloc, UNRANKED, list.len())?;
     'strings: for _ in 0..list.len() {
         let run = order.winner();
-        if !has_current(cursors.as_slice(), run) {
-            return Ok(None);
-        }
-        let Some(rank) = strings.push_distinct(&cursors[run].text)? else {
+        let Some((at, text)) = current(cursors.as_slice(), run) else {
             return Ok(None);
         };
-        let at = cursors[run].at;
+        let Some(rank) = strings.push_distinct(text)? else {
+            return Ok(None);
+        };
         ranks[at] = rank as u64;
-        cursors[run].step(list)?;
+        step_run(&mut cursors, run, list)?;
         order.replay(cursors.as_slice());
     }
     if are_ranked(ranks.as_slice()) {

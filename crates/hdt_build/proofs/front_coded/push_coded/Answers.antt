@@ -7,7 +7,7 @@ use Rattle.std.specs.Prelude.{OnOk, is_err}
 use Rattle.std.proofs.lemmas.List.Sums.{common_prefix_len-le}
 use Rattle.std.proofs.lemmas.Result.{on_ok_weaker}
 use Rattle.hdt_build.specs.Inside.FrontCoding.{IsFrontCoding}
-use Rattle.hdt_build.proofs.FrontCoding.{no_coding, coding_is, coding_more}
+use Rattle.hdt_build.proofs.FrontCoding.{no_coding, coding_is, coding_step}
 use Rattle.hdt_build.proofs.front_coded.push_coded.Goals as goal
 
 holds : {A E P : Type 0} (r : Result A E) → is_err r ≡ false → OnOk r P → P
@@ -35,8 +35,8 @@ returns-clause-coding c =
     let kept = holds r good c.append-appended.ensures.kept in
     let more = holds r good c.append-appended.ensures.rests in
     let old = c.args in
-    rw (kept, more.1, more.2.0) (coding_more old.kept.now.items old.rests.now old.last.now.items old.same
-    more.0 old.text.now c.requires.coding c.requires.same more.2.1)
+    coding_step old.kept.now.items old.rests.now old.last.now.items old.same more.0 old.text.now c.requires.coding
+    c.requires.same more.3 _ _ _ kept more.1 more.2
 
 pub returns-clause-ok : goal.returns-clause-ok
 returns-clause-ok c =
@@ -46,5 +46,5 @@ returns-clause-ok c =
     let more = holds r good c.append-appended.ensures.rests in
     let old = c.args in
     let is = rw (sym kept, sym more.1) at (coding_is old.kept.now.items old.rests.now old.last.now.items old.same
-    more.0 old.text.now c.requires.coding c.requires.same more.2.1) in
+    more.0 old.text.now c.requires.coding c.requires.same more.3) in
     on_ok_weaker r (λ _. is) c.append-appended.ensures.kept

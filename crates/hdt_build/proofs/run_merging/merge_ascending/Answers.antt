@@ -1,0 +1,23 @@
+use Rattle.std.proofs.Common.{◌≡◌, ◌∙◌, ℕ, ◌<◌, List, length, get_or, ap, sym, arith}
+use Rattle.std.proofs.lemmas.List.{get_or-replicate}
+use Rattle.hdt_build.specs.Inside.SortedEntries.{unranked}
+use Rattle.hdt_build.proofs.RankedRuns.{none_ranked, one_ranked, all_ranked}
+use Rattle.hdt_build.proofs.run_merging.merge_ascending.Goals as goal
+
+pub strings-init : goal.strings-init
+strings-init c =
+    let all = c.in_ok-ranks.ensures.items_if_clones_equal (λ y same. cc) in
+    record {
+      ranked = rw c.in_ok-strings.ensures
+          (none_ranked c.args.list.now c.in_ok-ranks.ranks.items
+          (omega (arith, c.in_ok-ranks.ensures.len, c.len.ensures, c.in_ok-ranks.ranks.ok.0))
+          (λ k lt. ap (λ (l : List ℕ). get_or l k 0) all
+          ∙ get_or-replicate _ k _ 0 (omega (arith, lt, c.len.ensures))));
+      cursors = c.in_ok-cursors.ensures;
+    }
+
+pub index_mut-requires : goal.index_mut-requires
+index_mut-requires c = ?
+
+pub strings-preserved : goal.strings-preserved
+strings-preserved c = ?
