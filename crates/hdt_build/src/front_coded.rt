@@ -113,13 +113,7 @@ impl FrontCoded {
         ensures { OnOk result (self.new ≡ self.old ++ text.now ∷ []) }
     {
         note_whole(&mut self.whole, same, self.rests.len())?;
-        push_coded(
-            &mut self.kept,
-            &mut self.rests,
-            &mut self.last,
-            same,
-            text,
-        )
+        push_coded(&mut self.kept, &mut self.rests, &mut self.last, same, text)
     }
 
     /// Appends a string, and stores it whole. If memory runs out, the list is emptied.

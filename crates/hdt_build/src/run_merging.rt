@@ -24,7 +24,12 @@ pub(crate) struct RunCursor {
 
 impl RunCursor {
     /// A cursor at the first string of a run, or one without strings if that string is not stored whole.
-    fn new(alloc: Global, list: &FrontCoded, from: usize, end: usize) -> Result<RunCursor, AllocError>
+    fn new(
+        alloc: Global,
+        list: &FrontCoded,
+        from: usize,
+        end: usize,
+    ) -> Result<RunCursor, AllocError>
         ensures { IfOk result (IsCursorOf list.now) }
     {
         let within = end.min(list.len());
@@ -79,7 +84,11 @@ fn run_cursors(alloc: Global, list: &FrontCoded) -> Result<Vec<RunCursor>, Alloc
     let whole = list.whole();
     let mut made = Vec::with_capacity(alloc, whole.len())?;
     'runs: for run in 0..whole.len() {
-        let end = if run + 1 < whole.len() { whole[run + 1] } else { list.len() };
+        let end = if run + 1 < whole.len() {
+            whole[run + 1]
+        } else {
+            list.len()
+        };
         made.push(RunCursor::new(alloc, list, whole[run], end)?)?;
     }
     Ok(made)

@@ -45,8 +45,11 @@ returns-in-Equal-clause-joined c =
 pub returns-in_ok-push_after-in-Greater-clause-joined : goal.returns-in_ok-push_after-in-Greater-clause-joined
 returns-in_ok-push_after-in-Greater-clause-joined c =
     let s = c.self.inside in
-    inr (c.in_ok-push_after-in-Greater.ensures, λ some.
-    let last : c.deref.result.now ≡ last_of c.args.self.now = c.deref.ensures.value
-    ∙ front_last s.kept.items s.rests s.last.items c.args.self.now c.self.invariant c.self.view_is
-    ∙ before_last c.args.self.now some in
-    ap (string_cmp c.args.text.now) (sym last) ∙ sym c.cmp_from-order.ensures.order ∙ c.in-Greater.is)
+    inr (
+      c.in_ok-push_after-in-Greater.ensures,
+      λ some.
+          let last : c.deref.result.now ≡ last_of c.args.self.now = c.deref.ensures.value
+          ∙ front_last s.kept.items s.rests s.last.items c.args.self.now c.self.invariant c.self.view_is
+          ∙ before_last c.args.self.now some in
+          ap (string_cmp c.args.text.now) (sym last) ∙ sym c.cmp_from-order.ensures.order ∙ c.in-Greater.is,
+    )
