@@ -21,12 +21,13 @@
 //! let (canonical, report) = rewrite_bytes(alloc, &graph, &options)?; // without unused strings
 //! ```
 //!
-//! [`merge`] writes the canonical file of all triples of several graphs; [`Merger`] takes them one after another.
+//! [`merge`] writes the canonical file of all triples of several graphs; [`Merger`] takes them, and documents, one after
+//! another.
 //!
 //! Modules, in reading order. Building: `options` and `fault`; `interner`, the list of strings; `queue` and
-//! `collector`, triples as indices of strings; `reading`, the lines of the input; `string_sort` and `dedup`, the
-//! strings in order, each once; `prefetch`; `section_filter`, the four sections and the IDs; `triples` and `encoding`,
-//! the encoded graph; `header` and `file`, its bytes; `building`.
+//! `collector`, triples as indices of strings; `labels`, blank nodes; `reading`, the lines of the input; `string_sort`
+//! and `dedup`, the strings in order, each once; `prefetch`; `section_filter`, the four sections and the IDs; `triples`
+//! and `encoding`, the encoded graph; `header` and `file`, its bytes; `building`.
 //! Rewriting: `retained`, which strings remain; `section_run`, a cursor over them; `sections` and `id_map`, the new
 //! sections and IDs; `rewriting`. Merging: `graph_strings`, the strings of a graph as indices; `merging`. `laws`:
 //! properties of all three.
@@ -42,6 +43,7 @@ mod graph_strings;
 mod header;
 mod id_map;
 mod interner;
+mod labels;
 mod laws;
 mod merging;
 mod options;
@@ -64,5 +66,5 @@ pub use laws::{
     rewriting_again_changes_nothing, rewriting_keeps_the_graph,
 };
 pub use merging::{Merger, merge, merge_bytes};
-pub use options::{Options, Report};
+pub use options::{Options, Report, are_valid_options};
 pub use rewriting::{rewrite, rewrite_bytes};
