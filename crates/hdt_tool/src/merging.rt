@@ -1,5 +1,5 @@
 //! `merge` over files.
-ghost use Rattle.std.specs.Prelude.{◌≡◌, ◌<◌, ◌++◌, ◌↔◌, length, IfOk, IfErr, IsErrOf, codes};
+ghost use Rattle.std.specs.Prelude.{◌≡◌, ◌<◌, ◌++◌, ◌↔◌, length, IfOk, IfErr, IsErrOf};
 ghost use Rattle.hdt_wire.specs.Counted.{inner};
 ghost use Rattle.hdt_build.specs.Built.{IsBuilt};
 ghost use Rattle.hdt_build.specs.Layouts.{denoted_by};
@@ -44,15 +44,20 @@ fn add_file<R: Read>(
     Ok(merger.with(alloc, &graph)?)
 }
 
-/// The canonical file of all triples, and the line with its counts.
-fn merged(alloc: Global, merger: Merger, options: &Options) -> Result<(Vec<u8>, Vec<u8>), ToolFault>
+/// The canonical file of all triples, and the line with its counts after a verb.
+pub(crate) fn merged(
+    alloc: Global,
+    verb: &str,
+    merger: Merger,
+    options: &Options,
+) -> Result<(Vec<u8>, Vec<u8>), ToolFault>
     requires { 0 < length merger }
     ensures ok { IfOk result (λ made. (report : Report) × IsBuilt options.now merger made.0.items report
-        × (made.1.items ≡ counts_line (codes "merged") report)) }
+        × (made.1.items ≡ counts_line verb.now report)) }
     ensures bad { IsErrOf result ToolFault.BadOptions ↔ (AreValidOptions options.now → ⊥) }
 {
     let (file, report) = merger.finish(alloc, options)?;
-    let line = counts_line(alloc, "merged", &report)?;
+    let line = counts_line(alloc, verb, &report)?;
     Ok((file, line))
 }
 
@@ -108,7 +113,7 @@ pub(crate) fn run_merge(
             return print_line_fault(rt, source.with_input(path), path, &fault);
         }
     };
-    let (file, line) = match merged(rt.alloc(), merger, &options.options) {
+    let (file, line) = match merged(rt.alloc(), "merged", merger, &options.options) {
         Ok(made) => made,
         Err(fault) => return print_fault(rt, source, fault),
     };

@@ -32,6 +32,7 @@ use crate::error_lines::{OUT_OF_MEMORY, fault_line, usage_line};
 use crate::fault::{ToolFault, UsageFault, file_fault};
 use crate::files::{open_input, output_path};
 use crate::lint::lint_path;
+use crate::building_inputs::run_build_inputs;
 use crate::merging::run_merge;
 use crate::non_term_status::{count_status, skipped_line};
 use crate::output_file::make_file_at;
@@ -383,6 +384,9 @@ pub fn process_status(rt: &HostRuntime, words: io::Result<Vec<String>>) -> u8
         }
         Action::Split(options) => run_split(rt, source, request, options),
         Action::Merge(options) => run_merge(rt, source, request, options),
+        Action::BuildInputs(options, blank_nodes) => {
+            run_build_inputs(rt, source, request, options, *blank_nodes)
+        }
         _ => {
             let input = match open_input(rt, request.file.as_str(), source.session) {
                 Ok(input) => input,

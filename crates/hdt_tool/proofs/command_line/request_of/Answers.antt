@@ -10,8 +10,8 @@ returns-in_default-clause-refused c =
     (rows_of (found_of c.args.matches.now)) r c.in_default.not-build c.in_default.not-rewrite h)
     c.query_request.ensures.refused
 
-pub returns-in-build-clause-refused : goal.returns-in-build-clause-refused
-returns-in-build-clause-refused c =
+pub returns-in-rewrite-clause-refused : goal.returns-in-rewrite-clause-refused
+returns-in-rewrite-clause-refused c =
     IfErr-weaker c.output_request.result _ _
-    (λ r h. of_making c.args.name.now (rows_of (found_of c.args.matches.now)) r c.in-build.is h)
+    (λ r h. of_making c.args.name.now (rows_of (found_of c.args.matches.now)) r c.in-rewrite.is h)
     c.output_request.ensures.refused
