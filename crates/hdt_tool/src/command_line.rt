@@ -12,8 +12,8 @@ ghost use Rattle.hdt_tool.specs.declared.request.Request.{Request};
 
 use crate::arguments::{
     answer_action, argument_text, count_action, dump_action, find_action, has_flag, info_action,
-    lint_action, optional_number, required_id, required_role, required_term,
-    required_text, required_u32, strings_action, verify_action,
+    lint_action, optional_number, required_id, required_role, required_term, required_text,
+    required_u32, strings_action, verify_action,
 };
 use crate::build_arguments::build_request;
 use crate::fault::{TermArgument, UsageFault, missing};

@@ -222,8 +222,7 @@ fn split_to<W: Write + Drop>(
     ensures { IsCommandStatus result }
 {
     let others = options.others.as_slice();
-    let (Ok(mut outs), Ok(inputs)) = (outs, late_inputs(rt, source.session, request, others))
-    else {
+    let (Ok(mut outs), Ok(inputs)) = (outs, late_inputs(rt, source.session, request, others)) else {
         return print_fault(rt, source, ToolFault::OutOfMemory);
     };
     if outs.is_empty() {

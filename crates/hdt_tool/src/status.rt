@@ -24,6 +24,7 @@ ghost use Rattle.hdt_tool.specs.declared.request.AnswerReport.{AnswerReport};
 ghost use Rattle.hdt_tool.specs.ErrorLines.{fault_status};
 ghost use Rattle.hdt_tool.specs.Status.{ExitsWith, IsCommandStatus, IsRefusalStatus, IsReportStatus};
 
+use crate::building_inputs::run_build_inputs;
 use crate::command_line::parse_invocation;
 use crate::commands::{answer_file, print_output};
 use crate::error_context::{ErrorSource, is_terminal, print_context, print_term_context};
@@ -32,7 +33,6 @@ use crate::error_lines::{OUT_OF_MEMORY, fault_line, usage_line};
 use crate::fault::{ToolFault, UsageFault, file_fault};
 use crate::files::{open_input, output_path};
 use crate::lint::lint_path;
-use crate::building_inputs::run_build_inputs;
 use crate::merging::run_merge;
 use crate::non_term_status::{count_status, skipped_line};
 use crate::output_file::make_file_at;
