@@ -199,6 +199,14 @@ build_needed rows request (inr (inr h)) = record {
   paths = only_out rows request.out h.out;
 }
 
+-- A usage error of `build` is one of the command line.
+pub of_build : (name : Text) (rows : List Row) (r : UsageFault) → name ≡ codes "build"
+    → Refutes ((request : Request) × IsRequestOf (codes "build") rows request) r
+    → RefutesOrInvalidTerm ((request : Request) × IsRequestOf name rows request) (HasInvalidTerm name rows) r
+of_build name rows r is h =
+    without_or _ _ (HasInvalidTerm name rows) r
+    (λ w. (w.0, subst (λ (n : Text). IsRequestOf n rows w.0) is w.1)) h
+
 no_last : {X : Type 0} (xs : List X) (x : X) → [] ≡ xs ++ x ∷ [] → ⊥
 no_last [] x e = cc
 no_last (y ∷ ys) x e = cc
