@@ -148,7 +148,7 @@ def test_faulty_line(tmp_path: Path) -> None:
     """A line counts in its document, and the message has the path; the first document with an error is named."""
     paths = write(tmp_path, [LINES[0] + b"\n" + LINES[2], LINES[0] + b"\nx\n", b"y"])
     out = tmp_path / "out.hdt"
-    wanted = failed(1, f"{paths[1]}: line 2 column 1: 2 Syntax")
+    wanted = failed(1, f"{paths[1]}: line 2 column 1: 1 Syntax")
     assert hdt("build", *paths, out) == wanted
     assert hdt("build", *paths, out, "--blank-nodes=apart") == wanted
     seen = hdt("build", *paths, out, "--verbose")
@@ -163,7 +163,8 @@ def test_long_line(tmp_path: Path) -> None:
     assert hdt("build", *paths[:2], out, "--longest-line", most).status == 0
     path = write(tmp_path, [LINES[0], LINES[0] + b"\n" + LINES[6]])[1]
     seen = hdt("build", *paths[:2], out, "--longest-line", most)
-    assert seen == failed(1, f"{path}: line 2 column {int(most) + 1}: 11 TooLong")
+    line = failed(1, f"{path}: line 2 column {int(most) + 1}: 9 TooLong").err
+    assert (seen.status, seen.err) == (1, line + b"  The line is longer than --longest-line allows.\n")
 
 
 def test_missing_document(tmp_path: Path) -> None:

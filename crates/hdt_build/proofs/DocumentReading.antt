@@ -16,9 +16,10 @@ use Rattle.hdt_terms.specs.Lines.{EncodesTriple}
 use Rattle.hdt_terms.specs.LinesReader.{LinesState, TakesTriple, start, left}
 use Rattle.hdt_file.specs.Denoted.{StringTriple}
 use Rattle.hdt_build.specs.Graph.{subjects_of, predicates_of, objects_of}
-use Rattle.hdt_build.specs.Documents.{have_blank_nodes, is_blank_node, prefixed_strings, prefixed_triple}
+use Rattle.hdt_build.specs.Documents.{AddsDocument, have_blank_nodes, is_blank_node, prefixed_strings, prefixed_triple}
 use Rattle.hdt_build.specs.Reading.{most, term_strings, IsInputGraph, HasDictionaryStrings, IsConvertedTo, ReadFailed}
 use Rattle.hdt_build.specs.Reading.{IsBuildFaultOf}
+use Rattle.hdt_build.proofs.PrefixedLabels.{unprefixed}
 
 pub either : (b : Bool) → (b ≡ true) ⊎ (b ≡ false)
 either true = inl refl
@@ -71,8 +72,8 @@ at_end buffered (Some xs) none e = sym (ap (λ (ys : List ℕ). ys ++ xs) none) 
 
 -- one more triple
 pub run_on : (prefix : List ℕ) (s new : LinesState) (input mid after : Option (List ℕ))
-    (before graph : List StringTriple) (triple : Triple) (added : StringTriple) (old blank : Bool)
-    → IsReadSoFar prefix s input mid before graph old → s.ended ≡ false
+    (before graph more : List StringTriple) (triple : Triple) (added : StringTriple) (old blank : Bool)
+    → IsReadSoFar prefix s input mid before graph old → s.ended ≡ false → more ≡ graph ++ added ∷ []
     → added ≡ term_strings (prefixed_triple prefix triple)
     → blank ≡ (old || (is_blank_node triple.s || is_blank_node triple.o))
     → ((triples : List Triple) → TriplesSoFar most s input mid triples → new.ended ≡ false
@@ -80,10 +81,11 @@ pub run_on : (prefix : List ℕ) (s new : LinesState) (input mid after : Option 
     → ((triples : List Triple) → TriplesSoFar most s input mid triples → new.ended ≡ true
     → IsDocumentInput most input (triples ++ triple ∷ []))
     → TakesTriple s new mid after triple
-    → IsReadSoFar prefix new input after before (graph ++ added ∷ []) blank
-run_on prefix s new input mid after before graph triple added old blank r still are has on last taken = record {
+    → IsReadSoFar prefix new input after before more blank
+run_on prefix s new input mid after before graph more triple added old blank r still grown are has on last taken =
+    record {
   triples = r.triples ++ triple ∷ [];
-  strings = strings_more prefix before graph r.triples triple added r.strings are;
+  strings = grown ∙ strings_more prefix before graph r.triples triple added r.strings are;
   blank_is = blank_more r.triples triple old blank r.blank_is has;
   going = λ e. on r.triples (r.going still) e;
   ended = λ e. last r.triples (r.going still) e;
@@ -162,6 +164,16 @@ converted_fault before after fault converted (inr e) h = subst (IsBuildFaultOf b
 empty_map : (triples : List Triple) → map term_strings triples ≡ [] → triples ≡ []
 empty_map [] e = refl
 empty_map (t ∷ ts) e = absurd cc
+
+-- a document that was added to nothing, with no prefix
+pub input_graph : (input : Option (List ℕ)) (before graph : List StringTriple) (blank : Bool) → before ≡ []
+    → AddsDocument [] input before graph blank → IsInputGraph input graph
+input_graph input before graph blank none h = record {
+  triples = h.triples;
+  document = h.document;
+  strings = h.strings ∙ (ap (λ (l : List StringTriple). l ++ prefixed_strings [] h.triples) none
+      ∙ unprefixed h.triples);
+}
 
 -- an empty graph is that of a document without triples
 pub no_triples : (input : Option (List ℕ)) (graph : List StringTriple) → IsInputGraph input graph → graph ≡ []

@@ -7,7 +7,7 @@ use Rattle.hdt_file.specs.Denoted.{StringTriple}
 use Rattle.hdt_build.specs.Documents.{is_blank_node, prefixed_triple}
 use Rattle.hdt_build.specs.Inside.Collecting.{collected_triples}
 use Rattle.hdt_build.specs.Reading.{most, term_strings, HasDictionaryStrings}
-use Rattle.hdt_build.proofs.DocumentReading.{IsReadSoFar, at_end, either, run_begins, run_on, texts_more}
+use Rattle.hdt_build.proofs.DocumentReading.{at_end, either, run_begins, run_on, texts_more}
 use Rattle.hdt_build.proofs.DocumentReading.{line_of, triple_size, converted_fault, not_read}
 use Rattle.hdt_build.proofs.PrefixedLabels.{blank_string, prefixed_string, prefixed_text, text_of}
 use Rattle.hdt_build.proofs.StringsOfIds.{same_strings}
@@ -65,13 +65,13 @@ triples-preserved g c =
     (ap (prefix_label prefix) taken.1.o_is ∙ prefixed_string prefix triple.o object) in
     let more : collected_triples c.add_prefixed.new.collector ≡ graph ++ added ∷ [] =
     rw (
-      c.as_slice.ensures.value,
-      c.as_slice-in-Ok-true.ensures.value,
-      c.as_slice-in-Ok-true-2.ensures.value,
+      c.as_slice-s.ensures.value,
+      c.as_slice-p.ensures.value,
+      c.as_slice-o.ensures.value,
     ) at c.in_ok-add_prefixed-in-Ok-true.ensures.graph ∙ (λ i. graph ++ is i ∷ []) in
-    let blank : c.has_blank_node.result
+    let blank : c.has_blank_node-has_blank_nodes.result
     ≡ (c.triples.has_blank_nodes || (is_blank_node triple.s || is_blank_node triple.o)) =
-    rw (c.as_slice.ensures.value, c.as_slice-in-Ok-true-2.ensures.value) at c.has_blank_node.ensures
+    rw (c.as_slice-s.ensures.value, c.as_slice-o.ensures.value) at c.has_blank_node-has_blank_nodes.ensures
     ∙ ap (λ (b : Bool). c.triples.has_blank_nodes || b)
     (λ i. (ap is_blank_string taken.1.s_is ∙ blank_string triple.s subject) i
     || (ap is_blank_string taken.1.o_is ∙ blank_string triple.o object) i) in
@@ -84,14 +84,13 @@ triples-preserved g c =
           (text_of _ (text triple.p predicate))
           (prefixed_text prefix triple.o c.requires.prefix object (text triple.o object)));
       run =
-          subst (λ (l : List StringTriple). IsReadSoFar prefix new _ _ (collected_triples c.args.collector) l _)
-          (sym more)
-          (run_on prefix c.triples.lines new _ _ _ (collected_triples c.args.collector) graph triple added
-          c.triples.has_blank_nodes c.has_blank_node.result inv.run going refl blank
+          run_on prefix c.triples.lines new _ _ _ (collected_triples c.args.collector) graph
+          (collected_triples c.add_prefixed.new.collector) triple added c.triples.has_blank_nodes
+          c.has_blank_node-has_blank_nodes.result inv.run going more refl blank
           (λ triples ran e. c.triples_so_far.ensures.goes_on most c.triples.lines new _ _ _ triples triple ran taken.2
           e)
           (λ triples ran e. c.triples_so_far.ensures.last most c.triples.lines new _ _ _ triples triple ran taken.2 e)
-          taken.2);
+          taken.2;
       count = read.count ∙ inv.count;
     }
 
