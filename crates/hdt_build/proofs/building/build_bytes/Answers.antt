@@ -14,7 +14,7 @@ returns-then-not-are_valid_options-clause-still g c = λ _. refl
 
 pub returns-in_err-collector : goal.returns-in_err-collector
 returns-in_err-collector g c =
-    let p = err_from_is_err_and c.from_residual.result c.from_residual.ensures.1 in
+    let p = err_from_is_err_and c.from_residual-in_err-collector.result c.from_residual-in_err-collector.ensures.1 in
     let error = c.in_err-collector.ensures in
     let right : AreValidOptions c.args.options.now = c.are_valid_options.ensures.0 c.if-not-are_valid_options.false in
     let other = λ (is : c.in_err-collector.field-0.0 ≡ BadOptions). (rw is at error.fault) in
