@@ -185,7 +185,7 @@ pub build_needed : (rows : List Row) (request : Request) → IsRequestOf (codes 
 build_needed rows request (inl h) =
     let needed = inputs_needed rows request.action h.action in
     record {
-      file = subst IsSome (sym h.file) tt;
+      file = subst IsSome (sym h.file) refl;
       options = (needed.0.options, needed.2.file);
       blank_nodes = (needed.1, needed.3);
       paths = (map string_bytes needed.0.others.items, string_bytes needed.0.out, needed.2.paths);
@@ -193,7 +193,7 @@ build_needed rows request (inl h) =
 build_needed rows request (inr (inl h)) =
     absurd (only_rewrite _ rows request.action (λ is. differ _ _ _ refl is refl) h.action)
 build_needed rows request (inr (inr h)) = record {
-  file = subst IsSome (sym h.file) tt;
+  file = subst IsSome (sym h.file) refl;
   options = build_needed_alone rows request.action h.action;
   blank_nodes = (None, h.blank_nodes);
   paths = only_out rows request.out h.out;
