@@ -17,6 +17,7 @@ mod SectionFilling
 mod FilteredSections
 pub mod EntrySorting
 pub mod Deduplication
+pub mod PrefixedLabels
 pub mod DocumentReading
 pub mod Unions
 pub mod Unique

@@ -1,5 +1,6 @@
 pub mod Built
 pub mod Canonical
+pub mod Documents
 pub mod Graph
 pub mod Header
 pub mod Layouts

@@ -21,13 +21,14 @@
 //! let (canonical, report) = rewrite_bytes(alloc, &graph, &options)?; // without unused strings
 //! ```
 //!
-//! [`merge`] writes the canonical file of all triples of several graphs; [`Merger`] takes them one after another.
+//! [`DocumentBuilder`] builds one file of several documents. [`merge`] writes the canonical file of all triples of
+//! several graphs; [`Merger`] takes them one after another.
 //!
 //! Modules, in reading order. Building: `options` and `fault`; `interner`, the list of strings; `queue` and
-//! `collector`, triples as indices of strings; `reading`, the lines of the input; `front_coded`,
+//! `collector`, triples as indices of strings; `labels`, blank nodes; `reading`, the lines of the input; `front_coded`,
 //! strings in little memory; `string_sort` and `dedup`, the strings in order, each once; `prefetch`; `section_filter`,
 //! the four sections and the IDs; `triples` and `encoding`, the encoded graph; `header` and `file`, its bytes;
-//! `building`.
+//! `building`; `documents`, a build from several documents.
 //! Rewriting: `retained`, which strings remain; `section_run`, a cursor over them; `sections` and `id_map`, the new
 //! sections and IDs; `rewriting`. Merging: `graph_strings`, the strings of graphs as ascending runs; `run_merging`
 //! and `tournament`, the strings of all runs in order, each once; `merging`. `laws`: properties of all three.
@@ -36,6 +37,7 @@
 mod building;
 mod collector;
 mod dedup;
+mod documents;
 mod encoding;
 mod fault;
 mod file;
@@ -44,6 +46,7 @@ mod graph_strings;
 mod header;
 mod id_map;
 mod interner;
+mod labels;
 mod laws;
 mod merging;
 mod options;
@@ -61,6 +64,7 @@ mod tournament;
 mod triples;
 
 pub use building::{build, build_bytes};
+pub use documents::DocumentBuilder;
 pub use fault::{BuildFault, MergeFault, RewriteFault};
 pub use laws::{
     canonical_files_are_layouts, equal_graphs_equal_files, merging_is_a_union, merging_is_building,
@@ -68,5 +72,5 @@ pub use laws::{
     rewriting_again_changes_nothing, rewriting_keeps_the_graph,
 };
 pub use merging::{Merger, merge, merge_bytes};
-pub use options::{Options, Report};
+pub use options::{Options, Report, are_valid_options};
 pub use rewriting::{rewrite, rewrite_bytes};

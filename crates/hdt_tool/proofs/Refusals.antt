@@ -131,14 +131,14 @@ none_on_file name rows is (action.Rewrite b) h = h
 none_on_file name rows is a h = differ name _ _ is h.0 refl
 
 none_making : (name : Text) (rows : List Row) → name ≡ codes "explain" → (a : Action) → IsOutputAction name rows a → ⊥
-none_making name rows is (action.Build options) h = differ name _ _ is h.0 refl
 none_making name rows is (action.Rewrite b) h = differ name _ _ is h.0 refl
 none_making name rows is a h = h
 
 no_request : (name : Text) (rows : List Row) → name ≡ codes "explain" → (request : Request)
     → IsRequestOf name rows request → ⊥
 no_request name rows is request (inl w) = none_on_file name rows is request.action w.action
-no_request name rows is request (inr w) = none_making name rows is request.action w.action
+no_request name rows is request (inr (inl w)) = none_making name rows is request.action w.action
+no_request name rows is request (inr (inr w)) = differ name _ _ is w.named refl
 
 -- The error of `explain`.
 pub of_explain : (name : Text) (rows : List Row) (fault : UsageFault) → name ≡ codes "explain"

@@ -15,5 +15,6 @@ pub mod ErrorLines
 pub mod CommandLine
 pub mod Paths
 pub mod SplitInputs
+pub mod BuildInputs
 pub mod Status
 pub mod Inside

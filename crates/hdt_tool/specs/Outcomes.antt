@@ -29,7 +29,7 @@ use Rattle.hdt_tool.specs.declared.request.Request.{Request}
 use Rattle.hdt_tool.specs.declared.request.Action.TheVariants.{Head, Verify, VerifyTight, VerifyTerms, Strings}
 use Rattle.hdt_tool.specs.declared.request.Action.TheVariants.{ListStrings, Nth, Number, Find, Search, SkipNonTerms}
 use Rattle.hdt_tool.specs.declared.request.Action.TheVariants.{Exists, Count, Answer, Build, Rewrite, Info, Lint}
-use Rattle.hdt_tool.specs.declared.request.Action.TheVariants.{Merge, Split}
+use Rattle.hdt_tool.specs.declared.request.Action.TheVariants.{BuildInputs, Merge, Split}
 use Rattle.hdt_tool.specs.PrintedReports.{built_line, rewritten_line, head_text, verdict}
 use Rattle.hdt_tool.specs.ErrorLines.{fault_status}
 use Rattle.hdt_tool.specs.Info.{PrintsInfo}
@@ -102,6 +102,7 @@ Prints (Build options) bytes text = ⊥
 Prints (Rewrite b) bytes text = ⊥
 Prints (Split options) bytes text = text ≡ []
 Prints (Merge options) bytes text = text ≡ []
+Prints (BuildInputs options blank) bytes text = text ≡ []
 
 -- The command reads a file and writes none.
 abbrev pub IsReadOnly : Action → Type 0
@@ -155,6 +156,7 @@ HasFault (Build options) bytes fault = ⊥
 HasFault (Lint keep most) bytes fault = ⊥
 HasFault (Split options) bytes fault = ⊥
 HasFault (Merge options) bytes fault = ⊥
+HasFault (BuildInputs options blank) bytes fault = ⊥
 HasFault action bytes fault = decode_graph bytes ≡ Err fault
 
 -- The role has no string with the ID to look up.

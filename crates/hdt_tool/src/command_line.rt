@@ -11,10 +11,11 @@ ghost use Rattle.hdt_tool.specs.declared.request.Action.{Action};
 ghost use Rattle.hdt_tool.specs.declared.request.Request.{Request};
 
 use crate::arguments::{
-    answer_action, argument_text, build_options, count_action, dump_action, find_action, has_flag,
-    info_action, lint_action, optional_number, required_id, required_role, required_term,
-    required_text, required_u32, strings_action, verify_action,
+    answer_action, argument_text, count_action, dump_action, find_action, has_flag, info_action,
+    lint_action, optional_number, required_id, required_role, required_term, required_text,
+    required_u32, strings_action, verify_action,
 };
+use crate::build_arguments::build_request;
 use crate::fault::{TermArgument, UsageFault, missing};
 use crate::merge_arguments::merge_action;
 use crate::request::{Action, Invocation, Progress, Request};
@@ -94,7 +95,7 @@ fn query_request<'m>(
     })
 }
 
-/// The action of a command that writes OUT.
+/// The action of a command that reads IN and writes OUT.
 fn output_action<'m>(
     alloc: Global,
     name: &str,
@@ -105,13 +106,12 @@ fn output_action<'m>(
         (Refutes ((action : Action) × IsOutputAction name.now (rows_of (found_of matches.now)) action)) }
 {
     match name {
-        "build" => Ok(Action::Build(build_options(alloc, matches)?)),
         "rewrite" => Ok(Action::Rewrite(required_u32(alloc, matches, "block-size")?)),
         _ => Err(missing(alloc)),
     }
 }
 
-/// The request of a command that writes OUT.
+/// The request of a command that reads IN and writes OUT.
 fn output_request<'m>(
     alloc: Global,
     name: &str,
@@ -140,7 +140,8 @@ fn request_of<'m>(
         (HasInvalidTerm name.now (rows_of (found_of matches.now)))) }
 {
     match name {
-        "build" | "rewrite" => output_request(alloc, name, matches),
+        "build" => build_request(alloc, matches),
+        "rewrite" => output_request(alloc, name, matches),
         _ => query_request(alloc, name, matches),
     }
 }

@@ -39,7 +39,11 @@ For more information, try '--help'."
 /// The name of the file that a command reads.
 fn input_name<'a>(action: &Action) -> &'a str {
     match action {
-        Action::Build(_) | Action::Rewrite(_) | Action::Lint { .. } | Action::Split(_) => "IN",
+        Action::Build(_)
+        | Action::BuildInputs(_, _)
+        | Action::Rewrite(_)
+        | Action::Lint { .. }
+        | Action::Split(_) => "IN",
         _ => "FILE",
     }
 }
@@ -48,8 +52,17 @@ fn input_name<'a>(action: &Action) -> &'a str {
 fn other_inputs(action: &Action) -> &[String] {
     match action {
         Action::Split(options) => options.others.as_slice(),
-        Action::Merge(options) => options.others.as_slice(),
+        Action::Merge(options) | Action::BuildInputs(options, _) => options.others.as_slice(),
         _ => &[],
+    }
+}
+
+/// The path of OUT, if it must be none of the inputs.
+fn new_path(request: &Request) -> Option<&str> {
+    match &request.action {
+        Action::Build(_) => Some(request.out.as_ref()?.as_str()),
+        Action::BuildInputs(options, _) => Some(options.out.as_str()),
+        _ => None,
     }
 }
 
@@ -59,8 +72,8 @@ fn output_over<'a>(rt: &HostRuntime, request: &Request, path: &str) -> Option<&'
     if would_overwrite(rt, STDERR_PATH, path) {
         return Some(STDERR_NAME);
     }
-    if let (Action::Build(_), Some(out)) = (&request.action, &request.out) {
-        if would_overwrite(rt, output_path(out.as_str()), path) {
+    if let Some(out) = new_path(request) {
+        if would_overwrite(rt, output_path(out), path) {
             return Some("OUT");
         }
     }

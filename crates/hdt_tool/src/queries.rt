@@ -120,6 +120,7 @@ pub(crate) fn file_text(alloc: Global, action: &Action, bytes: &[u8]) -> Result<
             Ok(Vec::new(alloc))
         }
         Action::Lint { .. } | Action::Split(_) | Action::Merge(_) => Ok(Vec::new(alloc)),
+        Action::BuildInputs(_, _) => Ok(Vec::new(alloc)),
         Action::Strings(_) | Action::Find { .. } | Action::Search { .. } => unreachable!(),
         Action::SkipNonTerms { .. } | Action::VerifyTerms { .. } => unreachable!(),
         Action::Build(_) | Action::Rewrite(_) => unreachable!(),

@@ -38,7 +38,7 @@ pub struct AnswerReport {
     pub skipped: u64,
 }
 
-/// Whether a label is one blank node in all inputs of `split`.
+/// Whether a label is one blank node in all inputs of `split`, or of `build`.
 #[derive(Clone, Copy, Debug, PartialEq, Eq)]
 pub enum BlankNodes {
     /// It is: the inputs are pieces of one document.
@@ -69,10 +69,10 @@ pub struct SplitOptions {
     pub blank_nodes: Option<BlankNodes>,
 }
 
-/// The options of `merge`.
+/// The paths and the options of `merge`, or of `build` with several documents.
 #[derive(Debug, Drop)]
 pub struct MergeOptions {
-    /// The paths of the files after the first one, which is the file of the request.
+    /// The paths of the inputs after the first one, which is the file of the request.
     pub others: Vec<String>,
     /// The path of the new file.
     pub out: String,
@@ -170,6 +170,9 @@ pub enum Action {
     Split(SplitOptions),
     /// Merges files into one, and prints the counts of its parts.
     Merge(MergeOptions),
+    /// Builds one HDT file from several N-Triples documents, or with `--blank-nodes`, and prints the counts of its
+    /// parts. Without a value of that option only one document may have blank nodes.
+    BuildInputs(MergeOptions, Option<BlankNodes>),
 }
 
 /// A command and its files.
