@@ -3,6 +3,7 @@ pub mod Canonical
 pub mod Graph
 pub mod Header
 pub mod Layouts
+pub mod NewHeader
 pub mod Options
 pub mod Reading
 pub mod Inside
