@@ -50,11 +50,18 @@ pub record ReplacesHeader (body bytes : List ℕ) (graph : GraphParts) (made : L
   pub document : Document body triples
   pub made_is : made ≡ with_new_header file.head body bytes
 
+-- The error is the first one of the body.
+abbrev pub IsBodyFault : List ℕ → HeaderFault → Type 0
+IsBodyFault body (faults.File fault) = ⊥
+IsBodyFault body (faults.Line fault) = (fault.reason ≢ OutOfMemory)
+    × ((given : Option (List ℕ)) × FaultInDocument fault most (Some body) given)
+IsBodyFault body faults.OutOfMemory = ⊤
+
 -- The error is the first one of the file, or of the body if the file is valid.
 abbrev pub IsHeaderFaultOf : List ℕ → List ℕ → HeaderFault → Type 0
 IsHeaderFaultOf body bytes (faults.File fault) = decode_graph bytes ≡ Err fault
-IsHeaderFaultOf body bytes (faults.Line fault) = (graph : GraphParts) × IsLayout bytes graph
-    × (fault.reason ≢ OutOfMemory) × (given : Option (List ℕ)) × FaultInDocument fault most (Some body) given
+IsHeaderFaultOf body bytes (faults.Line fault) = ((graph : GraphParts) × IsLayout bytes graph)
+    × IsBodyFault body (faults.Line fault)
 IsHeaderFaultOf body bytes faults.OutOfMemory = ⊤
 
 -- The error of opening a file, as an error of replacing its header.
