@@ -118,7 +118,6 @@ other_name name other (inr is) e build rewrite = differ name _ other is e rewrit
 
 none_on_file : (name : Text) (rows : List Row) → (name ≡ codes "build") ⊎ (name ≡ codes "rewrite") → (a : Action)
     → IsQueryAction name rows a → ⊥
-none_on_file name rows is action.Head h = other_name name _ is h refl refl
 none_on_file name rows is (action.Find given numbers) (inl h) = other_name name _ is h.named refl refl
 none_on_file name rows is (action.Search given format most) h = other_name name _ is h.named refl refl
 none_on_file name rows is (action.Count role top raw) h = other_name name _ is h.named refl refl
@@ -154,7 +153,6 @@ of_others name rows r build rewrite h =
 -- `split` needs its options.
 pub split_needed : (name : Text) (rows : List Row) → name ≡ codes "split" → (a : Action) → IsQueryAction name rows a
     → (options : SplitOptions) × ParsesAsSplitOptions rows options
-split_needed name rows is action.Head h = differ name _ _ is h refl
 split_needed name rows is (action.Find given numbers) (inl h) = differ name _ _ is h.named refl
 split_needed name rows is (action.Find given numbers) (inr h) = differ name _ _ is h.0 refl
 split_needed name rows is (action.SkipNonTerms given count most) (inl h) = differ name _ _ is h.named refl
@@ -172,7 +170,6 @@ split_needed name rows is a h = differ name _ _ is h.0 refl
 -- `merge` needs its options.
 pub merge_needed : (name : Text) (rows : List Row) → name ≡ codes "merge" → (a : Action) → IsQueryAction name rows a
     → (options : MergeOptions) × ParsesAsMergeOptions rows options
-merge_needed name rows is action.Head h = differ name _ _ is h refl
 merge_needed name rows is (action.Find given numbers) (inl h) = differ name _ _ is h.named refl
 merge_needed name rows is (action.Find given numbers) (inr h) = differ name _ _ is h.0 refl
 merge_needed name rows is (action.SkipNonTerms given count most) (inl h) = differ name _ _ is h.named refl

@@ -1,6 +1,6 @@
 -- What a run of a command does: its output, the file that it makes, and its errors. In these definitions `before` and
 -- `after` are what the reader still yields before and after the run.
-use Rattle.std.specs.Prelude.{◌≡◌, ◌≢◌, ◌<◌, ◌≤◌, ◌+◌, ℕ, true, false, List, [], ◌++◌, length, take, Option, None, Some}
+use Rattle.std.specs.Prelude.{◌≡◌, ◌≢◌, ◌<◌, ◌≤◌, ◌+◌, ℕ, Bool, true, false, List, [], ◌++◌, length, take, Option, None, Some}
 use Rattle.std.specs.Prelude.{Err, MatchOption, codes}
 use Rattle.std.specs.Fmt.{decimal}
 use Rattle.std.specs.Io.KnownBytes.{Appends, Consumes, IsAtEnd}
@@ -30,7 +30,7 @@ use Rattle.hdt_tool.specs.declared.request.Action.TheVariants.{Head, Verify, Ver
 use Rattle.hdt_tool.specs.declared.request.Action.TheVariants.{ListStrings, Nth, Number, Find, Search, SkipNonTerms}
 use Rattle.hdt_tool.specs.declared.request.Action.TheVariants.{Exists, Count, Answer, Build, Rewrite, Info, Lint}
 use Rattle.hdt_tool.specs.declared.request.Action.TheVariants.{Merge, Split}
-use Rattle.hdt_tool.specs.PrintedReports.{built_line, rewritten_line, head_text, verdict}
+use Rattle.hdt_tool.specs.PrintedReports.{built_line, rewritten_line, head_or_body, verdict}
 use Rattle.hdt_tool.specs.ErrorLines.{fault_status}
 use Rattle.hdt_tool.specs.Info.{PrintsInfo}
 use Rattle.hdt_tool.specs.StringsText.{string_lines, PrintsString, PrintsNumber}
@@ -40,11 +40,11 @@ use Rattle.hdt_tool.specs.NonTermText.{PrintsKept, PrintsTermVerdict, kept_forma
 use Rattle.hdt_tool.specs.TriplesText.{HasMatch, HasNonTermIn, LacksMatch, PrintsFound, find_format}
 use Rattle.hdt_dict.specs.Dictionary.{role_strings}
 
--- The bytes begin with a valid head, and the text is the output of `head` for it.
-pub record PrintsHead (bytes text : List ℕ) : Type 0 where
+-- The bytes begin with a valid head, and the text is the output of `head` for it, with or without `--body`.
+pub record PrintsHead (body : Bool) (bytes text : List ℕ) : Type 0 where
   pub head : HeadParts
   pub encoded : IsHead head bytes
-  pub printed : text ≡ head_text head
+  pub printed : text ≡ head_or_body body head
 
 -- The bytes are a valid encoding of a graph whose triples use all of its strings, and the text is the output of
 -- `verify`.
@@ -79,7 +79,7 @@ PrintsCountingNonTerms action bytes text n = ⊥
 
 -- The text is the output of a command for these input bytes, if it writes no file and has one output: `lint` has two.
 abbrev pub Prints : Action → List ℕ → List ℕ → Type 0
-Prints Head bytes text = PrintsHead bytes text
+Prints (Head body) bytes text = PrintsHead body bytes text
 Prints Verify bytes text = IsLayoutWith bytes (λ graph. text ≡ verdict (graph_counts graph))
 Prints VerifyTight bytes text = PrintsTightVerdict bytes text
 Prints (Info json) bytes text = PrintsInfo json bytes text
@@ -147,7 +147,7 @@ HasOut request = MatchOption request.out (IsReadOnly request.action) (λ path. M
 -- The error is the first one in these bytes. `head` checks only the head, and `verify --tight` also that triples use
 -- all strings; the other commands check the complete file.
 abbrev pub HasFault : Action → List ℕ → Fault → Type 0
-HasFault Head bytes fault = decode_head bytes ≡ Err fault
+HasFault (Head body) bytes fault = decode_head bytes ≡ Err fault
 HasFault VerifyTight bytes fault = decode_tight_graph bytes ≡ Err fault
 HasFault (VerifyTerms true) bytes fault = decode_tight_graph bytes ≡ Err fault
 HasFault (VerifyTerms false) bytes fault = decode_graph bytes ≡ Err fault

@@ -1,5 +1,5 @@
 -- The outputs of `head`, `verify`, `build` and `rewrite`, and the escaping of strings.
-use Rattle.std.specs.Prelude.{ℕ, ◌==◌, List, [], ◌∷◌, ◌++◌, if◌then◌else◌, codes, length, slice_index}
+use Rattle.std.specs.Prelude.{ℕ, ◌==◌, Bool, List, [], ◌∷◌, ◌++◌, if◌then◌else◌, codes, length, slice_index}
 use Rattle.std.specs.Fmt.{decimal}
 use Rattle.std.specs.List.{flat_map}
 use Rattle.hdt_wire.specs.Control.{ControlInfo}
@@ -31,6 +31,10 @@ length_line n = codes "length " ++ decimal n ++ 10 ∷ []
 unfoldable pub head_text : HeadParts → List ℕ
 head_text head = block_lines (codes "global") head.global ++ block_lines (codes "header") head.header
     ++ length_line (length head.body) ++ head.body
+
+-- With `--body` only the header body.
+abbrev pub head_or_body : Bool → HeadParts → List ℕ
+head_or_body body head = if body then head.body else head_text head
 
 -- ---- `verify`
 

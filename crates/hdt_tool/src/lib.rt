@@ -23,8 +23,8 @@
 //! - `line_limit`: documents whose lines may not be longer than a limit;
 //! - `session`: what a command shows on standard error beside its message; `progress`, `progress_text`, `watched` and
 //!   `recent_lines`: its parts;
-//! - `files`, `overwriting`, `atomic_replace`, `output_file`, `split_parts`, `split_files` and `status`: the same over
-//!   files and streams.
+//! - `files`, `overwriting`, `atomic_replace`, `output_file`, `split_parts`, `split_files`, `new_header` and `status`:
+//!   the same over files and streams.
 #![tactic(auto)]
 
 mod answerer;
@@ -46,6 +46,7 @@ mod lint;
 mod listed_strings;
 mod merge_arguments;
 mod merging;
+mod new_header;
 mod non_term_status;
 mod non_term_text;
 mod output_file;

@@ -3,7 +3,7 @@ ghost use Rattle.std.specs.Prelude.{◌≡◌, ◌<◌, ◌≤◌, ◌++◌, ◌
 ghost use Rattle.hdt_wire.specs.Control.{control_view};
 ghost use Rattle.hdt_file.specs.Head.{head_parts};
 ghost use Rattle.hdt_tool.specs.PrintedReports.{labelled_line, block_lines, head_text, escaped_byte, escaped, verdict};
-ghost use Rattle.hdt_tool.specs.PrintedReports.{counts_line};
+ghost use Rattle.hdt_tool.specs.PrintedReports.{counts_line, head_or_body};
 
 use hdt_build::Report;
 use hdt_file::Head;
@@ -31,7 +31,7 @@ fn put_block(name: &str, block: &Control<'_>, out: &mut Vec<u8>) -> Result<(), A
 
 /// The output of `head`: five lines, and then the header body, unescaped.
 #[tactic(auto, using(std::proofs::Common::append_assoc), unfolding(crate::specs::PrintedReports::head_text))]
-pub(crate) fn head_text(alloc: Global, head: &Head<'_>) -> Result<Vec<u8>, AllocError>
+fn head_text(alloc: Global, head: &Head<'_>) -> Result<Vec<u8>, AllocError>
     ensures { IfOk result (λ text. text.items ≡ head_text (head_parts head.now)) }
 {
     let body = head.body();
@@ -41,6 +41,16 @@ pub(crate) fn head_text(alloc: Global, head: &Head<'_>) -> Result<Vec<u8>, Alloc
     text.extend_from_slice(format!(in alloc; "length {}\n", body.len())?.as_bytes())?;
     text.extend_from_slice(body)?;
     Ok(text)
+}
+
+/// The output of `head`, or with `body` only the header body.
+pub(crate) fn head_or_body(alloc: Global, body: bool, head: &Head<'_>) -> Result<Vec<u8>, AllocError>
+    ensures { IfOk result (λ text. text.items ≡ head_or_body body (head_parts head.now)) }
+{
+    if body {
+        return head.body().to_vec(alloc);
+    }
+    head_text(alloc, head)
 }
 
 /// Appends a byte, escaped if need be.

@@ -10,7 +10,7 @@ use crate::counts::count_lines;
 use crate::fault::ToolFault;
 use crate::info::file_info_text;
 use crate::listed_strings::listed_text;
-use crate::printed_reports::{head_text, verdict};
+use crate::printed_reports::{head_or_body, verdict};
 use crate::printed_strings::{number_text, print_strings, string_text};
 use crate::printed_triples::{check_match, print_kept_triples, print_triples};
 use crate::request::{Action, OutputFormat};
@@ -92,7 +92,7 @@ pub(crate) fn file_text(alloc: Global, action: &Action, bytes: &[u8]) -> Result<
     ensures err { IfErr result (IsFaultOfBytes action.now bytes.now) }
 {
     match action {
-        Action::Head => Ok(head_text(alloc, &read_head(bytes)?)?),
+        Action::Head { body } => Ok(head_or_body(alloc, *body, &read_head(bytes)?)?),
         Action::Verify => Ok(verdict(alloc, verify(alloc, bytes)?)?),
         Action::VerifyTight => Ok(verdict(alloc, verify_tight(alloc, bytes)?)?),
         Action::Info { json } => file_info_text(alloc, *json, bytes),

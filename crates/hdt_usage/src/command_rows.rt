@@ -82,7 +82,12 @@ pub(crate) const COMMANDS: &[CommandRow] = &[
         Help::HeadAbout,
         Help::HeadLongAbout,
         None,
-        &[FILE, VERBOSE, NO_PROGRESS],
+        &[
+            FILE,
+            VERBOSE,
+            NO_PROGRESS,
+            ("body", Kind::Flag, "", "", Help::HeaderBody),
+        ],
     ),
     (
         "verify",
@@ -242,6 +247,7 @@ pub(crate) const COMMANDS: &[CommandRow] = &[
             VERBOSE,
             NO_PROGRESS,
             BLOCK_SIZE,
+            ("header", Kind::Text, "FILE", "", Help::NewHeader),
             PROGRESS,
         ],
     ),
