@@ -78,7 +78,8 @@ def test_any_header(tmp_path_factory: pytest.TempPathFactory, body: bytes, is_ca
 
 
 @pytest.mark.parametrize("before, behind", [
-    (b"", b""), (b"length=9;", b""), (b"length=x;", b"length;"), (b"length;=;;", b";;"), (b"Length=1;", b"xlength=2"), (b"length =1;", b" length=7;")])
+    (b"", b""), (b"length=9;", b""), (b"length=x;", b"length;"), (b"length;=;;", b";;"), (b"Length=1;", b"xlength=2"),
+    (b"length =1;", b" length=7;")])
 def test_properties(tmp_path: Path, before: bytes, behind: bytes) -> None:
     """The last `length` counts, wherever it is; each gets the new length, and nothing else changes."""
     check(tmp_path, loose(THREE, before, behind), TITLE)

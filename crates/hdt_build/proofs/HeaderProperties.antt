@@ -1,13 +1,16 @@
 -- Properties of a header with a new length state that length, and have no zero byte.
 use Rattle.std.proofs.Common.{◌≡◌, ◌≢◌, ℕ, ◌+◌, ◌-◌, ◌<◌, ◌^◌, zero, suc, Bool, true, false, cond, List, [], ◌∷◌, ◌++◌}
-use Rattle.std.proofs.Common.{length, get_or, Option, Some, None, refl, sym, ap, subst, ◌∙◌, arith, map}
-use Rattle.std.specs.Prelude.{All, IsSomeAnd, codes, is_some, slice_get, option_map, if◌then◌else◌}
+use Rattle.std.proofs.Common.{length, take, drop, Option, Some, None, refl, sym, ap, subst, ◌∙◌, arith, map}
+use Rattle.std.specs.Prelude.{All, IsSomeAnd, codes, is_some, not, slice_get, option_map, if◌then◌else◌}
 use Rattle.std.specs.Fmt.{decimal}
-use Rattle.std.specs.List.{cons_option, filter_map, join_with_byte, onto_first, slice_split}
+use Rattle.std.specs.List.{cons_option, filter_map, join_with_byte, onto_first, position_or_len, slice_split}
 use Rattle.std.proofs.lemmas.Fmt.{decimal_is_IsNumeral}
 use Rattle.std.proofs.lemmas.List.Elements.{All-append}
-use Rattle.std.proofs.lemmas.List.Splits.{slice_split_at, slice_split_none}
+use Rattle.std.proofs.lemmas.List.{take_all}
+use Rattle.std.proofs.lemmas.List.Splits.{slice_split_at, slice_split_first, slice_split_none}
+use Rattle.std.proofs.lemmas.List.Sums.{prefix_len_passes}
 use Rattle.hdt_wire.specs.Control.{HasNoZero}
+use Rattle.hdt_wire.specs.Laws.Checks.{not-true}
 use Rattle.hdt_wire.specs.Property.{is_byte, item_value, property_value}
 use Rattle.hdt_file.specs.Head.{Decimal, StatesLength}
 use Rattle.hdt_build.specs.NewHeader.{item_with_length, with_length}
@@ -161,3 +164,36 @@ unfolding with_length
 new_no_zero n text small none =
     joined_no_zero (map (item_with_length n) (slice_split (is_byte 59) text))
     (each_item (λ b. b ≢ 0) n (item_no_zero n small) (slice_split (is_byte 59) text) (no_zeros text none))
+
+-- ---- writing them item by item
+
+no_items : (n : ℕ) (qs : List (List ℕ)) → qs ≢ [] → map (item_with_length n) qs ≢ []
+no_items n [] some e = some refl
+no_items n (q ∷ qs) some e = absurd cc
+
+join_first : (p : List ℕ) (qs : List (List ℕ)) → qs ≢ []
+    → join_with_byte 59 (p ∷ qs) ≡ p ++ (59 ∷ join_with_byte 59 qs)
+join_first p [] some = absurd (some refl)
+join_first p (q ∷ qs) some = refl
+
+-- the first item, if there is a ';', and the rest after it
+pub first_item : (n : ℕ) (rest : List ℕ) (k : ℕ) → k ≡ position_or_len (is_byte 59) rest → k < length rest
+    → with_length n rest ≡ item_with_length n (take k rest) ++ (59 ∷ with_length n (drop (k + 1) rest))
+unfolding with_length
+first_item n rest k e lt =
+    let after : List (List ℕ) = slice_split (is_byte 59) (drop (k + 1) rest) in
+    let parts : slice_split (is_byte 59) rest ≡ take k rest ∷ after =
+    rw e (slice_split_first (is_byte 59) rest 0 (rw (← e) lt)) in
+    rw parts (join_first (item_with_length n (take k rest)) (map (item_with_length n) after)
+    (no_items n after (some_item (drop (k + 1) rest))))
+
+-- the last item
+pub last_item : (n : ℕ) (rest : List ℕ) (k : ℕ) → k ≡ position_or_len (is_byte 59) rest → k ≡ length rest
+    → with_length n rest ≡ item_with_length n (take k rest)
+unfolding with_length
+last_item n rest k e full =
+    let p : ℕ → Bool = λ b. not (is_byte 59 b) in
+    let none : All (λ b. is_byte 59 b ≡ false) rest =
+    λ i d lt. not-true _ (prefix_len_passes p rest i d (omega (arith, lt, e, full))) in
+    let all : take k rest ≡ rest = take_all k rest (omega (arith, full)) in
+    rw (slice_split_none (is_byte 59) rest none, all) refl
