@@ -622,9 +622,9 @@ static void describe(hdt_graph *graph, const guarded *file, const hdt_verdict *v
     hdt_verdict told, other;
     hdt_report report;
     uint8_t header[sizeof title];
+    long before = live;
     size_t len = hdt_header(graph, header, 0);
     uint8_t *old = malloc(len + 1);
-    long before = live;
     put_header(file->at, file->len, title, &out, &told, &report);
     CHECK(same_verdict(&told, verdict) && report.reason == HDT_DONE && report.line == 0 && report.column == 0);
     CHECK(memcmp(report.counts, told.counts, sizeof told.counts) == 0 && out.state == 1);
