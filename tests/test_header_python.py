@@ -21,7 +21,8 @@ TITLE = '<http://a/> <http://purl.org/dc/terms/title> "Tea é" .\n'
 TERMS, VOID, XSD = "http://purl.org/dc/terms/", "http://rdfs.org/ns/void#", "http://www.w3.org/2001/XMLSchema#"
 
 
-@pytest.mark.parametrize("header", [TITLE, TITLE.encode(), "", b"", "# none", memoryview(TITLE.encode()), TITLE * 5_000])
+@pytest.mark.parametrize(
+    "header", [TITLE, TITLE.encode(), "", b"", "# none", memoryview(TITLE.encode()), TITLE * 5_000])
 def test_rewrite(tmp_path: Path, header: Any) -> None:
     """The same file as by the command; the graph has the header, and the triples stay."""
     text = header.encode() if isinstance(header, str) else bytes(header)
@@ -54,7 +55,7 @@ def test_errors(tmp_path: Path) -> None:
         hdt.rewrite(THREE, out, 0)
     for header in (1, object(), ["a"]):
         with pytest.raises(TypeError):
-            hdt.rewrite(THREE, out, header=header)  # type: ignore[arg-type]
+            hdt.rewrite(THREE, out, header=header)
     with pytest.raises(OSError):
         hdt.rewrite(tmp_path / "none.hdt", out, header=TITLE)
     with mock.patch.object(library, "hdt_with_header", lambda *_: setattr(_[5], "reason", 255)):
@@ -72,8 +73,8 @@ def described(text: str) -> list[tuple[str, str, str]]:
 def test_metadata(tmp_path: Path) -> None:
     """The graph is named as in its header, with VoID's numbers and what is given, term by term."""
     day = datetime.date(2026, 11, 29)
-    text = hdt.metadata(THREE, title="A \"title\"\n", license="https://a/l", publisher=["Tea", "http://t/"], created=day,
-                        modified="2026-11-30", creator=hdt.Term("literal", "x", language="en"), source="not an IRI",
+    text = hdt.metadata(THREE, title="A \"title\"\n", license="https://a/l", publisher=["Tea", "http://t/"],
+                        created=day, modified="2026-11-30", creator=hdt.Term("literal", "x", language="en"), source="not an IRI",
                         properties={"u:more": ["1", hdt.Term("iri", "u:x")]})
     triples = described(text)
     assert {subject for subject, _, _ in triples} == {"<http://a/>"}
