@@ -16,6 +16,7 @@ use crate::options::Report;
 use crate::reading::read_triples;
 use hdt_file::{Head, Layout, read_head};
 use hdt_wire::{Counted, Kind, property, put_control, put_decimal};
+use memchr::memchr;
 use std::alloc::{AllocError, Global};
 
 /// The index of the first `;`, or the length if there is none.
@@ -23,7 +24,7 @@ fn item_end(text: &[u8]) -> usize
     ensures index { result ≡ position_or_len (is_byte 59) text.now }
     ensures within { result ≤ length text.now }
 {
-    match text.iter().position(|byte| *byte == b';') {
+    match memchr(b';', text) {
         Some(at) => at,
         None => text.len(),
     }
