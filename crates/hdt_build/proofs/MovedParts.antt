@@ -1,14 +1,13 @@
 -- If bytes before a part of a file change, the part is still encoded after them; only its byte offsets move.
-use Rattle.std.proofs.Common.{◌≡◌, ℕ, ◌+◌, ◌-◌, ◌≤◌, Bool, List, [], ◌∷◌, ◌++◌, length, get_or, take, drop, refl}
+use Rattle.std.proofs.Common.{◌≡◌, ℕ, ◌+◌, ◌-◌, ◌≤◌, Bool, List, [], ◌∷◌, length, get_or, take, drop, refl}
 use Rattle.std.proofs.Common.{sym, ap, subst, ◌∙◌, arith, length-drop}
 use Rattle.std.specs.Prelude.{slice_range}
 use Rattle.std.proofs.lemmas.List.{drop-drop, get_or-drop}
-use Rattle.byteorder.specs.Endian.{little_bytes}
 use Rattle.hdt_wire.specs.declared.control.Kind.{Kind}
 use Rattle.hdt_wire.specs.declared.control.Kind.TheVariants as kinds
 use Rattle.hdt_wire.specs.Checks.{EncodedAt, HasSlice}
 use Rattle.hdt_wire.specs.Control.{ControlInfo, IsControlAt, control}
-use Rattle.hdt_wire.specs.Crc.{crc8, crc32}
+use Rattle.hdt_wire.specs.Crc.{crc8}
 use Rattle.hdt_wire.specs.VByte.{IsVByteAt, VByte, vbyte}
 use Rattle.hdt_seq.specs.Bits.{EncodesBits}
 use Rattle.hdt_seq.specs.ExactSequences.{IsBitmapAt, IsLogSequenceAt}
@@ -190,7 +189,7 @@ module _ (old : List ℕ) (k : ℕ) (new : List ℕ) (m : ℕ) (same : SameFrom 
         started = h.started;
         width = h.width;
         place = ap (moved k m) h.place;
-        packed = slice s.packed_offset (s.packed ++ little_bytes 4 (crc32 s.packed)) s.end packed_from h.packed;
+        packed = slice s.packed_offset _ s.end packed_from h.packed;
         front_coded = h.front_coded;
         strings = h.strings;
       }

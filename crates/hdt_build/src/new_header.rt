@@ -76,6 +76,7 @@ fn check_body(alloc: Global, body: &[u8]) -> Result<(), HeaderFault>
 }
 
 /// The bytes of a file whose head this is, with another header body.
+#[tactic(auto, using(std::proofs::Common::append_assoc), unfolding(crate::specs::NewHeader::with_new_header))]
 fn replaced(
     alloc: Global,
     bytes: &[u8],
