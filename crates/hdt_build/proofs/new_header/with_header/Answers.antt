@@ -1,4 +1,4 @@
-use Rattle.std.proofs.Common.{◌≡◌, ℕ, List, Result, Ok, Err, refl, sym, ap, ◌∙◌, arith}
+use Rattle.std.proofs.Common.{◌≡◌, ℕ, List, length, Result, Ok, Err, refl, sym, ap, ◌∙◌, arith}
 use Rattle.std.proofs.lemmas.Result.{err_from_is_err_and}
 use Rattle.hdt_wire.specs.declared.fault.Fault.{Fault}
 use Rattle.hdt_terms.specs.declared.triple.Triple.{Triple}
@@ -9,6 +9,7 @@ use Rattle.hdt_file.specs.Graph.{layout_view}
 use Rattle.hdt_file.specs.Head.{HeadParts, IsHead, decode_head, head_parts}
 use Rattle.hdt_build.specs.Built.{report_of}
 use Rattle.hdt_build.specs.NewHeader.{IsBodyFault, IsHeaderFaultOf, ReplacesHeader, with_new_header}
+use Rattle.hdt_build.specs.declared.options.Report.{Report}
 use Rattle.hdt_build.specs.declared.fault.HeaderFault.{HeaderFault}
 use Rattle.hdt_build.specs.declared.fault.HeaderFault.TheVariants.{File, Line, OutOfMemory}
 use Rattle.hdt_build.proofs.ReplacedHeaders.{replaced_layout}
@@ -56,14 +57,27 @@ returns-in_err-check_body-clause-fault c =
     rw (p.1, p.2) (body_fault c.args.body.now c.args.bytes.now c.in_err-check_body.field-0.0
     (layout_view c.in_ok-read.field-0, c.in_ok-read.ensures.found) c.in_err-check_body.ensures.fault)
 
+-- the report of a file with n bytes
+abbrev counted : GraphParts → ℕ → Report
+counted g n = record {
+  triples = length g.triples;
+  shared = length g.dictionary.shared;
+  subjects = length g.dictionary.subjects;
+  predicates = length g.dictionary.predicates;
+  objects = length g.dictionary.objects;
+  bytes = n;
+}
+
 pub returns-clause-made : goal.returns-clause-made
 unfolding report_of
-returns-clause-made c = (
-  layout_view c.in_ok-read.field-0,
+returns-clause-made c =
+    let g : GraphParts = layout_view c.in_ok-read.field-0 in
+    let size : c.in_ok-made.made.len ≡ length c.in_ok-made.made.items = omega arith in (
+  g,
   replaces c.args.body.now c.args.bytes.now c.in_ok-made.made.items (layout_view c.in_ok-read.field-0)
       (head_parts c.in_ok-head.head) c.in_ok-head.ensures.only c.in_ok-check_body.ensures.document
       c.in_ok-made.ensures c.in_ok-read.ensures.found,
-  rw (c.lens.ensures, c.len.ensures) refl,
+  rw (c.lens.ensures, c.len.ensures) (ap (counted g) size),
 )
 
 pub returns-clause-graph : goal.returns-clause-graph
