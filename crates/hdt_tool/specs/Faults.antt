@@ -53,7 +53,7 @@ merge_fault_of merges.BadOptions = BadOptions
 merge_fault_of merges.OutOfMemory = OutOfMemory
 merge_fault_of (merges.Write n) = Write n
 
-abbrev pub header_fault_of : HeaderFault → ToolFault
-header_fault_of (headers.File fault) = File fault
-header_fault_of (headers.Line fault) = line_fault_of fault
-header_fault_of headers.OutOfMemory = OutOfMemory
+abbrev pub tool_fault_of_header : HeaderFault → ToolFault
+tool_fault_of_header (headers.File fault) = File fault
+tool_fault_of_header (headers.Line fault) = line_fault_of fault
+tool_fault_of_header headers.OutOfMemory = OutOfMemory

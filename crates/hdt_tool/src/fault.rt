@@ -233,9 +233,9 @@ impl From<MergeFault> for ToolFault {
 }
 
 impl From<HeaderFault> for ToolFault {
-    ghost use Rattle.hdt_tool.specs.Faults.{header_fault_of};
+    ghost use Rattle.hdt_tool.specs.Faults.{tool_fault_of_header};
 
-    ghost from_gives = { λ fault e. e ≡ header_fault_of fault };
+    ghost from_gives = { λ fault e. e ≡ tool_fault_of_header fault };
 
     fn from(fault: HeaderFault) -> ToolFault {
         match fault {
