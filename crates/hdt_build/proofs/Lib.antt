@@ -30,3 +30,6 @@ mod RunOrder
 mod DenotedStrings
 mod RewrittenFiles
 pub mod MergedFiles
+mod MovedParts
+mod HeaderProperties
+pub mod ReplacedHeaders

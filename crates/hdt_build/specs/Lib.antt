@@ -4,6 +4,7 @@ pub mod Documents
 pub mod Graph
 pub mod Header
 pub mod Layouts
+pub mod NewHeader
 pub mod Options
 pub mod Reading
 pub mod Inside

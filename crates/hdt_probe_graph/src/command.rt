@@ -143,7 +143,10 @@ fn reply_search(action: &Action, reply: &mut Reply) {
 /// Any action.
 fn reply_action(action: &Action, reply: &mut Reply) {
     match action {
-        Action::Head => reply.word("head"),
+        Action::Head { body } => {
+            reply.word("head");
+            reply.boolean(*body)
+        }
         Action::Verify => reply.word("verify"),
         Action::VerifyTight => reply.word("verify_tight"),
         Action::VerifyTerms { tight } => {

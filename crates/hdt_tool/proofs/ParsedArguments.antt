@@ -106,7 +106,6 @@ only_rewrite name rows (action.Rewrite b) other h = other h.0
 only_rewrite name rows a other h = h
 
 none_on_file : (name : Text) (rows : List Row) → name ≡ codes "rewrite" → (a : Action) → IsQueryAction name rows a → ⊥
-none_on_file name rows is action.Head h = differ name _ _ is h refl
 none_on_file name rows is (action.Find given numbers) (inl h) = differ name _ _ is h.named refl
 none_on_file name rows is (action.Find given numbers) (inr h) = differ name _ _ is h.0 refl
 none_on_file name rows is (action.SkipNonTerms given count most) (inl h) = differ name _ _ is h.named refl
@@ -156,7 +155,6 @@ pub record HasBuildArguments (rows : List Row) : Type 0 where
 inputs_needed : (rows : List Row) (a : Action) → IsQueryAction (codes "build") rows a
     → (options : MergeOptions) × (b : Option BlankNodes) × ParsesAsMergeOptions rows options
     × ParsesAsBlankNodes (first_of (codes "blank-nodes") rows) b
-inputs_needed rows action.Head h = differ _ _ _ refl h refl
 inputs_needed rows (action.Find given numbers) (inl h) = differ _ _ _ refl h.named refl
 inputs_needed rows (action.Find given numbers) (inr h) = differ _ _ _ refl h.0 refl
 inputs_needed rows (action.SkipNonTerms given count most) (inl h) = differ _ _ _ refl h.named refl
@@ -225,7 +223,6 @@ no_out rows said r none h = absurd h
 -- `split` needs its options.
 pub split_needed : (name : Text) (rows : List Row) → name ≡ codes "split" → (a : Action) → IsQueryAction name rows a
     → (options : SplitOptions) × ParsesAsSplitOptions rows options
-split_needed name rows is action.Head h = differ name _ _ is h refl
 split_needed name rows is (action.Find given numbers) (inl h) = differ name _ _ is h.named refl
 split_needed name rows is (action.Find given numbers) (inr h) = differ name _ _ is h.0 refl
 split_needed name rows is (action.SkipNonTerms given count most) (inl h) = differ name _ _ is h.named refl
@@ -243,7 +240,6 @@ split_needed name rows is a h = differ name _ _ is h.0 refl
 -- `merge` needs its options.
 pub merge_needed : (name : Text) (rows : List Row) → name ≡ codes "merge" → (a : Action) → IsQueryAction name rows a
     → (options : MergeOptions) × ParsesAsMergeOptions rows options
-merge_needed name rows is action.Head h = differ name _ _ is h refl
 merge_needed name rows is (action.Find given numbers) (inl h) = differ name _ _ is h.named refl
 merge_needed name rows is (action.Find given numbers) (inr h) = differ name _ _ is h.0 refl
 merge_needed name rows is (action.SkipNonTerms given count most) (inl h) = differ name _ _ is h.named refl

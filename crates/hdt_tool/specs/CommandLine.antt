@@ -244,7 +244,8 @@ pub record ParsesAsMergeOptions (rows : List Row) (options : MergeOptions) : Typ
 
 -- The command's name and arguments give this action, which writes no file.
 abbrev pub IsQueryAction : Text → List Row → Action → Type 0
-IsQueryAction name rows action.Head = name ≡ codes "head"
+IsQueryAction name rows action.Head = (name ≡ codes "head") × ParsesAsFlag (one_of (codes "body") rows) false
+IsQueryAction name rows action.HeadBody = (name ≡ codes "head") × ParsesAsFlag (one_of (codes "body") rows) true
 IsQueryAction name rows action.Verify = IsVerifyCommand name rows false false
 IsQueryAction name rows action.VerifyTight = IsVerifyCommand name rows true false
 IsQueryAction name rows (action.VerifyTerms tight) = IsVerifyCommand name rows tight true
@@ -331,8 +332,8 @@ pub record ParsesToRequest (words : List Text) (request : Request) : Type 0 wher
   pub roles : AreRoles names
   pub wanted : ParsesWithRoles names words request
 
--- The command line gives this request, this way to report progress, `--verbose` if that is true, and this number of
--- `--longest-line`.
+-- The command line gives this request, this way to report progress, `--verbose` if that is true, this number of
+-- `--longest-line`, and this path of `--header`.
 pub record ParsesToInvocation (words : List Text) (asked : Invocation) : Type 0 where
   pub names : Names
   pub roles : AreRoles names
@@ -342,6 +343,8 @@ pub record ParsesToInvocation (words : List Text) (asked : Invocation) : Type 0 
       (λ command. ParsesAsFlag (one_of (codes "verbose") command.1) asked.verbose)
   pub longest_line : IsSomeAnd (subcommand_of (table names) words)
       (λ command. ParsesAsNumberOrNone (one_of (codes "longest-line") command.1) asked.longest_line)
+  pub header : IsSomeAnd (subcommand_of (table names) words)
+      (λ command. first_of (codes "header") command.1 ≡ option_map string_bytes asked.header)
 
 -- The explanation of the argument REASON is this text.
 abbrev pub IsExplained : List Row → Text → Type 0

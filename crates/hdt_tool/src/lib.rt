@@ -24,7 +24,7 @@
 //! - `session`: what a command shows on standard error beside its message; `progress`, `progress_text`, `watched` and
 //!   `recent_lines`: its parts;
 //! - `files`, `overwriting`, `atomic_replace`, `output_file`, `split_parts`, `split_files`, `merging`,
-//!   `building_inputs` and `status`: the same over files and streams.
+//!   `building_inputs`, `new_header` and `status`: the same over files and streams.
 #![tactic(auto)]
 
 mod answerer;
@@ -48,6 +48,7 @@ mod lint;
 mod listed_strings;
 mod merge_arguments;
 mod merging;
+mod new_header;
 mod non_term_status;
 mod non_term_text;
 mod output_file;

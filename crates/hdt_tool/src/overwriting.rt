@@ -2,7 +2,7 @@
 ghost use Rattle.std.specs.Prelude.{◌≡◌, ◌⊎◌};
 
 use crate::error_lines::OUT_OF_MEMORY;
-use crate::files::{STDERR_PATH, STDOUT_PATH, output_path, would_overwrite};
+use crate::files::{STDERR_PATH, STDOUT_PATH, is_stdin_path, output_path, would_overwrite};
 use crate::request::{Action, Request};
 use crate::status::print_error_line;
 use std::alloc::{AllocError, Global};
@@ -19,7 +19,32 @@ pub(crate) struct SameFile<'a> {
     output: &'a str,
 }
 
-impl SameFile<'_> {
+impl<'a> SameFile<'a> {
+    /// The header that `rewrite --header` reads at a path, and an output: it is OUT, standard output or standard error.
+    /// Or standard input is both the header and IN.
+    pub(crate) fn of_header(
+        rt: &HostRuntime,
+        request: &Request,
+        path: &str,
+        out: &'a str,
+    ) -> Option<SameFile<'a>> {
+        let input = "the FILE of --header";
+        if is_stdin_path(path) && is_stdin_path(request.file.as_str()) {
+            return Some(SameFile {
+                input,
+                output: "IN",
+            });
+        }
+        if would_overwrite(rt, output_path(out), path) {
+            return Some(SameFile {
+                input,
+                output: "OUT",
+            });
+        }
+        let output = output_over(rt, request, path)?;
+        Some(SameFile { input, output })
+    }
+
     /// Whether a message on standard error would change the input.
     fn takes_messages(self) -> bool {
         self.output == STDERR_NAME

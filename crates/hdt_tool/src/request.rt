@@ -85,6 +85,8 @@ pub struct MergeOptions {
 pub enum Action {
     /// Prints the control information and the header of a file.
     Head,
+    /// Prints the header body of a file.
+    HeadBody,
     /// Verifies a file.
     Verify,
     /// Verifies a file, and that every string of its dictionary is used in the role of its section.
@@ -197,7 +199,7 @@ pub enum Progress {
     Off,
 }
 
-/// A request, how to report progress and errors, and a limit for documents.
+/// A request, how to report progress and errors, a limit for documents, and a new header.
 #[derive(Debug, Drop)]
 pub struct Invocation {
     /// The request.
@@ -206,6 +208,8 @@ pub struct Invocation {
     pub progress: Progress,
     /// The maximum number of bytes of a line of an N-Triples document, without its end; `None` for no limit.
     pub longest_line: Option<u64>,
+    /// The path of the N-Triples by which `rewrite` replaces the header, and nothing else; `None` if it rewrites.
+    pub header: Option<String>,
     /// Whether more lines follow an error message.
     pub verbose: bool,
 }

@@ -34,6 +34,7 @@ use crate::fault::{ToolFault, UsageFault, file_fault};
 use crate::files::{open_input, output_path};
 use crate::lint::lint_path;
 use crate::merging::run_merge;
+use crate::new_header::run_new_header;
 use crate::non_term_status::{count_status, skipped_line};
 use crate::output_file::make_file_at;
 use crate::overwriting::{refuse_same_file, same_file};
@@ -100,7 +101,7 @@ pub(crate) fn command_status(
 }
 
 /// Borrows each argument as a text.
-fn borrow_strings<'a>(alloc: Global, words: &'a [String]) -> Result<Vec<&'a str>, AllocError>
+pub(crate) fn borrow_strings<'a>(alloc: Global, words: &'a [String]) -> Result<Vec<&'a str>, AllocError>
     ensures { IfOk result (λ texts. map (λ text. text.now) texts.items ≡ map string_bytes words.now) }
 {
     let mut texts = Vec::new(alloc);
@@ -370,6 +371,9 @@ pub fn process_status(rt: &HostRuntime, words: io::Result<Vec<String>>) -> u8
     let source = ErrorSource::of(&invocation, &session);
     if let Some(same) = same_file(rt, request) {
         return refuse_same_file(rt, same);
+    }
+    if let (Some(out), Some(header)) = (&request.out, &invocation.header) {
+        return run_new_header(rt, source, &words, request, header.as_str(), out.as_str());
     }
     if let Some(path) = &request.out {
         let path = output_path(path.as_str());

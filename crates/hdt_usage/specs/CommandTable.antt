@@ -113,7 +113,7 @@ in_out_command name rest =
 
 -- The commands with their arguments, in order.
 unfoldable pub commands : List CommandRow
-commands = file_command (codes "head") []
+commands = file_command (codes "head") (flag_row (codes "body") ∷ [])
     ∷ file_command (codes "verify") (flag_row (codes "tight") ∷ flag_row (codes "terms") ∷ progress_row ∷ [])
     ∷ file_command (codes "info") (flag_row (codes "json") ∷ [])
     ∷ file_command (codes "strings") (role_row ∷ text_row (codes "prefix") ∷ flag_row (codes "terms") ∷ [])
@@ -124,7 +124,7 @@ commands = file_command (codes "head") []
     ∷ file_command (codes "dump") (flag_row (codes "skip-non-terms") ∷ [])
     ∷ file_command (codes "count") (role_row ∷ limit_row (codes "top") ∷ flag_row (codes "raw") ∷ [])
     ∷ (codes "build", first_input_row ∷ paths_row ∷ build_rows)
-    ∷ in_out_command (codes "rewrite") (block_size_row ∷ progress_row ∷ [])
+    ∷ in_out_command (codes "rewrite") (block_size_row ∷ text_row (codes "header") ∷ progress_row ∷ [])
     ∷ (codes "merge", required_row (codes "FILE") ∷ paths_row ∷ merge_rows)
     ∷ (codes "lint", first_input_row ∷ flag_row (codes "keep") ∷ limit_row (codes "most") ∷ line_rows)
     ∷ (codes "split", first_input_row ∷ paths_row ∷ split_rows)

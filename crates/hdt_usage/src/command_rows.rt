@@ -84,7 +84,12 @@ pub(crate) const COMMANDS: &[CommandRow] = &[
         Help::HeadAbout,
         Help::HeadLongAbout,
         None,
-        &[FILE, VERBOSE, NO_PROGRESS],
+        &[
+            FILE,
+            VERBOSE,
+            NO_PROGRESS,
+            ("body", Kind::Flag, "", "", Help::HeaderBody),
+        ],
     ),
     (
         "verify",
@@ -245,6 +250,7 @@ pub(crate) const COMMANDS: &[CommandRow] = &[
             VERBOSE,
             NO_PROGRESS,
             BLOCK_SIZE,
+            ("header", Kind::Text, "FILE", "", Help::NewHeader),
             PROGRESS,
         ],
     ),

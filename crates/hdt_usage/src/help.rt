@@ -35,6 +35,7 @@ pub(crate) const BASE: &str = "http://example.org/dataset";
 pub(crate) enum Help {
     HeadAbout,
     HeadLongAbout,
+    HeaderBody,
     VerifyAbout,
     VerifyLongAbout,
     Tight,
@@ -68,6 +69,7 @@ pub(crate) enum Help {
     BuildPaths,
     RewriteAbout,
     RewriteLongAbout,
+    NewHeader,
     MergeAbout,
     MergeUsage,
     MergeLongAbout,
@@ -120,7 +122,10 @@ impl Help {
 
 Five lines have the format and the properties of the file, those of its header, and the length
 of the header in bytes. The header itself follows: N-Triples about the graph. Nothing after the
-header is read, so this also works for a file that is cut off there.",
+header is read, so this also works for a file that is cut off there.
+
+With --body only the header itself is printed: edit it, and give it to `rewrite --header`.",
+            Help::HeaderBody => "Print only the header",
             Help::VerifyAbout => "Verify a file, and count its triples and strings",
             Help::VerifyLongAbout => "Verify a file.
 
@@ -269,6 +274,11 @@ own canonical file at the same block size. On success, print `rewritten` and six
 triples, the strings of the sections shared, subjects, predicates and objects, and the bytes of
 the file.
 
+With --header FILE only the header is replaced, by the N-Triples of FILE as they are: a title, a
+licence, or anything else about the graph. All other bytes stay, but the header's length and the
+CRC over it, so the file is canonical only if it was. --block-size cannot be given too. FILE may
+be - for standard input, unless IN is. `head --body` prints the header of a file.
+
 IN may be OUT. OUT is replaced atomically: a temporary file in the same directory, which only its
 owner can open, is written and synced, gets OUT's permissions and group, and is renamed. If you
 may not give it the group, group and others get the permissions that both had. On failure OUT is
@@ -278,6 +288,7 @@ regular file, it is opened and written.
 If OUT is - or the file or pipe of standard output, the file goes there, after what is already
 written there, and the line of counts to standard error. If that goes there too, the line is not
 printed.",
+            Help::NewHeader => "Replace only the header, by the N-Triples of FILE",
             Help::MergeAbout => "Merge files into one",
             Help::MergeUsage => "hdt merge [OPTIONS] <FILE>... <OUT>",
             Help::MergeLongAbout =>
