@@ -1,5 +1,5 @@
 //! `rewrite --header` over files.
-ghost use Rattle.std.specs.Prelude.{◌≡◌, IfOk, IfErr};
+ghost use Rattle.std.specs.Prelude.{◌≡◌, ◌⊎◌, IfOk, IfErr, IfSome};
 ghost use Rattle.hdt_wire.specs.Counted.{inner};
 ghost use Rattle.hdt_tool.specs.NewHeader.{IsNewHeaderFault, MakesNewHeader};
 ghost use Rattle.hdt_tool.specs.Outcomes.{ReadsWith};
@@ -81,8 +81,20 @@ fn has_block_size(
     }
 }
 
+/// The status if `--block-size` is given, too: 2, or 4 if memory runs out. Prints the message.
+fn block_size_status(rt: &HostRuntime, words: &io::Result<Vec<String>>) -> Option<u8>
+    ensures { IfSome result (λ status. (status ≡ 2) ⊎ (status ≡ 4)) }
+{
+    match has_block_size(rt.alloc(), words) {
+        Ok(false) => None,
+        Ok(true) => Some(print_error_line(rt, 2, BLOCK_SIZE_MESSAGE)),
+        Err(AllocError) => Some(print_error_line(rt, 4, OUT_OF_MEMORY)),
+    }
+}
+
 /// Runs `rewrite --header` with the header at a path, and returns the status. The header is read first, then IN, and
 /// then OUT is written, so OUT may be IN. (Contracts cannot describe the file system; tests/test_header.py checks this.)
+#[tactic(auto, using(crate::proofs::Statuses::refusal_status, crate::proofs::Statuses::command_status))]
 pub(crate) fn run_new_header(
     rt: &HostRuntime,
     source: ErrorSource<'_>,
@@ -93,10 +105,8 @@ pub(crate) fn run_new_header(
 ) -> u8
     ensures { IsCommandStatus result }
 {
-    match has_block_size(rt.alloc(), words) {
-        Ok(false) => {}
-        Ok(true) => return print_error_line(rt, 2, BLOCK_SIZE_MESSAGE),
-        Err(AllocError) => return print_error_line(rt, 4, OUT_OF_MEMORY),
+    if let Some(status) = block_size_status(rt, words) {
+        return status;
     }
     if let Some(same) = SameFile::of_header(rt, request, path, out) {
         return refuse_same_file(rt, same);
