@@ -84,13 +84,13 @@ pub run_on : (prefix : List ℕ) (s new : LinesState) (input mid after : Option 
     → IsReadSoFar prefix new input after before more blank
 run_on prefix s new input mid after before graph more triple added old blank r still grown are has on last taken =
     record {
-  triples = r.triples ++ triple ∷ [];
-  strings = grown ∙ strings_more prefix before graph r.triples triple added r.strings are;
-  blank_is = blank_more r.triples triple old blank r.blank_is has;
-  going = λ e. on r.triples (r.going still) e;
-  ended = λ e. last r.triples (r.going still) e;
-  end = λ e. nothing_left s new mid after triple taken e;
-}
+      triples = r.triples ++ triple ∷ [];
+      strings = grown ∙ strings_more prefix before graph r.triples triple added r.strings are;
+      blank_is = blank_more r.triples triple old blank r.blank_is has;
+      going = λ e. on r.triples (r.going still) e;
+      ended = λ e. last r.triples (r.going still) e;
+      end = λ e. nothing_left s new mid after triple taken e;
+    }
 
 -- ---- strings
 

@@ -143,10 +143,8 @@ fn reply_search(action: &Action, reply: &mut Reply) {
 /// Any action.
 fn reply_action(action: &Action, reply: &mut Reply) {
     match action {
-        Action::Head { body } => {
-            reply.word("head");
-            reply.boolean(*body)
-        }
+        Action::Head => reply.word("head"),
+        Action::HeadBody => reply.word("head_body"),
         Action::Verify => reply.word("verify"),
         Action::VerifyTight => reply.word("verify_tight"),
         Action::VerifyTerms { tight } => {
