@@ -1,6 +1,7 @@
 -- Reading the lines of an input, and collecting the strings of its triples.
 use Rattle.std.proofs.Common.{◌≡◌, ◌≢◌, ℕ, ◌<◌, ◌≤◌, Bool, true, false, List, [], ◌∷◌, ◌++◌, ◌||◌, length, map}
-use Rattle.std.proofs.Common.{Option, Some, None, ◌⊎◌, inl, inr, refl, sym, ap, subst, ◌∙◌, append_assoc, append-nil, arith}
+use Rattle.std.proofs.Common.{Option, Some, None, ◌⊎◌, inl, inr, refl, sym, ap, subst, ◌∙◌, arith}
+use Rattle.std.proofs.Common.{append_assoc, append-nil}
 use Rattle.std.specs.Io.KnownBytes.{IsAtEnd, prepend_known}
 use Rattle.std.specs.List.{All}
 use Rattle.std.proofs.lemmas.List.{length-append, map_push}
@@ -84,13 +85,13 @@ pub run_on : (prefix : List ℕ) (s new : LinesState) (input mid after : Option 
     → IsReadSoFar prefix new input after before more blank
 run_on prefix s new input mid after before graph more triple added old blank r still grown are has on last taken =
     record {
-  triples = r.triples ++ triple ∷ [];
-  strings = grown ∙ strings_more prefix before graph r.triples triple added r.strings are;
-  blank_is = blank_more r.triples triple old blank r.blank_is has;
-  going = λ e. on r.triples (r.going still) e;
-  ended = λ e. last r.triples (r.going still) e;
-  end = λ e. nothing_left s new mid after triple taken e;
-}
+      triples = r.triples ++ triple ∷ [];
+      strings = grown ∙ strings_more prefix before graph r.triples triple added r.strings are;
+      blank_is = blank_more r.triples triple old blank r.blank_is has;
+      going = λ e. on r.triples (r.going still) e;
+      ended = λ e. last r.triples (r.going still) e;
+      end = λ e. nothing_left s new mid after triple taken e;
+    }
 
 -- ---- strings
 

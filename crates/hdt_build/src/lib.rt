@@ -21,8 +21,8 @@
 //! let (canonical, report) = rewrite_bytes(alloc, &graph, &options)?; // without unused strings
 //! ```
 //!
-//! [`merge`] writes the canonical file of all triples of several graphs; [`Merger`] takes them, and documents, one after
-//! another.
+//! [`merge`] writes the canonical file of all triples of several graphs; [`Merger`] takes them, and documents, one by
+//! one.
 //!
 //! Modules, in reading order. Building: `options` and `fault`; `interner`, the list of strings; `queue` and
 //! `collector`, triples as indices of strings; `labels`, blank nodes; `reading`, the lines of the input; `string_sort`
