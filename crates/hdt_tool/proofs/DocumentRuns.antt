@@ -1,6 +1,6 @@
 -- Reading several documents: prefixes, and errors.
 use Rattle.std.proofs.Common.{◌≡◌, ◌≢◌, ◌<◌, ◌^◌, ◌++◌, ◌∷◌, ℕ, List, [], Bool, true}
-use Rattle.std.proofs.Common.{Option, None, Some, codes, refl, arith, ◌/◌, ◌%◌, ◌+◌, ◌≤◌, rules, subst}
+use Rattle.std.proofs.Common.{Option, None, Some, codes, refl, arith, inl, suc, zero, ◌/◌, ◌%◌, ◌+◌, ◌≤◌, rules, subst}
 use Rattle.std.specs.Fmt.{decimal}
 use Rattle.std.proofs.lemmas.Fmt.{IsAscii-decimal, decimal_by_steps}
 use Rattle.std.proofs.lemmas.List.Elements.{All-append}
@@ -12,7 +12,7 @@ use Rattle.hdt_build.specs.Reading.{IsBuildFaultOf}
 use Rattle.hdt_build.specs.declared.fault.BuildFault.{BuildFault}
 use Rattle.hdt_build.specs.declared.fault.BuildFault.TheVariants as building
 use Rattle.hdt_file.specs.Denoted.{StringTriple}
-use Rattle.hdt_tool.specs.BuildInputs.{IsFaultOfDocumentAt, document_fault}
+use Rattle.hdt_tool.specs.BuildInputs.{IsFaultOfDocumentAt, StopsAdding, document_fault}
 use Rattle.hdt_tool.specs.SplitInputs.{IsBlankNodesFault, input_prefix}
 use Rattle.hdt_tool.specs.declared.request.BlankNodes.{BlankNodes}
 use Rattle.hdt_tool.specs.declared.request.BlankNodes.TheVariants as blank
@@ -52,6 +52,12 @@ pub fault_of_document : (mode : Option BlankNodes) (first : Option ℕ) (n : ℕ
     → IsFaultOfDocumentAt mode first n input (document_fault n fault)
 fault_of_document mode first n input left (building.Line fault) h = (refl, (left, h.0), h.1)
 fault_of_document mode first n input left fault h = refl
+
+-- Memory may run out before anything is read.
+pub no_memory : (mode : Option BlankNodes) (first : Option ℕ) (n : ℕ) (inputs : List (Option (List ℕ)))
+    (before : List StringTriple) → StopsAdding mode first n inputs before stop.OutOfMemory
+no_memory mode first n [] before = refl
+no_memory mode first n (input ∷ inputs) before = inl tt
 
 -- A second input with blank nodes.
 pub mixed : (mode : Option BlankNodes) (first : Option ℕ) (n : ℕ) (prefix : List ℕ) (input : Option (List ℕ))

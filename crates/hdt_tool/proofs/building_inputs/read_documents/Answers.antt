@@ -5,7 +5,7 @@ use Rattle.hdt_wire.specs.Counted.{inner}
 use Rattle.hdt_build.specs.Reading.{IsBuildFaultOf}
 use Rattle.hdt_tool.specs.BuildInputs.{AddsInTurn, IsFaultOfDocumentAt, StopsAdding, document_fault}
 use Rattle.hdt_tool.specs.declared.splitting.SplitInputsFault.TheVariants.{OutOfMemory}
-use Rattle.hdt_tool.proofs.DocumentRuns.{fault_of_document, mixed}
+use Rattle.hdt_tool.proofs.DocumentRuns.{fault_of_document, mixed, no_memory}
 use Rattle.hdt_tool.proofs.SplitRuns.{none_left}
 use Rattle.hdt_tool.proofs.building_inputs.read_documents.Goals as goal
 
@@ -23,8 +23,10 @@ returns-in-Err-clause-stopped g c =
     (c.inputs.invariant.1 fault
     (subst (λ items. StopsAdding mode c.inputs.first c.inputs.number
     (map (λ input. g.R.Read.remaining input) items) c.inputs.merger fault) (sym here)
-    (inl (fault_of_document mode c.inputs.first c.inputs.number (g.R.Read.remaining c.in-Some.input) _ c.in-Err.fault
-    (subst (λ i. IsBuildFaultOf i _ c.in-Err.fault) read c.in-Err.ensures.fault))))))
+    (inl (fault_of_document mode c.inputs.first c.inputs.number (g.R.Read.remaining c.in-Some.input)
+    (g.R.Read.remaining (inner c.with_document.new.input)) c.in-Err.fault
+    (subst (λ i. IsBuildFaultOf i (g.R.Read.remaining (inner c.with_document.new.input)) c.in-Err.fault) read
+    c.in-Err.ensures.fault))))))
 
 pub returns-in_err-first-clause-stopped : goal.returns-in_err-first-clause-stopped
 returns-in_err-first-clause-stopped g c =
@@ -67,3 +69,11 @@ returns-clause-ok g c =
     (c.inputs.invariant.0 c.inputs.merger
     (subst (λ items. AddsInTurn mode c.inputs.first c.inputs.number
     (map (λ input. g.R.Read.remaining input) items) c.inputs.merger c.inputs.merger) (sym ended) refl))
+
+pub returns-in_err-merger-clause-stopped : goal.returns-in_err-merger-clause-stopped
+returns-in_err-merger-clause-stopped g c =
+    let p = err_from_is_err_and c.from_residual.result c.from_residual.ensures.1 in
+    rw (p.1, p.2) (no_memory c.args.blank_nodes None 0 (map (λ input. g.R.Read.remaining input) c.args.inputs.items) [])
+
+pub inputs-preserved : goal.inputs-preserved
+inputs-preserved g c = ?
