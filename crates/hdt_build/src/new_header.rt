@@ -11,6 +11,7 @@ ghost use Rattle.hdt_build.specs.Built.{report_of};
 ghost use Rattle.hdt_build.specs.NewHeader.{IsBodyFault, IsHeaderFaultOf, ReplacesHeader, graph_with_header};
 ghost use Rattle.hdt_build.specs.NewHeader.{item_with_length, with_length, with_new_header};
 
+use crate::collector::TripleCollector;
 use crate::fault::{BuildFault, HeaderFault};
 use crate::options::Report;
 use crate::reading::read_triples;
@@ -68,7 +69,8 @@ fn check_body(alloc: Global, body: &[u8]) -> Result<(), HeaderFault>
     ensures document { OnOk result ((triples : List Triple) × Document body.now triples) }
     ensures fault { IfErr result (IsBodyFault body.now) }
 {
-    match read_triples(alloc, &mut Counted::new(body)) {
+    let empty = TripleCollector::new(alloc)?;
+    match read_triples(alloc, &[], &mut Counted::new(body), empty) {
         Ok(_) => Ok(()),
         Err(BuildFault::Line(fault)) => Err(HeaderFault::Line(fault)),
         Err(_) => Err(HeaderFault::OutOfMemory),

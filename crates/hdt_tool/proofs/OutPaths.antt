@@ -17,11 +17,13 @@ reads name rows (Rewrite b) h = h
 reads name rows action h = tt
 
 makes : (name : Text) (rows : List Row) (action : Action) → IsOutputAction name rows action → MakesFile action
+makes name rows (Build options) h = absurd h
 makes name rows (Rewrite b) h = tt
 makes name rows action h = h
 
 builds : (rows : List Row) (action : Action) → IsBuildAction rows action → MakesFile action
 builds rows (Build options) h = tt
+builds rows (Rewrite b) h = absurd h
 builds rows action h = h
 
 without : (A B : Type 0) (out : Option (String Global)) → option_map string_bytes out ≡ None → A

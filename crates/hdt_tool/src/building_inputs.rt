@@ -131,7 +131,7 @@ fn write_built(
 
 /// Runs `build` with several documents or `--blank-nodes`, and returns the status. One document at a time is open.
 /// (Contracts cannot describe the file system; tests/test_build_inputs.py checks this.)
-pub(crate) fn run_build_inputs(
+pub(crate) fn build_inputs(
     rt: &HostRuntime,
     source: ErrorSource<'_>,
     request: &Request,

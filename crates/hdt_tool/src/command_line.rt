@@ -1,5 +1,5 @@
 //! Parsing a command line into a request.
-ghost use Rattle.std.specs.Prelude.{◌≡◌, IfOk, IfErr, codes, map, option_map, string_bytes};
+ghost use Rattle.std.specs.Prelude.{◌≡◌, ◌≢◌, IfOk, IfErr, codes, map, option_map, string_bytes};
 ghost use Rattle.clap.specs.Words.{found_of, first_of, one_of, rows_of, kind_of};
 ghost use Rattle.hdt_tool.specs.Outcomes.{HasOut};
 ghost use Rattle.hdt_tool.specs.CommandLine.{IsQueryAction, IsRequestOf, IsQueryRequest, IsOutputRequest};
@@ -46,12 +46,13 @@ fn usage_fault(alloc: Global, error: &Error) -> UsageFault
     }
 }
 
-/// The action of a command that writes no file.
+/// The action of a command that writes no file. That of `build` with several documents is made by `build_request`.
 fn query_action<'m>(
     alloc: Global,
     name: &str,
     matches: &ArgMatches<'m>,
 ) -> Result<Action, UsageFault>
+    requires { name.now ≢ codes "build" }
     ensures ok { IfOk result (IsQueryAction name.now (rows_of (found_of matches.now))) }
     ensures refused { IfErr result
         (RefutesOrInvalidTerm ((action : Action) × IsQueryAction name.now (rows_of (found_of matches.now)) action)
@@ -84,6 +85,7 @@ fn query_request<'m>(
     name: &str,
     matches: &ArgMatches<'m>,
 ) -> Result<Request, UsageFault>
+    requires { name.now ≢ codes "build" }
     ensures ok { IfOk result (λ request. IsQueryRequest name.now (rows_of (found_of matches.now)) request) }
     ensures refused { IfErr result
         (RefutesOrInvalidTerm ((request : Request) × IsQueryRequest name.now (rows_of (found_of matches.now)) request)

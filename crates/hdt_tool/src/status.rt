@@ -24,7 +24,7 @@ ghost use Rattle.hdt_tool.specs.declared.request.AnswerReport.{AnswerReport};
 ghost use Rattle.hdt_tool.specs.ErrorLines.{fault_status};
 ghost use Rattle.hdt_tool.specs.Status.{ExitsWith, IsCommandStatus, IsRefusalStatus, IsReportStatus};
 
-use crate::building_inputs::run_build_inputs;
+use crate::building_inputs::build_inputs;
 use crate::command_line::parse_invocation;
 use crate::commands::{answer_file, print_output};
 use crate::error_context::{ErrorSource, is_terminal, print_context, print_term_context};
@@ -391,9 +391,7 @@ pub fn process_status(rt: &HostRuntime, words: io::Result<Vec<String>>) -> u8
         }
         Action::Split(options) => run_split(rt, source, request, options),
         Action::Merge(options) => run_merge(rt, source, request, options),
-        Action::BuildInputs(options, blank_nodes) => {
-            run_build_inputs(rt, source, request, options, *blank_nodes)
-        }
+        Action::BuildInputs(options, nodes) => build_inputs(rt, source, request, options, *nodes),
         _ => {
             let input = match open_input(rt, request.file.as_str(), source.session) {
                 Ok(input) => input,

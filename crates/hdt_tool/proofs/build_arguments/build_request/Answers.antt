@@ -20,6 +20,7 @@ returns-in_err-options-clause-refused c =
 pub returns-in_err-blank_nodes-clause-refused : goal.returns-in_err-blank_nodes-clause-refused
 returns-in_err-blank_nodes-clause-refused c =
     let rows = rows_of (found_of c.args.matches.now) in
-    let p = err_from_is_err_and c.from_residual-in_err-blank_nodes.result c.from_residual-in_err-blank_nodes.ensures.1 in
+    let back = c.from_residual-in_err-blank_nodes in
+    let p = err_from_is_err_and back.result back.ensures.1 in
     rw (p.1, p.2) (without _ _ c.in_err-blank_nodes.field-0.0 (λ w. (build_needed rows w.0 w.1).blank_nodes)
     c.in_err-blank_nodes.ensures.refused)

@@ -1,11 +1,13 @@
-use Rattle.std.proofs.Common.{◌≡◌, ◌∙◌, ◌∷◌, List, [], None, ap, inl, map, refl, rules, subst, sym}
+use Rattle.std.proofs.Common.{◌≡◌, ◌∙◌, ◌∷◌, ℕ, arith, length, List, [], None, ap, inl, map, refl, rules, subst, sym}
 use Rattle.std.specs.Vec.Iter.{into_iter_items}
 use Rattle.std.proofs.lemmas.Result.{err_from_is_err_and}
 use Rattle.hdt_wire.specs.Counted.{inner}
+use Rattle.hdt_build.specs.Documents.{AddsDocument}
+use Rattle.hdt_tool.specs.SplitInputs.{input_prefix}
 use Rattle.hdt_build.specs.Reading.{IsBuildFaultOf}
 use Rattle.hdt_tool.specs.BuildInputs.{AddsInTurn, IsFaultOfDocumentAt, StopsAdding, document_fault}
 use Rattle.hdt_tool.specs.declared.splitting.SplitInputsFault.TheVariants.{OutOfMemory}
-use Rattle.hdt_tool.proofs.DocumentRuns.{fault_of_document, mixed}
+use Rattle.hdt_tool.proofs.DocumentRuns.{adds_next, fault_of_document, mixed, no_memory, stops_next}
 use Rattle.hdt_tool.proofs.SplitRuns.{none_left}
 use Rattle.hdt_tool.proofs.building_inputs.read_documents.Goals as goal
 
@@ -23,8 +25,10 @@ returns-in-Err-clause-stopped g c =
     (c.inputs.invariant.1 fault
     (subst (λ items. StopsAdding mode c.inputs.first c.inputs.number
     (map (λ input. g.R.Read.remaining input) items) c.inputs.builder fault) (sym here)
-    (inl (fault_of_document mode c.inputs.first c.inputs.number (g.R.Read.remaining c.in-Some.input) _ c.in-Err.fault
-    (subst (λ i. IsBuildFaultOf i _ c.in-Err.fault) read c.in-Err.ensures.fault))))))
+    (inl (fault_of_document mode c.inputs.first c.inputs.number (g.R.Read.remaining c.in-Some.input)
+    (g.R.Read.remaining (inner c.with_document.new.input)) c.in-Err.fault
+    (subst (λ i. IsBuildFaultOf i (g.R.Read.remaining (inner c.with_document.new.input)) c.in-Err.fault) read
+    c.in-Err.ensures.fault))))))
 
 pub returns-in_err-first-clause-stopped : goal.returns-in_err-first-clause-stopped
 returns-in_err-first-clause-stopped g c =
@@ -67,3 +71,39 @@ returns-clause-ok g c =
     (c.inputs.invariant.0 c.inputs.builder
     (subst (λ items. AddsInTurn mode c.inputs.first c.inputs.number
     (map (λ input. g.R.Read.remaining input) items) c.inputs.builder c.inputs.builder) (sym ended) refl))
+
+pub returns-in_err-builder-clause-stopped : goal.returns-in_err-builder-clause-stopped
+returns-in_err-builder-clause-stopped g c =
+    let p = err_from_is_err_and c.from_residual.result c.from_residual.ensures.1 in
+    rw (p.1, p.2) (no_memory c.args.blank_nodes None 0 (map (λ input. g.R.Read.remaining input) c.args.inputs.items) [])
+
+pub inputs-preserved : goal.inputs-preserved
+inputs-preserved g c =
+    let mode = c.args.blank_nodes in
+    let here : into_iter_items c.inputs.input-iterator ≡ c.in-Some.input ∷ into_iter_items c.next.new.self =
+    search rules in
+    let len = ap length here in
+    let read = ap (λ input. g.R.Read.remaining input) c.new-input.ensures.inner in
+    let more = c.in-Ok.made.0 in
+    let has = c.in-Ok.made.1 in
+    let added : AddsDocument (input_prefix mode c.inputs.number) (g.R.Read.remaining c.in-Some.input) c.inputs.builder
+    more has =
+    subst (λ i. AddsDocument (input_prefix mode c.inputs.number) i c.inputs.builder more has) read
+    (subst
+    (λ (p : List ℕ). AddsDocument p (g.R.Read.remaining (inner c.new-input.result)) c.inputs.builder more has)
+    (c.deref.ensures.value ∙ c.in_ok-prefix.ensures.is) c.in-Ok.ensures.added) in
+    let first = c.in_ok-first.ensures.ok in
+    let rest = map (λ input. g.R.Read.remaining input) (into_iter_items c.next.new.self) in
+    (
+      λ after h. c.inputs.invariant.0 after
+      (subst (λ items. AddsInTurn mode c.inputs.first c.inputs.number
+      (map (λ input. g.R.Read.remaining input) items) c.inputs.builder after) (sym here)
+      (adds_next mode c.inputs.first c.in_ok-first.first c.inputs.number (g.R.Read.remaining c.in-Some.input) rest
+      c.inputs.builder more after has added first.1 first.0 h)),
+      λ stop h. c.inputs.invariant.1 stop
+      (subst (λ items. StopsAdding mode c.inputs.first c.inputs.number
+      (map (λ input. g.R.Read.remaining input) items) c.inputs.builder stop) (sym here)
+      (stops_next mode c.inputs.first c.in_ok-first.first c.inputs.number (g.R.Read.remaining c.in-Some.input) rest
+      c.inputs.builder more has stop added first.1 first.0 h)),
+      omega (arith, c.inputs.invariant.2, len),
+    )
