@@ -47,7 +47,7 @@ def fixture_scratch(tmp_path_factory: pytest.TempPathFactory) -> Path:
     return tmp_path_factory.mktemp("merging")
 
 
-@examples(2)
+@examples()
 @given(st.lists(TRIPLES, min_size=1, max_size=40), st.integers(1, 12), st.integers(0, 2**32),
        st.sampled_from([1, 3, 16]))
 @example([("u:a", "u:a", "u:a")], 12, 0, 1)

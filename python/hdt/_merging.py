@@ -99,9 +99,8 @@ def merge(
     Errors: `Fault` with the path of an input and its first error; ValueError for the options and for a closed graph;
     `NoTriples` if there are no inputs; TypeError; MemoryError; OSError; what `progress` raises. The time is linear in
     the inputs, with their strings decoded, except for sorting. All inputs are open at once. Memory beside them: the
-    distinct strings, decoded, with some 50 bytes each, 24 bytes for each triple of each input, 8 bytes for each string
-    of one input at a time, and the file. The strings of a hostile file of n bytes can take up to n² / 4: limit the
-    memory of the process for files of strangers.
+    strings of each, front-coded, with 24 bytes each, and once more the distinct ones; 24 bytes for each triple of each
+    input; and the file.
 
     >>> with hdt.open("graph.hdt") as graph:
     ...     hdt.merge([graph, "graph.hdt"], "merged.hdt")

@@ -106,9 +106,8 @@ pub fn build(text: &[u8], base: &str, block_size: u16) -> Result<(Bytes, Counts)
 ///
 /// The order of the graphs makes no difference. A blank node label in two graphs is one node, as in one text. `base` and
 /// `block_size` are those of [`build`]. Time is linear in the graphs, with their strings decoded, except for sorting.
-/// Memory: the distinct strings, decoded, with some 50 bytes each; 24 bytes for each triple of each graph; 8 bytes for
-/// each string of one graph at a time; and the file. The strings of a hostile file of n bytes can take up to n² / 4: limit
-/// the memory of the process for files of strangers.
+/// Memory: the strings of each graph, front-coded, with 24 bytes each, and once more the distinct ones; 24 bytes for each
+/// triple of each graph; and the file.
 ///
 /// # Errors
 ///

@@ -1,12 +1,8 @@
-use Rattle.std.proofs.Common.{◌≡◌, ◌∙◌, ℕ, ◌+◌, ◌-◌, ◌<◌, ◌≤◌, List, [], ◌∷◌, ◌++◌, length, take, get_or, refl, ap, sym, subst, arith}
-use Rattle.hdt_front.specs.Section.{before}
-use Rattle.hdt_front.specs.Order.{lcp_len, string_cmp}
-use Rattle.hdt_build.specs.Inside.FrontCoding.{coded_strings}
+use Rattle.std.proofs.Common.{◌≡◌, ◌∙◌, sym, arith}
 use Rattle.std.proofs.Common.{true, false, Result, Ok, Err, nat_eq}
 use Rattle.std.specs.Prelude.{OnOk, is_err}
 use Rattle.std.proofs.lemmas.List.Sums.{common_prefix_len-le}
 use Rattle.std.proofs.lemmas.Result.{on_ok_weaker}
-use Rattle.hdt_build.specs.Inside.FrontCoding.{IsFrontCoding}
 use Rattle.hdt_build.proofs.FrontCoding.{no_coding, coding_is, coding_step}
 use Rattle.hdt_build.proofs.front_coded.push_coded.Goals as goal
 

@@ -1,4 +1,4 @@
-use Rattle.std.proofs.Common.{◌≡◌, ◌≢◌, ℕ, ◌<◌, get_or}
+use Rattle.std.proofs.Common.{◌≢◌, ℕ, ◌<◌, get_or}
 use Rattle.hdt_build.specs.Inside.SortedEntries.{unranked}
 use Rattle.hdt_build.proofs.run_merging.are_ranked.Given as goal
 

@@ -1,4 +1,4 @@
-use Rattle.std.proofs.Common.{◌≡◌, ◌∙◌, ℕ, ◌<◌, List, length, get_or, ap, sym, arith}
+use Rattle.std.proofs.Common.{◌∙◌, ℕ, List, get_or, ap, arith}
 use Rattle.std.proofs.lemmas.List.{get_or-replicate}
 use Rattle.hdt_build.proofs.RankedRuns.{none_ranked, one_ranked}
 use Rattle.hdt_build.proofs.run_merging.merge_ascending.Goals as goal

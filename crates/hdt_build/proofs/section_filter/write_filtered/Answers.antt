@@ -1,4 +1,4 @@
-use Rattle.std.proofs.Common.{◌∙◌, ℕ, ◌+◌, ◌<◌, [], length, get_or, ap, sym, arith}
+use Rattle.std.proofs.Common.{◌∙◌, ℕ, ◌+◌, ◌<◌, length, ap, sym, arith}
 use Rattle.std.proofs.lemmas.List.{length_push}
 use Rattle.hdt_front.specs.WriterState.{SectionWriterState}
 use Rattle.hdt_build.proofs.FrontCoding.{before_next}

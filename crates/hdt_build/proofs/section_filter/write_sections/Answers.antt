@@ -1,5 +1,4 @@
-use Rattle.std.proofs.Common.{ℕ, subst, sym, arith}
-use Rattle.hdt_build.specs.Inside.Collecting.{AreBelow}
+use Rattle.std.proofs.Common.{arith}
 use Rattle.hdt_wire.specs.declared.Role.TheVariants.{Subject, Predicate, Object}
 use Rattle.hdt_build.proofs.FilteredSections.{used_text, mark_uses, are_parts}
 use Rattle.hdt_build.proofs.section_filter.write_sections.Goals as goal

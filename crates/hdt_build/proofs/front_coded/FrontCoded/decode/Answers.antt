@@ -1,4 +1,4 @@
-use Rattle.std.proofs.Common.{◌≡◌, ◌∙◌, ℕ, ◌+◌, ◌-◌, ◌<◌, ◌≤◌, List, [], ◌∷◌, ◌++◌, length, take, get_or, refl, ap, sym, subst, arith}
+use Rattle.std.proofs.Common.{◌<◌, [], length, ap, arith}
 use Rattle.hdt_build.proofs.FrontCoding.{coded_length, decoded_is}
 use Rattle.hdt_build.proofs.front_coded.FrontCoded.decode.Goals as goal
 

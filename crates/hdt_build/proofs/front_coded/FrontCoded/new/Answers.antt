@@ -1,4 +1,4 @@
-use Rattle.std.proofs.Common.{◌≡◌, ◌∙◌, ℕ, ◌+◌, ◌-◌, ◌<◌, ◌≤◌, List, [], ◌∷◌, ◌++◌, length, take, get_or, refl, ap, sym, subst, arith}
+use Rattle.std.proofs.Common.{ℕ, List, [], ap}
 use Rattle.hdt_build.specs.Inside.FrontCoding.{coded_strings}
 use Rattle.hdt_build.proofs.front_coded.FrontCoded.new.Goals as goal
 

@@ -1,7 +1,5 @@
-use Rattle.std.proofs.Common.{◌≡◌, ◌∙◌, ℕ, ◌+◌, ◌-◌, ◌<◌, ◌≤◌, List, [], ◌∷◌, ◌++◌, length, take, get_or, refl, ap, sym, subst, arith}
-use Rattle.hdt_front.specs.Section.{before}
-use Rattle.hdt_front.specs.Order.{lcp_len, string_cmp}
-use Rattle.hdt_build.specs.Inside.FrontCoding.{coded_strings}
+use Rattle.std.proofs.Common.{◌∙◌, ℕ, List, ap, arith}
+use Rattle.hdt_front.specs.Order.{lcp_len}
 use Rattle.hdt_build.proofs.FrontCoding.{front_last}
 use Rattle.hdt_build.proofs.front_coded.FrontCoded.push.Goals as goal
 

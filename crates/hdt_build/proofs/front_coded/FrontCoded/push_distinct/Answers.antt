@@ -1,9 +1,7 @@
-use Rattle.std.proofs.Common.{◌≡◌, ◌∙◌, ℕ, ◌+◌, ◌-◌, ◌<◌, ◌≤◌, List, [], ◌∷◌, ◌++◌, length, take, get_or, refl, ap, sym, subst, arith}
-use Rattle.hdt_front.specs.Section.{before}
+use Rattle.std.proofs.Common.{◌≡◌, ◌∙◌, ℕ, ◌<◌, List, length, refl, ap, sym, arith}
 use Rattle.hdt_front.specs.Order.{lcp_len, string_cmp}
-use Rattle.hdt_build.specs.Inside.FrontCoding.{coded_strings}
 use Rattle.std.proofs.Common.{inl, inr}
-use Rattle.std.specs.declared.cmp.Ordering.TheVariants.{Less, Equal, Greater}
+use Rattle.std.specs.declared.cmp.Ordering.TheVariants.{Equal}
 use Rattle.std.proofs.lemmas.Map.Lookups.{exact_bytes}
 use Rattle.hdt_front.specs.Laws.CommonPrefix.{lcp_symmetric}
 use Rattle.hdt_build.specs.Inside.SortedEntries.{last_of}

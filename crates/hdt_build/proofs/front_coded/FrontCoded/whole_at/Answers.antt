@@ -1,4 +1,4 @@
-use Rattle.std.proofs.Common.{◌≡◌, ◌∙◌, ℕ, ◌+◌, ◌-◌, ◌<◌, ◌≤◌, List, [], ◌∷◌, ◌++◌, length, take, get_or, refl, ap, sym, subst, arith}
+use Rattle.std.proofs.Common.{◌≡◌, ◌∙◌, ℕ, ◌<◌, [], length, get_or, refl, subst, arith}
 use Rattle.hdt_build.proofs.FrontCoding.{decoded_is}
 use Rattle.hdt_build.proofs.front_coded.FrontCoded.whole_at.Goals as goal
 
