@@ -86,8 +86,7 @@ fn replaced(
     requires { IsHead (head_parts head.now) bytes.now }
     ensures { IfOk result (λ made. made.items ≡ with_new_header (head_parts head.now) body.now bytes.now) }
 {
-    let properties =
-        properties_with_length(alloc, head.header().properties(), body.len() as u64)?;
+    let properties = properties_with_length(alloc, head.header().properties(), body.len() as u64)?;
     let (front, _) = bytes.split_at(head.global().end());
     let (_, rest) = bytes.split_at(head.end());
     let mut made = front.to_vec(alloc)?;

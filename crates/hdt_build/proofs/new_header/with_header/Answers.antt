@@ -73,12 +73,12 @@ unfolding report_of
 returns-clause-made c =
     let g : GraphParts = layout_view c.in_ok-read.field-0 in
     let size : c.in_ok-made.made.len ≡ length c.in_ok-made.made.items = omega arith in (
-  g,
-  replaces c.args.body.now c.args.bytes.now c.in_ok-made.made.items (layout_view c.in_ok-read.field-0)
-      (head_parts c.in_ok-head.head) c.in_ok-head.ensures.only c.in_ok-check_body.ensures.document
-      c.in_ok-made.ensures c.in_ok-read.ensures.found,
-  rw (c.lens.ensures, c.len.ensures) (ap (counted g) size),
-)
+      g,
+      replaces c.args.body.now c.args.bytes.now c.in_ok-made.made.items (layout_view c.in_ok-read.field-0)
+          (head_parts c.in_ok-head.head) c.in_ok-head.ensures.only c.in_ok-check_body.ensures.document
+          c.in_ok-made.ensures c.in_ok-read.ensures.found,
+      rw (c.lens.ensures, c.len.ensures) (ap (counted g) size),
+    )
 
 pub returns-clause-graph : goal.returns-clause-graph
 returns-clause-graph c = λ graph h.
