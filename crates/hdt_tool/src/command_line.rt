@@ -12,7 +12,7 @@ ghost use Rattle.hdt_tool.specs.declared.request.Request.{Request};
 
 use crate::arguments::{
     answer_action, argument_text, build_options, count_action, dump_action, find_action, has_flag,
-    head_action, info_action, lint_action, optional_number, optional_text, required_id, required_role, required_term,
+    info_action, lint_action, optional_number, required_id, required_role, required_term,
     required_text, required_u32, strings_action, verify_action,
 };
 use crate::fault::{TermArgument, UsageFault, missing};
@@ -57,7 +57,9 @@ fn query_action<'m>(
         (HasInvalidTerm name.now (rows_of (found_of matches.now)))) }
 {
     match name {
-        "head" => Ok(head_action(matches)),
+        "head" => Ok(Action::Head {
+            body: has_flag(matches, "body"),
+        }),
         "verify" => Ok(verify_action(matches)),
         "info" => Ok(info_action(matches)),
         "strings" => strings_action(alloc, matches),
@@ -159,6 +161,20 @@ fn progress_option<'m>(matches: &ArgMatches<'m>) -> Progress
     }
 }
 
+/// The path of a new header, if it is given.
+fn header_path<'m>(
+    alloc: Global,
+    matches: &ArgMatches<'m>,
+) -> Result<Option<String>, AllocError>
+    ensures { IfOk result
+        (λ path. first_of (codes "header") (rows_of (found_of matches.now)) ≡ option_map string_bytes path) }
+{
+    match argument_text(matches, "header") {
+        Some(text) => Ok(Some(String::from_str(alloc, text)?)),
+        None => Ok(None),
+    }
+}
+
 /// The request of a command, how to report progress and errors, the limit on lines, and the path of a new header.
 fn invocation_of<'m>(
     alloc: Global,
@@ -183,7 +199,7 @@ fn invocation_of<'m>(
         request: request_of(alloc, name, matches)?,
         progress: progress_option(matches),
         longest_line: optional_number(matches, "longest-line"),
-        header: optional_text(alloc, matches, "header")?,
+        header: header_path(alloc, matches)?,
         verbose: has_flag(matches, "verbose"),
     })
 }

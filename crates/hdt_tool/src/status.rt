@@ -30,12 +30,11 @@ use crate::error_context::{ErrorSource, is_terminal, print_context, print_term_c
 use crate::error_hints::print_prefix_hint;
 use crate::error_lines::{OUT_OF_MEMORY, fault_line, usage_line};
 use crate::fault::{ToolFault, UsageFault, file_fault};
-use crate::files::{open_input, output_path};
+use crate::files::open_input;
 use crate::lint::lint_path;
 use crate::merging::run_merge;
-use crate::new_header::run_new_header;
+use crate::new_header::run_with_out;
 use crate::non_term_status::{count_status, skipped_line};
-use crate::output_file::make_file_at;
 use crate::overwriting::{refuse_same_file, same_file};
 use crate::request::{Action, AnswerOptions, AnswerReport, Invocation, Request};
 use crate::session::Session;
@@ -371,12 +370,8 @@ pub fn process_status(rt: &HostRuntime, words: io::Result<Vec<String>>) -> u8
     if let Some(same) = same_file(rt, request) {
         return refuse_same_file(rt, same);
     }
-    if let (Some(out), Some(header)) = (&request.out, &invocation.header) {
-        return run_new_header(rt, source, &words, request, header.as_str(), out.as_str());
-    }
-    if let Some(path) = &request.out {
-        let path = output_path(path.as_str());
-        return command_status(rt, source, make_file_at(rt, &session, request, path));
+    if let Some(out) = &request.out {
+        return run_with_out(rt, source, &words, &invocation, out.as_str());
     }
     match &request.action {
         Action::Answer(options) => {
