@@ -162,10 +162,7 @@ fn progress_option<'m>(matches: &ArgMatches<'m>) -> Progress
 }
 
 /// The path of a new header, if it is given.
-fn header_path<'m>(
-    alloc: Global,
-    matches: &ArgMatches<'m>,
-) -> Result<Option<String>, AllocError>
+fn header_path<'m>(alloc: Global, matches: &ArgMatches<'m>) -> Result<Option<String>, AllocError>
     ensures { IfOk result
         (λ path. first_of (codes "header") (rows_of (found_of matches.now)) ≡ option_map string_bytes path) }
 {

@@ -23,7 +23,8 @@ use hdt_wire::Counted;
 use std::alloc::{AllocError, Global};
 use std::io::{self, Read};
 
-const BLOCK_SIZE_MESSAGE: &str = "error: --header replaces only the header, so --block-size has no use
+const BLOCK_SIZE_MESSAGE: &str =
+    "error: --header replaces only the header, so --block-size has no use
 
 For more information, try '--help'.";
 
@@ -46,11 +47,7 @@ fn with_new_header<R: Read>(
 }
 
 /// The contents of the file at a path.
-fn read_path(
-    rt: &HostRuntime,
-    session: &Session<'_>,
-    path: &str,
-) -> Result<Vec<u8>, ToolFault> {
+fn read_path(rt: &HostRuntime, session: &Session<'_>, path: &str) -> Result<Vec<u8>, ToolFault> {
     session.begin_input();
     let input = open_input(rt, path, session).map_err(|error| file_fault(&error, ToolFault::Read))?;
     let capacity = input.capacity();
@@ -71,10 +68,7 @@ fn describe_path(
 }
 
 /// Whether the command line has `--block-size`; an error if memory runs out.
-fn has_block_size(
-    alloc: Global,
-    words: &io::Result<Vec<String>>,
-) -> Result<bool, AllocError> {
+fn has_block_size(alloc: Global, words: &io::Result<Vec<String>>) -> Result<bool, AllocError> {
     match words {
         Ok(words) => is_block_size_given(alloc, &borrow_strings(alloc, words.as_slice())?),
         Err(_) => Ok(false),
@@ -126,7 +120,11 @@ fn run_new_header(
         Err(fault) => return print_fault(rt, source, fault),
     };
     drop(header);
-    command_status(rt, source, write_made_file(rt, session, output_path(out), &file, &line))
+    command_status(
+        rt,
+        source,
+        write_made_file(rt, session, output_path(out), &file, &line),
+    )
 }
 
 /// Runs a command with OUT, `build`, `rewrite` or `rewrite --header`, and returns the status.
@@ -145,5 +143,9 @@ pub(crate) fn run_with_out(
     if let Some(header) = &invocation.header {
         return run_new_header(rt, source, words, request, header.as_str(), out);
     }
-    command_status(rt, source, make_file_at(rt, source.session, request, output_path(out)))
+    command_status(
+        rt,
+        source,
+        make_file_at(rt, source.session, request, output_path(out)),
+    )
 }

@@ -44,7 +44,11 @@ fn head_text(alloc: Global, head: &Head<'_>) -> Result<Vec<u8>, AllocError>
 }
 
 /// The output of `head`, or with `body` only the header body.
-pub(crate) fn head_or_body(alloc: Global, body: bool, head: &Head<'_>) -> Result<Vec<u8>, AllocError>
+pub(crate) fn head_or_body(
+    alloc: Global,
+    body: bool,
+    head: &Head<'_>,
+) -> Result<Vec<u8>, AllocError>
     ensures { IfOk result (λ text. text.items ≡ head_or_body body (head_parts head.now)) }
 {
     if body {

@@ -99,7 +99,10 @@ pub(crate) fn command_status(
 }
 
 /// Borrows each argument as a text.
-pub(crate) fn borrow_strings<'a>(alloc: Global, words: &'a [String]) -> Result<Vec<&'a str>, AllocError>
+pub(crate) fn borrow_strings<'a>(
+    alloc: Global,
+    words: &'a [String],
+) -> Result<Vec<&'a str>, AllocError>
     ensures { IfOk result (λ texts. map (λ text. text.now) texts.items ≡ map string_bytes words.now) }
 {
     let mut texts = Vec::new(alloc);
