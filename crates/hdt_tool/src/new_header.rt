@@ -87,7 +87,7 @@ fn block_size_status(rt: &HostRuntime, words: &io::Result<Vec<String>>) -> Optio
 }
 
 /// Runs `rewrite --header` with the header at a path, and returns the status. The header is read first, then IN, and
-/// then OUT is written, so OUT may be IN. (Contracts cannot describe the file system; tests/test_header.py checks this.)
+/// then OUT is written, so OUT may be IN. (Contracts can't describe the file system; tests/test_header.py checks this.)
 #[tactic(auto, using(crate::proofs::Statuses::refusal_status, crate::proofs::Statuses::command_status))]
 fn run_new_header(
     rt: &HostRuntime,

@@ -234,8 +234,7 @@ fn print_shown(rt: &HostRuntime, message: &str) -> Result<(), AllocError> {
     Ok(())
 }
 
-/// Prints the message of a usage error, which may quote an argument, and returns its status; 4 if there is no memory
-/// for the message. Control characters of the argument do not reach a terminal.
+/// Prints a usage error, without control characters on a terminal. Returns its status, or 4 without memory for it.
 fn print_usage_line(rt: &HostRuntime, line: Result<(u8, String), AllocError>) -> u8
     ensures { MatchResult line (λ said. (result ≡ said.0) ⊎ (result ≡ 4)) (λ _. result ≡ 4) }
 {
