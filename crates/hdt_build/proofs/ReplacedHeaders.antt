@@ -1,13 +1,12 @@
 -- A file with a new header is a valid file of the same graph.
 use Rattle.std.proofs.Common.{◌≡◌, ℕ, ◌+◌, ◌-◌, ◌<◌, ◌≤◌, ◌^◌, List, [], ◌++◌, length, take, drop, refl, sym, ap, subst}
-use Rattle.std.proofs.Common.{◌∙◌, arith, length-append, length-drop, append-nil}
+use Rattle.std.proofs.Common.{◌∙◌, arith, length-drop, append-nil}
 use Rattle.std.proofs.lemmas.List.{take_all}
 use Rattle.hdt_wire.specs.declared.control.Kind.TheVariants as kinds
 use Rattle.hdt_wire.specs.Checks.{HasSlice}
-use Rattle.hdt_wire.specs.Control.{IsControlAt, control, expected_control_info}
+use Rattle.hdt_wire.specs.Control.{control, expected_control_info}
 use Rattle.hdt_wire.specs.Laws.Checks.{HasSlice-after, HasSlice-back, HasSlice-front}
 use Rattle.hdt_dict.specs.Dictionary.{IsDictionaryAt}
-use Rattle.hdt_triples.specs.Triples.{IsTriplesAt}
 use Rattle.hdt_file.specs.Head.{HeadParts, IsHead}
 use Rattle.hdt_file.specs.File.{FileParts, GraphParts, IsFile, IsLayout, dictionary_counts, graph_of_file}
 use Rattle.hdt_build.specs.NewHeader.{ReplacesHeader, graph_with_header, new_control, with_length, with_new_header}

@@ -20,7 +20,8 @@ pub record MakesNewHeader (body bytes text made : List ℕ) : Type 0 where
 
 -- The error is the first one of the file or of the header body; or reading failed, or memory ran out.
 abbrev pub IsNewHeaderFault : List ℕ → Option (List ℕ) → Option (List ℕ) → ToolFault → Type 0
-IsNewHeaderFault body before after (faults.File fault) = ReadsWith before after (λ bytes. decode_graph bytes ≡ Err fault)
+IsNewHeaderFault body before after (faults.File fault) =
+    ReadsWith before after (λ bytes. decode_graph bytes ≡ Err fault)
 IsNewHeaderFault body before after (faults.Input fault) = (given : Option (List ℕ))
     × FaultInDocument fault most (Some body) given
 IsNewHeaderFault body before after faults.Read = ⊤

@@ -1,7 +1,7 @@
 -- What a run of a command does: its output, the file that it makes, and its errors. In these definitions `before` and
 -- `after` are what the reader still yields before and after the run.
-use Rattle.std.specs.Prelude.{◌≡◌, ◌≢◌, ◌<◌, ◌≤◌, ◌+◌, ℕ, Bool, true, false, List, [], ◌++◌, length, take, Option, None, Some}
-use Rattle.std.specs.Prelude.{Err, MatchOption, codes}
+use Rattle.std.specs.Prelude.{◌≡◌, ◌≢◌, ◌<◌, ◌≤◌, ◌+◌, ℕ, Bool, true, false, List, [], ◌++◌, length, take, Option, None}
+use Rattle.std.specs.Prelude.{Some, Err, MatchOption, codes}
 use Rattle.std.specs.Fmt.{decimal}
 use Rattle.std.specs.Io.KnownBytes.{Appends, Consumes, IsAtEnd}
 use Rattle.hdt_wire.specs.declared.fault.Fault.{Fault}

@@ -11,9 +11,9 @@ ghost use Rattle.hdt_tool.specs.declared.request.Action.{Action};
 ghost use Rattle.hdt_tool.specs.declared.request.Request.{Request};
 
 use crate::arguments::{
-    answer_action, argument_text, count_action, dump_action, find_action, has_flag, head_action,
-    info_action, lint_action, optional_number, optional_text, required_id, required_role,
-    required_term, required_text, required_u32, strings_action, verify_action,
+    answer_action, argument_text, count_action, dump_action, find_action, has_flag, info_action,
+    lint_action, optional_number, required_id, required_role, required_term, required_text,
+    required_u32, strings_action, verify_action,
 };
 use crate::build_arguments::build_request;
 use crate::fault::{TermArgument, UsageFault, missing};
@@ -44,6 +44,16 @@ fn usage_fault(alloc: Global, error: &Error) -> UsageFault
         ErrorKind::DisplayHelp | ErrorKind::DisplayVersion => UsageFault::Help(text),
         _ => UsageFault::Usage(text),
     }
+}
+
+/// The action of `head`, with or without `--body`.
+fn head_action<'m>(matches: &ArgMatches<'m>) -> Action
+    ensures { IsQueryAction (codes "head") (rows_of (found_of matches.now)) result }
+{
+    if has_flag(matches, "body") {
+        return Action::HeadBody;
+    }
+    Action::Head
 }
 
 /// The action of a command that writes no file. That of `build` with several documents is made by `build_request`.
@@ -162,6 +172,17 @@ fn progress_option<'m>(matches: &ArgMatches<'m>) -> Progress
     }
 }
 
+/// The path of a new header, if it is given.
+fn header_path<'m>(alloc: Global, matches: &ArgMatches<'m>) -> Result<Option<String>, AllocError>
+    ensures { IfOk result
+        (λ path. first_of (codes "header") (rows_of (found_of matches.now)) ≡ option_map string_bytes path) }
+{
+    match argument_text(matches, "header") {
+        Some(text) => Ok(Some(String::from_str(alloc, text)?)),
+        None => Ok(None),
+    }
+}
+
 /// The request of a command, how to report progress and errors, the limit on lines, and the path of a new header.
 fn invocation_of<'m>(
     alloc: Global,
@@ -186,7 +207,7 @@ fn invocation_of<'m>(
         request: request_of(alloc, name, matches)?,
         progress: progress_option(matches),
         longest_line: optional_number(matches, "longest-line"),
-        header: optional_text(alloc, matches, "header")?,
+        header: header_path(alloc, matches)?,
         verbose: has_flag(matches, "verbose"),
     })
 }

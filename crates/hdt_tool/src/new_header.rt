@@ -2,7 +2,7 @@
 ghost use Rattle.std.specs.Prelude.{◌≡◌, ◌⊎◌, IfOk, IfErr, IfSome};
 ghost use Rattle.hdt_wire.specs.Counted.{inner};
 ghost use Rattle.hdt_tool.specs.NewHeader.{IsNewHeaderFault, MakesNewHeader};
-ghost use Rattle.hdt_tool.specs.Outcomes.{ReadsWith};
+ghost use Rattle.hdt_tool.specs.Outcomes.{MakesFile, ReadsWith};
 ghost use Rattle.hdt_tool.specs.Status.{IsCommandStatus};
 
 use crate::command_line::is_block_size_given;
@@ -11,10 +11,10 @@ use crate::error_context::ErrorSource;
 use crate::error_lines::OUT_OF_MEMORY;
 use crate::fault::{ToolFault, file_fault};
 use crate::files::{is_stdin_path, open_input, output_path};
-use crate::output_file::write_made_file;
+use crate::output_file::{make_file_at, write_made_file};
 use crate::overwriting::{SameFile, refuse_same_file};
 use crate::printed_reports::counts_line;
-use crate::request::Request;
+use crate::request::{Invocation, Request};
 use crate::session::Session;
 use crate::split_files::{print_fault, print_line_fault};
 use crate::status::{borrow_strings, command_status, print_error_line};
@@ -87,9 +87,9 @@ fn block_size_status(rt: &HostRuntime, words: &io::Result<Vec<String>>) -> Optio
 }
 
 /// Runs `rewrite --header` with the header at a path, and returns the status. The header is read first, then IN, and
-/// then OUT is written, so OUT may be IN. (Contracts cannot describe the file system; tests/test_header.py checks this.)
+/// then OUT is written, so OUT may be IN. (Contracts can't describe the file system; tests/test_header.py checks this.)
 #[tactic(auto, using(crate::proofs::Statuses::refusal_status, crate::proofs::Statuses::command_status))]
-pub(crate) fn run_new_header(
+fn run_new_header(
     rt: &HostRuntime,
     source: ErrorSource<'_>,
     words: &io::Result<Vec<String>>,
@@ -124,5 +124,28 @@ pub(crate) fn run_new_header(
         rt,
         source,
         write_made_file(rt, session, output_path(out), &file, &line),
+    )
+}
+
+/// Runs a command with OUT, `build`, `rewrite` or `rewrite --header`, and returns the status.
+#[tactic(auto, using(crate::proofs::Statuses::command_status))]
+pub(crate) fn run_with_out(
+    rt: &HostRuntime,
+    source: ErrorSource<'_>,
+    words: &io::Result<Vec<String>>,
+    invocation: &Invocation,
+    out: &str,
+) -> u8
+    requires { MakesFile invocation.now.request.action }
+    ensures { IsCommandStatus result }
+{
+    let request = &invocation.request;
+    if let Some(header) = &invocation.header {
+        return run_new_header(rt, source, words, request, header.as_str(), out);
+    }
+    command_status(
+        rt,
+        source,
+        make_file_at(rt, source.session, request, output_path(out)),
     )
 }

@@ -31,12 +31,11 @@ use crate::error_context::{ErrorSource, is_terminal, print_context, print_term_c
 use crate::error_hints::print_prefix_hint;
 use crate::error_lines::{OUT_OF_MEMORY, fault_line, usage_line};
 use crate::fault::{ToolFault, UsageFault, file_fault};
-use crate::files::{open_input, output_path};
+use crate::files::open_input;
 use crate::lint::lint_path;
 use crate::merging::run_merge;
-use crate::new_header::run_new_header;
+use crate::new_header::run_with_out;
 use crate::non_term_status::{count_status, skipped_line};
-use crate::output_file::make_file_at;
 use crate::overwriting::{refuse_same_file, same_file};
 use crate::request::{Action, AnswerOptions, AnswerReport, Invocation, Request};
 use crate::session::Session;
@@ -236,8 +235,7 @@ fn print_shown(rt: &HostRuntime, message: &str) -> Result<(), AllocError> {
     Ok(())
 }
 
-/// Prints the message of a usage error, which may quote an argument, and returns its status; 4 if there is no memory
-/// for the message. Control characters of the argument do not reach a terminal.
+/// Prints a usage error, without control characters on a terminal. Returns its status, or 4 without memory for it.
 fn print_usage_line(rt: &HostRuntime, line: Result<(u8, String), AllocError>) -> u8
     ensures { MatchResult line (λ said. (result ≡ said.0) ⊎ (result ≡ 4)) (λ _. result ≡ 4) }
 {
@@ -375,12 +373,8 @@ pub fn process_status(rt: &HostRuntime, words: io::Result<Vec<String>>) -> u8
     if let Some(same) = same_file(rt, request) {
         return refuse_same_file(rt, same);
     }
-    if let (Some(out), Some(header)) = (&request.out, &invocation.header) {
-        return run_new_header(rt, source, &words, request, header.as_str(), out.as_str());
-    }
-    if let Some(path) = &request.out {
-        let path = output_path(path.as_str());
-        return command_status(rt, source, make_file_at(rt, &session, request, path));
+    if let Some(out) = &request.out {
+        return run_with_out(rt, source, &words, &invocation, out.as_str());
     }
     match &request.action {
         Action::Answer(options) => {

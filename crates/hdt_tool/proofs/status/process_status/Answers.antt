@@ -1,5 +1,5 @@
 use Rattle.std.proofs.Common.{map, string_bytes}
-use Rattle.hdt_tool.proofs.Statuses.{command_status, ends_with, refusal_status, was_given}
+use Rattle.hdt_tool.proofs.Statuses.{ends_with, refusal_status, was_given}
 use Rattle.hdt_tool.proofs.status.process_status.Goals as goal
 
 pub returns-in-Some-clause-given : goal.returns-in-Some-clause-given
@@ -12,9 +12,8 @@ returns-in-Some-clause-given c =
 pub returns-in-Some-out-clause-given : goal.returns-in-Some-out-clause-given
 returns-in-Some-out-clause-given c =
     ends_with (λ words. map string_bytes words.items) c.args.words c.parse_process_arguments.result c.in-Ok.invocation
-    c.command_status.result c.in-Ok.is
-    c.parse_process_arguments.ensures.ok c.parse_process_arguments.ensures.refused
-    (command_status c.make_file_at.result c.command_status.result c.command_status.ensures)
+    c.run_with_out.result c.in-Ok.is
+    c.parse_process_arguments.ensures.ok c.parse_process_arguments.ensures.refused c.run_with_out.ensures
 
 pub returns-in-Answer-clause-given : goal.returns-in-Answer-clause-given
 returns-in-Answer-clause-given c =
