@@ -18,7 +18,7 @@ use Rattle.hdt_tool.specs.Outcomes.{FailsAfter}
 use Rattle.hdt_tool.specs.Faults.{fault_of_reason, line_fault_of}
 use Rattle.hdt_tool.specs.Inside.AnswerLoop.{HasTakenLines}
 use Rattle.hdt_tool.specs.declared.fault.ToolFault.{ToolFault}
-use Rattle.hdt_tool.specs.declared.fault.ToolFault.TheVariants.{BadOptions, Read, Write, OutOfMemory}
+use Rattle.hdt_tool.specs.declared.fault.ToolFault.TheVariants.{Read, Write, OutOfMemory}
 use Rattle.std.specs.Io.KnownBytes.{Appends}
 use Rattle.std.specs.Prelude.{IfErr, IsErrOf, option_map}
 use Rattle.hdt_dict.specs.Strings.{BorrowedString}
@@ -32,7 +32,7 @@ use Rattle.hdt_tool.specs.NonTermText.{kept_format}
 use Rattle.hdt_tool.specs.TriplesText.{AppendsTriples, PrintsTriples}
 use Rattle.hdt_triples.specs.TripleSequences.{Triple}
 use Rattle.hdt_file.specs.Writable.{SkipsNonTerms}
-use Rattle.hdt_tool.specs.Dialogue.{AnswersKept, AnswersLine, AnswersLines, AnswersOverFileUntilFault, AnswersRequest}
+use Rattle.hdt_tool.specs.Dialogue.{AnswersKept, AnswersLine, AnswersLines, AnswersRequest}
 use Rattle.hdt_tool.specs.Dialogue.{AnswersUntilFault, AreFirstLines, FollowsLines, StopsAfterAnswers, RequestStrings}
 use Rattle.hdt_tool.specs.Dialogue.{bounded_request_in, ended, given_strings, is_count, joined_reports, max_input_bytes}
 use Rattle.hdt_tool.specs.Dialogue.{plain_report, skips_in}
@@ -363,19 +363,3 @@ lent_given (i ∷ []) s p o x y z a b c n one two last = absurd (omega arith)
 lent_given (i ∷ j ∷ []) s p o x y z a b c n one two last = absurd (omega arith)
 lent_given (i ∷ j ∷ k ∷ []) s p o x y z a b c n one two last = rw (one, two, last) refl
 lent_given (i ∷ j ∷ k ∷ l ∷ rest) s p o x y z a b c n one two last = absurd (omega arith)
-
--- A write that failed while answering is a failure of the writer.
-pub write_failed : (options : AnswerOptions) (file_before file_after input after a b : Option (List ℕ)) (f g : ℕ)
-    (e : ToolFault) (n : ℕ) → e ≡ Write n
-    → AnswersOverFileUntilFault options file_before file_after input after a b f g e → g ≡ f + 1
-write_failed options file_before file_after input after a b f g e n same h =
-    let over = subst (AnswersOverFileUntilFault options file_before file_after input after a b f g) same h in
-    over.holds.holds.stopped.failed
-
--- Answers do not end for options that are not valid.
-pub answers_accept_options : (options : AnswerOptions) (file_before file_after input after a b : Option (List ℕ))
-    (f g : ℕ) (e : ToolFault) → e ≡ BadOptions
-    → AnswersOverFileUntilFault options file_before file_after input after a b f g e → ⊥
-answers_accept_options options file_before file_after input after a b f g e is h =
-    let over = subst (AnswersOverFileUntilFault options file_before file_after input after a b f g) is h in
-    over.holds.holds.stopped

@@ -2,7 +2,6 @@
 -- `after` are what the reader still yields before and after the run.
 use Rattle.std.specs.Prelude.{◌≡◌, ◌≢◌, ◌<◌, ◌≤◌, ◌+◌, ℕ, true, false, List, [], ◌++◌, length, take, Option, None, Some}
 use Rattle.std.specs.Prelude.{Err, MatchOption, codes}
-use Rattle.std.specs.Fmt.{decimal}
 use Rattle.std.specs.Io.KnownBytes.{Appends, Consumes, IsAtEnd}
 use Rattle.hdt_wire.specs.declared.fault.Fault.{Fault}
 use Rattle.hdt_file.specs.Head.{HeadParts, IsHead, decode_head}
@@ -31,7 +30,6 @@ use Rattle.hdt_tool.specs.declared.request.Action.TheVariants.{ListStrings, Nth,
 use Rattle.hdt_tool.specs.declared.request.Action.TheVariants.{Exists, Count, Answer, Build, Rewrite, Info, Lint}
 use Rattle.hdt_tool.specs.declared.request.Action.TheVariants.{Merge, Split}
 use Rattle.hdt_tool.specs.PrintedReports.{built_line, rewritten_line, head_text, verdict}
-use Rattle.hdt_tool.specs.ErrorLines.{fault_status}
 use Rattle.hdt_tool.specs.Info.{PrintsInfo}
 use Rattle.hdt_tool.specs.StringsText.{string_lines, PrintsString, PrintsNumber}
 use Rattle.hdt_tool.specs.ListedStrings.{HasUnlistedTerm, PrintsListed}
@@ -297,20 +295,6 @@ pub record WritesWithCount (action : Action) (before after written_before writte
   pub prints : ReadsWith before after (λ bytes. PrintsWithCount action bytes text n)
   pub written : Appends written_before written_after text
 
--- The same, and the command counts something.
-abbrev pub WritesAndCounts : Action → Option (List ℕ) → Option (List ℕ) → Option (List ℕ) → Option (List ℕ) → Type 0
-WritesAndCounts action before after written_before written_after = (n : ℕ) × (n ≢ 0)
-    × WritesWithCount action before after written_before written_after n
-
--- The message on standard error with the number of triples that were skipped.
-abbrev pub skipped_line : ℕ → List ℕ
-skipped_line n = codes "hdt: triples skipped: " ++ decimal n
-
--- The message on standard error with the number of strings or triples.
-abbrev pub counted_line : Action → ℕ → List ℕ
-counted_line (VerifyTerms tight) n = codes "hdt: strings that are not terms: " ++ decimal n
-counted_line action n = skipped_line n
-
 -- An error that a command with OUT may end with: no look-up fails.
 abbrev pub IsFileMakingFault : ToolFault → Type 0
 IsFileMakingFault NoSuchTerm = ⊥
@@ -363,11 +347,3 @@ pub record InterruptsOutput (action : Action) (before after written_before writt
   pub printed : ReadsWith before after (λ bytes. Prints action bytes text)
   pub well : failed_after ≡ failed_before
   pub written : AppendsPrefix written_before written_after text
-
--- ---- errors of status 1
-
--- The command has an error of status 1 for the input.
-pub record HasInputFault (action : Action) (before after : Option (List ℕ)) : Type 0 where
-  pub fault : ToolFault
-  pub status : fault_status fault ≡ 1
-  pub is_fault : IsFaultOfInput action before after fault

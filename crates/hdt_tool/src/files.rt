@@ -1,7 +1,8 @@
 //! Opening files, and comparing paths by the file that they lead to.
-ghost use Rattle.std.specs.Prelude.{◌≡◌, ◌≢◌, ◌↔◌, ◌≤ℤ◌, pos, IfOk, IfSome, IsTrue, codes};
+ghost use Rattle.std.specs.Prelude.{◌≡◌, ◌≢◌, ◌↔◌, ◌≤ℤ◌, ◌⊎◌, pos, IfErr, IfOk, IfSome, IsTrue, codes};
 ghost use Rattle.hdt_tool.specs.Paths.{IsStdinPath};
 
+use crate::fault::{ToolFault, file_fault};
 use crate::progress::ProgressReader;
 use crate::session::Session;
 use std::fs::{self, File, OpenFile};
@@ -99,8 +100,13 @@ pub(crate) fn open_input<'a>(
     rt: &HostRuntime,
     path: &str,
     session: &'a Session<'a>,
-) -> io::Result<ProgressReader<'a, Source>> {
-    let source = session.note_error(Source::open(rt, path))?;
+) -> Result<ProgressReader<'a, Source>, ToolFault>
+    ensures { IfErr result (λ fault. (fault ≡ ToolFault.OutOfMemory) ⊎ (fault ≡ ToolFault.Read)) }
+{
+    let source = match session.note_error(Source::open(rt, path)) {
+        Ok(source) => source,
+        Err(error) => return Err(file_fault(&error, ToolFault::Read)),
+    };
     let size = source.size(rt);
     Ok(ProgressReader::new(source, session, size))
 }

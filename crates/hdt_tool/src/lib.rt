@@ -18,8 +18,8 @@
 //! - `commands`: all commands, from a reader to a writer; `lint`: the one with two writers;
 //! - `split_arguments`, `splitting`: the command `split`;
 //! - `merge_arguments`: reading the arguments of the command `merge`;
-//! - `error_lines` and `non_term_status`: exit statuses and messages; `error_context`, `error_hints` and
-//!   `error_strings`: the lines that follow a message;
+//! - `error_lines` and `outcome`: exit statuses and messages; `error_context`, `error_hints` and `error_strings`: the
+//!   lines that follow a message;
 //! - `line_limit`: documents whose lines may not be longer than a limit;
 //! - `session`: what a command shows on standard error beside its message; `progress`, `progress_text`, `watched` and
 //!   `recent_lines`: its parts;
@@ -46,8 +46,8 @@ mod lint;
 mod listed_strings;
 mod merge_arguments;
 mod merging;
-mod non_term_status;
 mod non_term_text;
+mod outcome;
 mod output_file;
 mod overwriting;
 mod pending_output;

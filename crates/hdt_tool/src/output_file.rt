@@ -125,10 +125,7 @@ pub(crate) fn make_file_at(
     let mut built = Vec::new(rt.alloc());
     // The input is closed before OUT is opened, so one descriptor is enough.
     let line = {
-        let input = open_input(rt, request.file.as_str(), session).map_err(|error| file_fault(
-            &error,
-            ToolFault::Read,
-        ))?;
+        let input = open_input(rt, request.file.as_str(), session)?;
         let capacity = input.capacity();
         let mut input = Counted::new(LineLimit::new(input, session));
         let outcome = make_file(
