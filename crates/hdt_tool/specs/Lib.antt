@@ -6,6 +6,7 @@ pub mod TermCounts
 pub mod NonTermText
 pub mod InfoText
 pub mod Info
+pub mod Changes
 pub mod Outcomes
 pub mod Dialogue
 pub mod Faults

@@ -21,8 +21,8 @@
 //! - `error_lines` and `outcome`: exit statuses and messages; `error_context`, `error_hints` and `error_strings`: the
 //!   lines that follow a message;
 //! - `line_limit`: documents whose lines may not be longer than a limit;
-//! - `session`: what a command shows on standard error beside its message; `progress`, `progress_text`, `watched` and
-//!   `recent_lines`: its parts;
+//! - `session`: what a command shows on standard error beside its message; `progress`, `progress_text`,
+//!   `session_stream` and `recent_lines`: its parts;
 //! - `files`, `overwriting`, `atomic_replace`, `output_file`, `split_parts`, `split_files` and `status`: the same over
 //!   files and streams.
 #![tactic(auto)]
@@ -61,12 +61,12 @@ mod queries;
 mod recent_lines;
 mod request;
 mod session;
+mod session_stream;
 mod split_arguments;
 mod split_files;
 mod split_parts;
 mod splitting;
 mod status;
-mod watched;
 
 pub use command_line::{parse_invocation, parse_words};
 pub use commands::{answer_file, print_output, run};

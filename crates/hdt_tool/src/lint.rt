@@ -2,6 +2,7 @@
 ghost use Rattle.std.specs.Prelude.{◌≡◌, ◌≢◌, ◌⊎◌, ◌+◌, ℕ, IfOk, IfErr, IsErrOf, OnOk, ◌<◌, ◌^◌};
 ghost use Rattle.hdt_wire.specs.Counted.{inner, failures};
 ghost use Rattle.hdt_terms.specs.Lint.{GainsBytes};
+ghost use Rattle.hdt_tool.specs.Changes.{change};
 ghost use Rattle.hdt_tool.specs.Linting.{IsAny, Lints, LintsUntilError, longest_line, most_faulty};
 
 use crate::error_context::ErrorSource;
@@ -52,9 +53,19 @@ fn is_any(count: u64) -> bool
     count > 0
 }
 
-/// Checks every line of a document and reports each faulty one to `reported`, as [`lint_document`] does. Returns
-/// whether there are any. With `keep`, writes the lines without an error to `kept`. Stops after `most` faulty lines, if
-/// that is given. A line of more than `longest` bytes, without its end, is faulty, if that is given.
+/// What `lint` checks and prints.
+#[derive(Clone, Copy)]
+pub(crate) struct LintOptions {
+    /// The greatest number of bytes of a line, without its end; `None` for no limit.
+    longest: Option<u64>,
+    /// Whether the lines without an error are printed.
+    keep: bool,
+    /// The number of faulty lines after which to stop; `None` for no limit.
+    most: Option<u64>,
+}
+
+/// Checks the lines of a document and reports each faulty one to `reported`, as [`lint_document`] does. Returns whether
+/// there are any. Writes the lines without an error to `kept`, if they are wanted.
 ///
 /// # Errors
 ///
@@ -62,17 +73,14 @@ fn is_any(count: u64) -> bool
 /// has 2^63 bytes or more, and [`ToolFault::OutOfMemory`].
 pub(crate) fn lint_input<R: Read, K: Write, T: Write>(
     alloc: Global,
-    longest: Option<u64>,
-    keep: bool,
-    most: Option<u64>,
+    options: LintOptions,
     input: &mut Counted<R>,
     kept: &mut Counted<K>,
     reported: &mut Counted<T>,
 ) -> Result<bool, ToolFault>
     // All lines were checked, or those up to the last of `most` faulty ones; the result is whether any is faulty.
-    ensures ok { IfOk result (Lints longest keep most (R.remaining (inner input.old)) (K.contents (inner kept.old))
-        (K.contents (inner kept.new))
-        (T.contents (inner reported.old)) (T.contents (inner reported.new))) }
+    ensures ok { IfOk result (Lints options (change R.remaining input.old input.new)
+        (change K.contents kept.old kept.new) (change T.contents reported.old reported.new)) }
     ensures writers_unfailed { OnOk result ((failures kept.new ≡ failures kept.old)
         × (failures reported.new ≡ failures reported.old)) }
     // `Write(n)`: one of them failed once in this call, after it had gained n bytes, and the other one did not fail.
@@ -83,16 +91,15 @@ pub(crate) fn lint_input<R: Read, K: Write, T: Write>(
         × GainsBytes n (T.contents (inner reported.old)) (T.contents (inner reported.new)))) }
     // The writers have gained a prefix of the output for some first lines; all lines before one that cannot be read.
     ensures stopped { IfErr result
-        (LintsUntilError longest keep (R.remaining (inner input.old)) (R.remaining (inner input.new))
-        (K.contents (inner kept.old))
-        (K.contents (inner kept.new)) (T.contents (inner reported.old)) (T.contents (inner reported.new))) }
+        (LintsUntilError options (change R.remaining input.old input.new)
+        (change K.contents kept.old kept.new) (change T.contents reported.old reported.new)) }
     // `Read`: the reader failed once in this call. With any other result it did not fail.
     ensures read { IsErrOf result ToolFault.Read → failures input.new ≡ failures input.old + 1 }
     ensures reader_unfailed { OnOk result (failures input.new ≡ failures input.old) }
     ensures reader_reported { IfErr result (λ e. e ≢ ToolFault.Read → failures input.new ≡ failures input.old) }
 {
-    let (longest, most) = (longest_line(longest), most_faulty(most));
-    let count = lint_document(alloc, longest, keep, most, input, kept, reported)?;
+    let (longest, most) = (longest_line(options.longest), most_faulty(options.most));
+    let count = lint_document(alloc, longest, options.keep, most, input, kept, reported)?;
     Ok(is_any(count))
 }
 
@@ -106,30 +113,18 @@ pub(crate) fn lint_path(
     most: Option<u64>,
 ) -> Result<bool, ToolFault> {
     let session = source.session;
-    let (alloc, longest) = (rt.alloc(), session.longest_line());
+    let options = LintOptions {
+        longest: session.longest_line(),
+        keep,
+        most,
+    };
     let mut input = Counted::new(open_input(rt, path, session)?);
     let mut out = Counted::new(session.watch(io::writer(rt)));
     let mut errors = Counted::new(session.watch(rt.stderr()));
     let faulty = if keep {
-        lint_input(
-            alloc,
-            longest,
-            true,
-            most,
-            &mut input,
-            &mut out,
-            &mut errors,
-        )?
+        lint_input(rt.alloc(), options, &mut input, &mut out, &mut errors)?
     } else {
-        lint_input(
-            alloc,
-            longest,
-            false,
-            most,
-            &mut input,
-            &mut errors,
-            &mut out,
-        )?
+        lint_input(rt.alloc(), options, &mut input, &mut errors, &mut out)?
     };
     if faulty {
         session.clear();

@@ -5,6 +5,7 @@ ghost use Rattle.hdt_build.specs.Built.{IsBuilt};
 ghost use Rattle.hdt_build.specs.Layouts.{denoted_by};
 ghost use Rattle.hdt_build.specs.Options.{AreValidOptions};
 ghost use Rattle.hdt_build.specs.declared.options.Report.{Report};
+ghost use Rattle.hdt_tool.specs.Changes.{change};
 ghost use Rattle.hdt_tool.specs.Outcomes.{IsFaultOfInput, IsLayoutWith, ReadsWith};
 ghost use Rattle.hdt_tool.specs.PrintedReports.{counts_line};
 ghost use Rattle.hdt_tool.specs.declared.request.Action.TheVariants as Action;
@@ -31,11 +32,11 @@ fn add_file<R: Read>(
     input: &mut Counted<R>,
     capacity: usize,
 ) -> Result<Merger, ToolFault>
-    ensures ok { IfOk result (λ made. ReadsWith (R.remaining (inner input.old)) (R.remaining (inner input.new))
+    ensures ok { IfOk result (λ made. ReadsWith (change R.remaining input.old input.new)
         (λ bytes. IsLayoutWith bytes (λ graph. made ≡ merger ++ denoted_by graph))) }
     ensures some { IfOk result (λ made. 0 < length made) }
     ensures reported { IfErr result
-        (IsFaultOfInput Action.Verify (R.remaining (inner input.old)) (R.remaining (inner input.new))) }
+        (IsFaultOfInput Action.Verify (change R.remaining input.old input.new)) }
 {
     let bytes = read_all(alloc, input, capacity)?;
     let graph = open(alloc, &bytes)?;
