@@ -95,7 +95,18 @@ impl Read for Source {
     }
 }
 
-/// Opens the input, which reports its progress.
+/// Opens an input, which reports its progress.
+pub(crate) fn open_reader<'a>(
+    rt: &HostRuntime,
+    path: &str,
+    session: &'a Session<'a>,
+) -> io::Result<ProgressReader<'a, Source>> {
+    let source = session.note_error(Source::open(rt, path))?;
+    let size = source.size(rt);
+    Ok(ProgressReader::new(source, session, size))
+}
+
+/// Opens the input of a command, as [`open_reader`] does.
 pub(crate) fn open_input<'a>(
     rt: &HostRuntime,
     path: &str,
@@ -103,12 +114,10 @@ pub(crate) fn open_input<'a>(
 ) -> Result<ProgressReader<'a, Source>, ToolFault>
     ensures { IfErr result (λ fault. (fault ≡ ToolFault.OutOfMemory) ⊎ (fault ≡ ToolFault.Read)) }
 {
-    let source = match session.note_error(Source::open(rt, path)) {
-        Ok(source) => source,
-        Err(error) => return Err(file_fault(&error, ToolFault::Read)),
-    };
-    let size = source.size(rt);
-    Ok(ProgressReader::new(source, session, size))
+    match open_reader(rt, path, session) {
+        Ok(reader) => Ok(reader),
+        Err(error) => Err(file_fault(&error, ToolFault::Read)),
+    }
 }
 
 /// The identity of a file on this system.

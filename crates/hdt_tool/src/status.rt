@@ -17,6 +17,7 @@ ghost use Rattle.hdt_tool.specs.CommandLine.{IsRefused, IsUsageText, ParsesToInv
 ghost use Rattle.hdt_tool.specs.ErrorLines.{usage_status};
 ghost use Rattle.hdt_tool.specs.Status.{ExitsWith, IsRefusalStatus};
 
+use crate::building_inputs::run_build_inputs;
 use crate::command_line::parse_invocation;
 use crate::commands::{answer_file, print_output};
 use crate::error_context::{ErrorSource, is_terminal, print_term_context};
@@ -26,6 +27,7 @@ use crate::fault::{ToolFault, UsageFault};
 use crate::files::{open_input, output_path};
 use crate::lint::lint_path;
 use crate::merging::run_merge;
+use crate::new_header::run_new_header;
 use crate::outcome::{Outcome, exit_status, print_error_line};
 use crate::output_file::make_file_at;
 use crate::overwriting::{refuse_same_file, same_file};
@@ -43,7 +45,10 @@ const NOT_UTF8_MESSAGE: &str = "error: an argument is not UTF-8
 For more information, try '--help'.";
 
 /// Borrows each argument as a text.
-fn borrow_strings<'a>(alloc: Global, words: &'a [String]) -> Result<Vec<&'a str>, AllocError>
+pub(crate) fn borrow_strings<'a>(
+    alloc: Global,
+    words: &'a [String],
+) -> Result<Vec<&'a str>, AllocError>
     ensures { IfOk result (λ texts. map (λ text. text.now) texts.items ≡ map string_bytes words.now) }
 {
     let mut texts = Vec::new(alloc);
@@ -204,6 +209,9 @@ fn query_status(rt: &HostRuntime, source: ErrorSource<'_>, request: &Request) ->
         Action::Lint { keep, most } => Outcome::of_lint(lint_path(rt, source, path, *keep, *most)),
         Action::Split(options) => return run_split(rt, source, request, options),
         Action::Merge(options) => return run_merge(rt, source, request, options),
+        Action::BuildInputs(options, blank_nodes) => {
+            return run_build_inputs(rt, source, request, options, *blank_nodes);
+        }
         action => Outcome::of_count(action, print_to_stdout(rt, session, request)),
     };
     let status = exit_status(rt, source, outcome);
@@ -211,8 +219,8 @@ fn query_status(rt: &HostRuntime, source: ErrorSource<'_>, request: &Request) ->
     status
 }
 
-/// Runs a command, and returns the status.
-fn command_status(rt: &HostRuntime, invocation: &Invocation) -> u8
+/// Runs the command that the arguments of the process ask for, and returns the status.
+fn command_status(rt: &HostRuntime, words: &io::Result<Vec<String>>, invocation: &Invocation) -> u8
     requires { HasOut invocation.now.request }
     ensures { result ≤ 4 }
 {
@@ -225,6 +233,9 @@ fn command_status(rt: &HostRuntime, invocation: &Invocation) -> u8
     let Some(path) = &request.out else {
         return query_status(rt, source, request);
     };
+    if let Some(header) = &invocation.header {
+        return run_new_header(rt, source, words, request, header.as_str(), path.as_str());
+    }
     let made = make_file_at(rt, &session, request, output_path(path.as_str()));
     exit_status(rt, source, Outcome::of_file(made))
 }
@@ -240,7 +251,7 @@ pub fn process_status(rt: &HostRuntime, words: io::Result<Vec<String>>) -> u8
     ensures other { IfErr words (λ error. error_kind error ≢ ErrorKind.OutOfMemory → (result ≡ 2) ⊎ (result ≡ 4)) }
 {
     match parse_process_arguments(rt.alloc(), &words) {
-        Ok(invocation) => command_status(rt, &invocation),
+        Ok(invocation) => command_status(rt, &words, &invocation),
         Err(fault) => refusal_status(rt, &words, fault),
     }
 }
