@@ -18,7 +18,7 @@ use Rattle.hdt_tool.specs.TriplesText.{GivenStrings, IsFindFault, PrintsFound, f
 use Rattle.hdt_wire.specs.declared.Role.{Role}
 use Rattle.hdt_file.specs.File.{GraphParts, IsLayout}
 use Rattle.hdt_dict.specs.Dictionary.{role_strings}
-use Rattle.hdt_tool.specs.Changes.{Change, FailsAfter, GainsPrefix, HasFailed, IsUnfailed}
+use Rattle.hdt_tool.specs.Changes.{Change, FailsAfter, GainsBeginning, HasFailed, IsUnfailed}
 use Rattle.hdt_tool.specs.Outcomes.{WritesOutputPrefix, PrintsInPieces}
 use Rattle.hdt_tool.specs.Outcomes.{InterruptsOutput, IsCutShort, IsFaultOfBytes, IsFaultOfInput, Prints, ReadsAll}
 use Rattle.hdt_tool.specs.Outcomes.{PrintsCountingNonTerms}
@@ -35,7 +35,7 @@ PiecesOutcome action bytes e Same out = (IsFaultOfBytes action bytes e × Same)
 
 -- An error other than a write error.
 memory_cut : (fault : ToolFault) (text : List ℕ) (out : Change) → IsCutShort fault text out
-    → ((n : ℕ) → fault ≢ Write n) → (fault ≡ OutOfMemory) × IsUnfailed out × GainsPrefix out text
+    → ((n : ℕ) → fault ≢ Write n) → (fault ≡ OutOfMemory) × IsUnfailed out × GainsBeginning out text
 memory_cut (Write n) text out h none = absurd (none n refl)
 memory_cut OutOfMemory text out h none = (refl, h.0, h.1)
 memory_cut fault text out h none = absurd h

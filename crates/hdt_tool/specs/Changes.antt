@@ -26,8 +26,8 @@ abbrev pub Gains : Change → List ℕ → Type 0
 Gains out text = Appends out.before out.after text
 
 -- It has gained a prefix of the text.
-abbrev pub GainsPrefix : Change → List ℕ → Type 0
-GainsPrefix out text = (n : ℕ) × Gains out (take n text)
+abbrev pub GainsBeginning : Change → List ℕ → Type 0
+GainsBeginning out text = (n : ℕ) × Gains out (take n text)
 
 -- The reader or writer has not failed.
 abbrev pub IsUnfailed : Change → Type 0

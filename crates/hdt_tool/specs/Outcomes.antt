@@ -29,7 +29,7 @@ use Rattle.hdt_tool.specs.declared.request.Action.TheVariants.{ListStrings, Nth,
 use Rattle.hdt_tool.specs.declared.request.Action.TheVariants.{Exists, Count, Answer, Build, Rewrite, Info, Lint}
 use Rattle.hdt_tool.specs.declared.request.Action.TheVariants.{BuildInputs, Merge, Split}
 use Rattle.hdt_tool.specs.PrintedReports.{built_line, rewritten_line, head_text, verdict}
-use Rattle.hdt_tool.specs.Changes.{Change, FailsAfter, Gains, GainsPrefix, IsUnfailed}
+use Rattle.hdt_tool.specs.Changes.{Change, FailsAfter, Gains, GainsBeginning, IsUnfailed}
 use Rattle.hdt_tool.specs.Info.{PrintsInfo}
 use Rattle.hdt_tool.specs.StringsText.{string_lines, PrintsString, PrintsNumber}
 use Rattle.hdt_tool.specs.ListedStrings.{HasUnlistedTerm, PrintsListed}
@@ -328,7 +328,7 @@ IsReplaceFault built fault = ⊥
 -- Writing the text in pieces failed: the writer failed, or memory ran out after a prefix of the text.
 abbrev pub IsCutShort : ToolFault → List ℕ → Change → Type 0
 IsCutShort (Write n) text out = FailsAfter n text out
-IsCutShort OutOfMemory text out = IsUnfailed out × GainsPrefix out text
+IsCutShort OutOfMemory text out = IsUnfailed out × GainsBeginning out text
 IsCutShort fault text out = ⊥
 
 -- Memory ran out while a command printed in pieces: the writer has gained a prefix of its output for the input, and did
@@ -338,4 +338,4 @@ pub record InterruptsOutput (action : Action) (input out : Change) : Type 0 wher
   pub text : List ℕ
   pub printed : ReadsWith input (λ bytes. Prints action bytes text)
   pub well : IsUnfailed out
-  pub written : GainsPrefix out text
+  pub written : GainsBeginning out text
