@@ -14,11 +14,12 @@ use Rattle.hdt_terms.specs.declared.fault.LineFault.{LineFault}
 use Rattle.hdt_terms.specs.declared.fault.LineReason.{LineReason}
 use Rattle.hdt_terms.specs.declared.fault.LineReason.TheVariants as reasons
 use Rattle.hdt_terms.specs.declared.fault.TermFault.{TermFault}
-use Rattle.hdt_tool.specs.Outcomes.{FailsAfter}
+use Rattle.hdt_tool.specs.Changes.{Change, FailsAfter, Gains, IsUnfailed}
+use Rattle.hdt_tool.proofs.Pieces.{step}
 use Rattle.hdt_tool.specs.Faults.{fault_of_reason, line_fault_of}
 use Rattle.hdt_tool.specs.Inside.AnswerLoop.{HasTakenLines}
 use Rattle.hdt_tool.specs.declared.fault.ToolFault.{ToolFault}
-use Rattle.hdt_tool.specs.declared.fault.ToolFault.TheVariants.{BadOptions, Read, Write, OutOfMemory}
+use Rattle.hdt_tool.specs.declared.fault.ToolFault.TheVariants.{Read, Write, OutOfMemory}
 use Rattle.std.specs.Io.KnownBytes.{Appends}
 use Rattle.std.specs.Prelude.{IfErr, IsErrOf, option_map}
 use Rattle.hdt_dict.specs.Strings.{BorrowedString}
@@ -32,10 +33,11 @@ use Rattle.hdt_tool.specs.NonTermText.{kept_format}
 use Rattle.hdt_tool.specs.TriplesText.{AppendsTriples, PrintsTriples}
 use Rattle.hdt_triples.specs.TripleSequences.{Triple}
 use Rattle.hdt_file.specs.Writable.{SkipsNonTerms}
-use Rattle.hdt_tool.specs.Dialogue.{AnswersKept, AnswersLine, AnswersLines, AnswersOverFileUntilFault, AnswersRequest}
+use Rattle.hdt_tool.specs.Dialogue.{AnswersKept, AnswersLine, AnswersLines, AnswersRequest}
 use Rattle.hdt_tool.specs.Dialogue.{AnswersUntilFault, AreFirstLines, FollowsLines, StopsAfterAnswers, RequestStrings}
-use Rattle.hdt_tool.specs.Dialogue.{bounded_request_in, ended, given_strings, is_count, joined_reports, max_input_bytes}
-use Rattle.hdt_tool.specs.Dialogue.{plain_report, skips_in}
+use Rattle.hdt_tool.specs.Dialogue.{bounded_request_in, given_strings, is_count, joined_reports, max_input_bytes}
+use Rattle.hdt_tool.specs.Dialogue.{with_empty_line}
+use Rattle.hdt_tool.specs.Dialogue.{plain_report, skips, skips_in}
 
 -- Reports are joined in any order.
 abbrev made : Bool → ℕ → AnswerReport
@@ -89,18 +91,18 @@ kept_format_is skip NTriples h = refl
 kept_format_is skip Numbers h = absurd cc
 kept_format_is skip Count h = refl
 
-pub kept_answered : (g : GraphParts) (format : OutputFormat) (skip count : Bool) (most : Option ℕ)
-    (found kept printed : List Triple) (n : ℕ) (old mid new : List ℕ) → count ≡ is_count format
-    → skips_in skip format ≡ true
-    → SkipsNonTerms g most found kept n → printed ≡ kept → AppendsTriples (kept_format count) g printed old mid
-    → new ≡ mid ++ 10 ∷ []
-    → (answer : List ℕ) × AnswersKept format g most found n answer × (new ≡ old ++ answer)
-kept_answered g format skip count most found kept printed n old mid new counts skips skipped same appends ended_is =
+pub kept_answered : (g : GraphParts) (options : AnswerOptions) (count : Bool) (found kept printed : List Triple)
+    (n : ℕ) (old mid new : List ℕ) → count ≡ is_count options.format → skips options ≡ true
+    → SkipsNonTerms g options.most found kept n → printed ≡ kept
+    → AppendsTriples (kept_format count) g printed old mid → new ≡ mid ++ 10 ∷ []
+    → (answer : List ℕ) × AnswersKept g options found n answer × (new ≡ old ++ answer)
+kept_answered g options count found kept printed n old mid new counts skipping skipped same appends ended_is =
     let prints =
-    subst (λ (f : OutputFormat). PrintsTriples f g kept appends.text) (kept_format_is skip format skips)
+    subst (λ (f : OutputFormat). PrintsTriples f g kept appends.text)
+    (kept_format_is options.skip options.format skipping)
     (subst (λ (b : Bool). PrintsTriples (kept_format b) g kept appends.text) counts
     (subst (λ (ts : List Triple). PrintsTriples (kept_format count) g ts appends.text) same appends.prints)) in (
-      ended appends.text,
+      with_empty_line appends.text,
       (kept, skipped, (appends.text, prints, refl)),
       ended_is ∙ ap (λ (x : List ℕ). x ++ 10 ∷ []) appends.appended ∙ append_assoc old appends.text (10 ∷ []),
     )
@@ -176,11 +178,11 @@ ended_fault P (Err fault) e = absurd cc
 -- ---- errors that end the answers
 
 -- A line that could not be read.
-pub stopped_by : (fault : LineFault) (reason : LineReason) (text : List ℕ) (a b : Option (List ℕ)) (f h : ℕ) → h ≡ f
-    → Appends a b text → StopsAfterAnswers (fault_of_reason fault reason) text a b f h
-stopped_by fault reasons.Read text a b f h same gained = (same, gained)
-stopped_by fault reasons.OutOfMemory text a b f h same gained = (same, gained)
-stopped_by fault reason text a b f h same gained = (same, gained)
+stopped_by : (fault : LineFault) (reason : LineReason) (text : List ℕ) (out : Change) → IsUnfailed out
+    → Gains out text → StopsAfterAnswers (fault_of_reason fault reason) text out
+stopped_by fault reasons.Read text out same gained = (same, gained)
+stopped_by fault reasons.OutOfMemory text out same gained = (same, gained)
+stopped_by fault reason text out same gained = (same, gained)
 
 read_fault : (fault : LineFault) → fault.reason ≡ reasons.Read → fault.column ≡ 0
     → fault ≡ record { line = fault.line; column = 0; reason = reasons.Read }
@@ -189,15 +191,18 @@ read_fault fault is none = ap (λ k. record { line = fault.line; column = k; rea
 
 -- The error occurs after the lines that were answered. Of the errors of reading a line, only `TooLong` is an error of
 -- the input.
-pub stopped_behind : (fault : LineFault) (reason : LineReason) (input given : Option (List ℕ))
-    (lines : List (ℕ × List ℕ)) → fault.reason ≡ reason → FaultAfterLines fault max_input_bytes input given lines
-    → FollowsLines (fault_of_reason fault reason) input given lines
-stopped_behind fault reasons.Read input given lines is h =
-    (fault.line, subst (λ f. FaultAfterLines f max_input_bytes input given lines) (read_fault fault is h.column) h)
-stopped_behind fault reasons.OutOfMemory input given lines is h = tt
-stopped_behind fault reasons.TooLong input given lines is h = (is, h)
-stopped_behind fault reason input given lines is h =
-    absurd (subst (λ (r : LineReason). IsUnreadLineError r (length h.front) max_input_bytes h.left given) is h.fault_is)
+stopped_behind : (fault : LineFault) (reason : LineReason) (input : Change) (lines : List (ℕ × List ℕ))
+    → fault.reason ≡ reason → FaultAfterLines fault max_input_bytes input.before input.after lines
+    → FollowsLines (fault_of_reason fault reason) input lines
+stopped_behind fault reasons.Read input lines is h = (
+  fault.line,
+  subst (λ f. FaultAfterLines f max_input_bytes input.before input.after lines) (read_fault fault is h.column) h,
+)
+stopped_behind fault reasons.OutOfMemory input lines is h = tt
+stopped_behind fault reasons.TooLong input lines is h = (is, h)
+stopped_behind fault reason input lines is h =
+    absurd (subst (λ (r : LineReason). IsUnreadLineError r (length h.front) max_input_bytes h.left input.after) is
+    h.fault_is)
 
 -- The error of a line is `Read` only if the reader failed.
 reader_failed_by : (fault : LineFault) (reason : LineReason) → fault_of_reason fault reason ≡ Read
@@ -214,7 +219,7 @@ reader_failed {T} fault e is h =
 
 -- The writer fails after m bytes of one more answer.
 pub fails_on : (a b c : Option (List ℕ)) (text answer : List ℕ) (n m f g h : ℕ) → n ≡ length text → Appends a b text
-    → g ≡ f → FailsAfter m answer b c g h → FailsAfter (n + m) (text ++ answer) a c f h
+    → g ≡ f → FailsAfter m answer (step b c g h) → FailsAfter (n + m) (text ++ answer) (step a c f h)
 fails_on a b c text answer n m f g h count one same fails = record {
   failed = fails.failed ∙ ap (λ k. k + 1) same;
   within = omega (arith, count, fails.within, length-append text answer);
@@ -248,57 +253,59 @@ pub gained_all : (a b c : Option (List ℕ)) (text pending : List ℕ) (n : ℕ)
 gained_all a b c text pending n h one = subst (Appends a c) (sym h.1) (Appends-trans a b c h.0 pending h.2 one)
 
 -- The writer failed within the pending answers.
-pub cut_pending : (g : GraphParts) (options : AnswerOptions) (input given a b c : Option (List ℕ))
+pub cut_pending : (g : GraphParts) (options : AnswerOptions) (input : Change) (a b c : Option (List ℕ))
     (lines : List (ℕ × List ℕ)) (report : AnswerReport) (text pending : List ℕ) (n f d h : ℕ) (e : ToolFault)
-    → AreFirstLines input lines → AnswersLines g options lines report text → GainedButFor a b text pending n → d ≡ f
-    → ((m : ℕ) × (e ≡ Write (n + m)) × FailsAfter m pending b c d h) → AnswersUntilFault g options input given a c f h e
-cut_pending g options input given a b c lines report text pending n f d h e some all gained same cut = record {
+    → AreFirstLines input.before lines → AnswersLines g options lines report text → GainedButFor a b text pending n
+    → d ≡ f → ((m : ℕ) × (e ≡ Write (n + m)) × FailsAfter m pending (step b c d h))
+    → AnswersUntilFault g options input (step a c f h) e
+cut_pending g options input a b c lines report text pending n f d h e some all gained same cut = record {
   lines = lines;
   are = some;
-  behind = subst (λ (t : ToolFault). FollowsLines t input given lines) (sym cut.1) tt;
+  behind = subst (λ (t : ToolFault). FollowsLines t input lines) (sym cut.1) tt;
   report = report;
   text = text;
   answers = all;
   stopped =
-      subst (λ (t : ToolFault). StopsAfterAnswers t text a c f h) (sym cut.1)
-      (subst (λ t. FailsAfter (n + cut.0) t a c f h) (sym gained.1)
+      subst (λ (t : ToolFault). StopsAfterAnswers t text (step a c f h)) (sym cut.1)
+      (subst (λ t. FailsAfter (n + cut.0) t (step a c f h)) (sym gained.1)
       (fails_on a b c gained.0 pending n cut.0 f d h gained.3 gained.2 same cut.2));
 }
 
 -- Memory ran out after complete answers.
-pub refused_behind : (g : GraphParts) (options : AnswerOptions) (input given a c : Option (List ℕ))
-    (lines : List (ℕ × List ℕ)) (report : AnswerReport) (text : List ℕ) (f h : ℕ) (e : ToolFault)
-    → AreFirstLines input lines → AnswersLines g options lines report text → Appends a c text → h ≡ f → e ≡ OutOfMemory
-    → AnswersUntilFault g options input given a c f h e
-refused_behind g options input given a c lines report text f h e some all gained same is = record {
+pub refused_behind : (g : GraphParts) (options : AnswerOptions) (input out : Change)
+    (lines : List (ℕ × List ℕ)) (report : AnswerReport) (text : List ℕ) (e : ToolFault)
+    → AreFirstLines input.before lines → AnswersLines g options lines report text → Gains out text → IsUnfailed out
+    → e ≡ OutOfMemory → AnswersUntilFault g options input out e
+refused_behind g options input out lines report text e some all gained same is = record {
   lines = lines;
   are = some;
-  behind = subst (λ (t : ToolFault). FollowsLines t input given lines) (sym is) tt;
+  behind = subst (λ (t : ToolFault). FollowsLines t input lines) (sym is) tt;
   report = report;
   text = text;
   answers = all;
-  stopped = subst (λ (t : ToolFault). StopsAfterAnswers t text a c f h) (sym is) (same, gained);
+  stopped = subst (λ (t : ToolFault). StopsAfterAnswers t text out) (sym is) (same, gained);
 }
 
 -- After one more answer, the count overflowed or the writer failed.
-pub cut_answer : (g : GraphParts) (options : AnswerOptions) (input given a b c : Option (List ℕ))
+pub cut_answer : (g : GraphParts) (options : AnswerOptions) (input : Change) (a b c : Option (List ℕ))
     (lines : List (ℕ × List ℕ)) (line : ℕ × List ℕ) (report one : AnswerReport) (text pending answer new : List ℕ)
     (start n f d h : ℕ) (e : ToolFault)
-    → AreFirstLines input lines → AreFirstLines input (lines ++ line ∷ []) → AnswersLines g options lines report text
+    → AreFirstLines input.before lines → AreFirstLines input.before (lines ++ line ∷ [])
+    → AnswersLines g options lines report text
     → AnswersLine g options line one answer → GainedButFor a b text pending n → new ≡ pending ++ answer
     → start ≡ length pending → d ≡ f
     → ((e ≡ OutOfMemory) × (h ≡ d) × Appends b c (take start new))
-    ⊎ ((m : ℕ) × (e ≡ Write (n + m)) × FailsAfter m new b c d h)
-    → AnswersUntilFault g options input given a c f h e
-cut_answer g options input given a b c lines line report one text pending answer new start n f d h e before after all
+    ⊎ ((m : ℕ) × (e ≡ Write (n + m)) × FailsAfter m new (step b c d h))
+    → AnswersUntilFault g options input (step a c f h) e
+cut_answer g options input a b c lines line report one text pending answer new start n f d h e before after all
     this gained grown behind same (inl refused) =
     let front : take start new ≡ pending = ap (λ k. take k new) behind ∙ ap (take (length pending)) grown
     ∙ take-append_seam pending answer in
-    refused_behind g options input given a c lines report text f h e before all
+    refused_behind g options input (step a c f h) lines report text e before all
     (gained_all a b c text pending n gained (subst (Appends b c) front refused.2)) (refused.1 ∙ same) refused.0
-cut_answer g options input given a b c lines line report one text pending answer new start n f d h e before after all
+cut_answer g options input a b c lines line report one text pending answer new start n f d h e before after all
     this gained grown behind same (inr cut) =
-    cut_pending g options input given a b c (lines ++ line ∷ []) (joined_reports report one) (text
+    cut_pending g options input a b c (lines ++ line ∷ []) (joined_reports report one) (text
     ++ answer) new n f d h e after (lines_on g options lines line report one text answer all this)
     (gained_answer a b text pending answer new n gained grown) same cut
 
@@ -309,23 +316,20 @@ pending_or_held pending held (inl none) is = inl none
 pending_or_held pending held (inr e) is = inr (is e)
 
 -- A line that could not be read, after the answers to earlier ones.
-pub unread_line : (g : GraphParts) (options : AnswerOptions) (s : LinesState)
-    (input mid given written_before written_after : Option (List ℕ)) (lines : List (ℕ × List ℕ)) (report : AnswerReport)
-    (text : List ℕ) (failed_before failed_after : ℕ)
-    (fault : LineFault) → HasTakenLines s input mid lines → AnswersLines g options lines report text
-    → Appends written_before written_after text → failed_after ≡ failed_before
-    → FaultAfterLines fault max_input_bytes input given lines
-    → AnswersUntilFault g options input given written_before written_after failed_before failed_after
-    (line_fault_of fault)
-unread_line g options s input mid given written_before written_after lines report text failed_before failed_after fault
-    gone all gained same h = record {
+pub unread_line : (g : GraphParts) (options : AnswerOptions) (s : LinesState) (mid : Option (List ℕ))
+    (input out : Change) (lines : List (ℕ × List ℕ)) (report : AnswerReport) (text : List ℕ) (fault : LineFault)
+    → HasTakenLines s input.before mid lines → AnswersLines g options lines report text → Gains out text
+    → IsUnfailed out → FaultAfterLines fault max_input_bytes input.before input.after lines
+    → AnswersUntilFault g options input out (line_fault_of fault)
+unread_line g options s mid input out lines report text fault gone all gained same h =
+    record {
       lines = lines;
-      are = gone_some s input mid lines gone;
-      behind = stopped_behind fault fault.reason input given lines refl h;
+      are = gone_some s input.before mid lines gone;
+      behind = stopped_behind fault fault.reason input lines refl h;
       report = report;
       text = text;
       answers = all;
-      stopped = stopped_by fault fault.reason text written_before written_after failed_before failed_after same gained;
+      stopped = stopped_by fault fault.reason text out same gained;
     }
 
 -- ---- the initial state
@@ -333,16 +337,16 @@ unread_line g options s input mid given written_before written_after lines repor
 abbrev Begins : Type 0
 Begins = (limit : ℕ) (input : Option (List ℕ)) → LinesSoFar limit (start limit) input (left (start limit) input) []
 
-pub nothing_answered : Begins → (g : GraphParts) (options : AnswerOptions) (input given a : Option (List ℕ)) (f : ℕ)
-    → AnswersUntilFault g options input given a a f f OutOfMemory
-nothing_answered begins g options input given a f = record {
+pub nothing_answered : Begins → (g : GraphParts) (options : AnswerOptions) (input out : Change)
+    → out.after ≡ out.before → IsUnfailed out → AnswersUntilFault g options input out OutOfMemory
+nothing_answered begins g options input out same well = record {
   lines = [];
-  are = inl (start max_input_bytes, left (start max_input_bytes) input, begins max_input_bytes input);
+  are = inl (start max_input_bytes, left (start max_input_bytes) input.before, begins max_input_bytes input.before);
   behind = tt;
   report = plain_report false;
   text = [];
   answers = (refl, refl);
-  stopped = (refl, Appends-nil a);
+  stopped = (well, subst (λ b. Appends out.before b []) (sym same) (Appends-nil out.before));
 }
 
 pub begun : Begins → (s : LinesState) (input : Option (List ℕ)) → s ≡ start max_input_bytes
@@ -363,19 +367,3 @@ lent_given (i ∷ []) s p o x y z a b c n one two last = absurd (omega arith)
 lent_given (i ∷ j ∷ []) s p o x y z a b c n one two last = absurd (omega arith)
 lent_given (i ∷ j ∷ k ∷ []) s p o x y z a b c n one two last = rw (one, two, last) refl
 lent_given (i ∷ j ∷ k ∷ l ∷ rest) s p o x y z a b c n one two last = absurd (omega arith)
-
--- A write that failed while answering is a failure of the writer.
-pub write_failed : (options : AnswerOptions) (file_before file_after input after a b : Option (List ℕ)) (f g : ℕ)
-    (e : ToolFault) (n : ℕ) → e ≡ Write n
-    → AnswersOverFileUntilFault options file_before file_after input after a b f g e → g ≡ f + 1
-write_failed options file_before file_after input after a b f g e n same h =
-    let over = subst (AnswersOverFileUntilFault options file_before file_after input after a b f g) same h in
-    over.holds.holds.stopped.failed
-
--- Answers do not end for options that are not valid.
-pub answers_accept_options : (options : AnswerOptions) (file_before file_after input after a b : Option (List ℕ))
-    (f g : ℕ) (e : ToolFault) → e ≡ BadOptions
-    → AnswersOverFileUntilFault options file_before file_after input after a b f g e → ⊥
-answers_accept_options options file_before file_after input after a b f g e is h =
-    let over = subst (AnswersOverFileUntilFault options file_before file_after input after a b f g) is h in
-    over.holds.holds.stopped

@@ -13,6 +13,7 @@ use Rattle.hdt_wire.specs.declared.Role.{Role}
 use Rattle.hdt_dict.specs.Ids.{string_at_id}
 use Rattle.hdt_file.specs.File.{GraphParts, IsLayout}
 use Rattle.hdt_dict.specs.Dictionary.{role_strings}
+use Rattle.hdt_tool.specs.Changes.{Change}
 use Rattle.hdt_tool.specs.Outcomes.{HasBadBlockSize, HasNonTerm, IsFaultOfBytes, ReadsAll, IsFaultOfInput}
 use Rattle.hdt_tool.specs.Outcomes.{HasBadOptions}
 use Rattle.hdt_tool.specs.ListedStrings.{IsListFault}
@@ -20,21 +21,21 @@ use Rattle.hdt_tool.specs.TermCounts.{IsCountFault}
 use Rattle.hdt_tool.specs.TriplesText.{GivenStrings, IsFindFault, LacksMatch, find_format}
 
 -- A block size that is not valid.
-bad_blocks : (action : Action) (before after : Option (List ℕ)) (bytes : List ℕ) → ReadsAll before after bytes
-    → HasBadBlockSize action bytes → HasBadOptions action before after
-bad_blocks (Rewrite b) before after bytes read h = record { bytes = bytes; read = read; holds = h }
-bad_blocks action before after bytes read h = absurd h
+bad_blocks : (action : Action) (input : Change) (bytes : List ℕ) → ReadsAll input bytes
+    → HasBadBlockSize action bytes → HasBadOptions action input
+bad_blocks (Rewrite b) input bytes read h = record { bytes = bytes; read = read; holds = h }
+bad_blocks action input bytes read h = absurd h
 
 -- An error for the bytes that were read is an error of the run.
-pub fault_of_input : (action : Action) (before after : Option (List ℕ)) (bytes : List ℕ) (e : ToolFault)
-    → ReadsAll before after bytes → IsFaultOfBytes action bytes e → IsFaultOfInput action before after e
-fault_of_input action before after bytes (Input fault) read h = absurd h
-fault_of_input action before after bytes NoTriples read h = absurd h
-fault_of_input action before after bytes BadOptions read h = bad_blocks action before after bytes read h
-fault_of_input action before after bytes Read read h = absurd h
-fault_of_input action before after bytes (Write n) read h = absurd h
-fault_of_input action before after bytes OutOfMemory read h = tt
-fault_of_input action before after bytes fault read h = record { bytes = bytes; read = read; holds = h }
+pub fault_of_input : (action : Action) (input : Change) (bytes : List ℕ) (e : ToolFault)
+    → ReadsAll input bytes → IsFaultOfBytes action bytes e → IsFaultOfInput action input e
+fault_of_input action input bytes (Input fault) read h = absurd h
+fault_of_input action input bytes NoTriples read h = absurd h
+fault_of_input action input bytes BadOptions read h = bad_blocks action input bytes read h
+fault_of_input action input bytes Read read h = absurd h
+fault_of_input action input bytes (Write n) read h = absurd h
+fault_of_input action input bytes OutOfMemory read h = tt
+fault_of_input action input bytes fault read h = record { bytes = bytes; read = read; holds = h }
 
 -- An error for the bytes is never a write error.
 pub not_write : (action : Action) (bytes : List ℕ) (e : ToolFault) (n : ℕ) → IsFaultOfBytes action bytes e → e ≡ Write n

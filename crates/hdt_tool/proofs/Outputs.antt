@@ -1,9 +1,8 @@
 -- The output and the new file of a run, by kind of command.
-use Rattle.std.proofs.Common.{◌≡◌, ◌≢◌, ◌+◌, ◌++◌, ◌∙◌, ℕ, Bool, true, false, List, [], Option, Result, Ok, Err, length}
+use Rattle.std.proofs.Common.{◌≡◌, ◌≢◌, ◌++◌, ◌∙◌, ℕ, Bool, true, false, List, [], Option, Result, Ok, Err, length}
 use Rattle.std.proofs.Common.{take, refl}
 use Rattle.std.proofs.Common.{sym, ap, subst}
 use Rattle.std.specs.Prelude.{IfErr, IsErrOf, OnErr, OnOk}
-use Rattle.std.specs.Io.KnownBytes.{Appends}
 use Rattle.std.proofs.lemmas.List.{append-nil, take_at}
 use Rattle.hdt_build.specs.Reading.{ReadFailed}
 use Rattle.hdt_build.specs.declared.fault.BuildFault.{BuildFault}
@@ -17,7 +16,8 @@ use Rattle.hdt_tool.specs.declared.request.Action.TheVariants.{VerifyTerms}
 use Rattle.hdt_tool.specs.declared.request.OutputFormat.TheVariants.{Count}
 use Rattle.hdt_file.specs.File.{GraphParts, IsLayout}
 use Rattle.hdt_tool.specs.NonTermText.{PrintsKept}
-use Rattle.hdt_tool.specs.Outcomes.{Completes, FailsAfter, IfBuild, IsReadOnly, Prints}
+use Rattle.hdt_tool.specs.Changes.{Change, FailsAfter, Gains, HasFailed}
+use Rattle.hdt_tool.specs.Outcomes.{Completes, IfBuild, IsReadOnly, Prints}
 use Rattle.hdt_tool.specs.Outcomes.{CountsNonTerms, PrintsCountingNonTerms, PrintsInPieces, PrintsText}
 use Rattle.hdt_tool.specs.Outcomes.{PrintsWithCount, ReadsAll}
 use Rattle.hdt_tool.specs.Outcomes.{ReadsWith}
@@ -38,12 +38,12 @@ read_only (Rewrite b) not_build not_rewrite = absurd (not_rewrite b refl)
 read_only action not_build not_rewrite = tt
 
 -- A command that writes no file leaves `made` unchanged.
-pub nothing_built : (action : Action) → IsReadOnly action → (before after : Option (List ℕ)) (text made : List ℕ)
-    → ReadsWith before after (λ bytes. Prints action bytes text)
-    → YieldsAppended action before after text made made
-nothing_built (Build options) is before after text made h = absurd is
-nothing_built (Rewrite b) is before after text made h = absurd is
-nothing_built action is before after text made h =
+pub nothing_built : (action : Action) → IsReadOnly action → (input : Change) (text made : List ℕ)
+    → ReadsWith input (λ bytes. Prints action bytes text)
+    → YieldsAppended action input text made made
+nothing_built (Build options) is input text made h = absurd is
+nothing_built (Rewrite b) is input text made h = absurd is
+nothing_built action is input text made h =
     record { built = []; yields = (h, refl); made = sym (append-nil made) }
 
 -- What a command prints, with what it counts, is its output.
@@ -53,10 +53,10 @@ printed (SkipNonTerms given count most) bytes text n h = (n, h)
 printed (VerifyTerms tight) bytes text n h = (n, h)
 printed action bytes text n h = h.0
 
-pub reads_printed : (action : Action) (before after : Option (List ℕ)) (text : List ℕ) (n : ℕ)
-    → ReadsWith before after (λ bytes. PrintsWithCount action bytes text n)
-    → ReadsWith before after (λ bytes. Prints action bytes text)
-reads_printed action before after text n h =
+pub reads_printed : (action : Action) (input : Change) (text : List ℕ) (n : ℕ)
+    → ReadsWith input (λ bytes. PrintsWithCount action bytes text n)
+    → ReadsWith input (λ bytes. Prints action bytes text)
+reads_printed action input text n h =
     record { bytes = h.bytes; read = h.read; holds = printed action h.bytes text n h.holds }
 
 -- Commands that count, and those that don't.
@@ -106,11 +106,11 @@ prints_text (VerifyTerms tight) is not_pieces not_skipping not_terms = absurd (n
 prints_text action is not_pieces not_skipping not_terms = is
 
 -- `rewrite` of the bytes that were read.
-pub rewrites : (b : ℕ) (before after : Option (List ℕ)) (bytes seen text made more : List ℕ)
-    → ReadsAll before after bytes → seen ≡ bytes
+pub rewrites : (b : ℕ) (input : Change) (bytes seen text made more : List ℕ)
+    → ReadsAll input bytes → seen ≡ bytes
     → ((file : List ℕ) × RewritesFile b seen text file × (more ≡ made ++ file))
-    → YieldsAppended (Rewrite b) before after text made more
-rewrites b before after bytes seen text made more read same h = record {
+    → YieldsAppended (Rewrite b) input text made more
+rewrites b input bytes seen text made more read same h = record {
   built = h.0;
   yields = record {
     bytes = bytes;
@@ -135,46 +135,42 @@ no_options action Holds is = tt
 -- ---- writing a complete text
 
 -- The writer failed after a prefix of the text.
-abbrev pub IsWriteFault : List ℕ → Option (List ℕ) → Option (List ℕ) → ℕ → ℕ → ToolFault → Type 0
-IsWriteFault text old new f g e = (n : ℕ) × (e ≡ Write n) × FailsAfter n text old new f g
+abbrev pub IsWriteFault : List ℕ → Change → ToolFault → Type 0
+IsWriteFault text out e = (n : ℕ) × (e ≡ Write n) × FailsAfter n text out
 
 -- All of the text is written.
-pub completes : (r : Result (Unit {0}) ToolFault) (action : Action) (before after old new : Option (List ℕ))
-    (text made mid last : List ℕ) → YieldsAppended action before after text made mid
-    → OnOk r (Appends old new text) → OnOk r (last ≡ mid) → OnOk r (Completes action before after old new made last)
-completes (Ok done) action before after old new text made mid last makes written same =
+pub completes : (r : Result (Unit {0}) ToolFault) (action : Action) (input out : Change)
+    (text made mid last : List ℕ) → YieldsAppended action input text made mid
+    → OnOk r (Gains out text) → OnOk r (last ≡ mid) → OnOk r (Completes action input out made last)
+completes (Ok done) action input out text made mid last makes written same =
     record {
       text = text;
-      makes = subst (YieldsAppended action before after text made) (sym same) makes;
-      written =
-          written;
+      makes = subst (YieldsAppended action input text made) (sym same) makes;
+      written = written;
     }
-completes (Err e) action before after old new text made mid last makes written same = tt
+completes (Err e) action input out text made mid last makes written same = tt
 
 -- A prefix of it is written.
-pub writes_prefix : (r : Result (Unit {0}) ToolFault) (action : Action) (before after old new : Option (List ℕ))
-    (text built : List ℕ) (f g : ℕ) → Yields action before after text built
-    → IfErr r (IsWriteFault text old new f g)
-    → IfErr r (λ e. (n : ℕ) → e ≡ Write n → (g ≡ f + 1) × WritesOutputPrefix action before after old new n)
-writes_prefix (Ok done) action before after old new text built f g yields fails = tt
-writes_prefix (Err e) action before after old new text built f g yields fails = λ n is.
+pub writes_prefix : (r : Result (Unit {0}) ToolFault) (action : Action) (input out : Change) (text built : List ℕ)
+    → Yields action input text built → IfErr r (IsWriteFault text out)
+    → IfErr r (λ e. (n : ℕ) → e ≡ Write n → HasFailed out × WritesOutputPrefix action input out n)
+writes_prefix (Ok done) action input out text built yields fails = tt
+writes_prefix (Err e) action input out text built yields fails = λ n is.
     let same : Write fails.0 ≡ Write n = sym fails.1 ∙ is in
     let count : fails.0 ≡ n = cc in
-    let cut : FailsAfter n text old new f g = subst (λ m. FailsAfter m text old new f g) count fails.2 in
+    let cut : FailsAfter n text out = subst (λ m. FailsAfter m text out) count fails.2 in
     (cut.failed, record { text = text; built = built; yields = yields; within = cut.within; written = cut.written })
 
 -- A write error is no other error.
-pub only_writing : (A : ToolFault
-    → Type 0) (r : Result (Unit {0}) ToolFault) (old new : Option (List ℕ)) (text : List ℕ) (f g : ℕ)
-    → IfErr r (IsWriteFault text old new f g)
-    → IfErr r (λ e. ((n : ℕ) → e ≢ Write n) → A e)
-only_writing A (Ok done) old new text f g fails = tt
-only_writing A (Err e) old new text f g fails = λ none. absurd (none fails.0 fails.1)
+pub only_writing : (A : ToolFault → Type 0) (r : Result (Unit {0}) ToolFault) (out : Change) (text : List ℕ)
+    → IfErr r (IsWriteFault text out) → IfErr r (λ e. ((n : ℕ) → e ≢ Write n) → A e)
+only_writing A (Ok done) out text fails = tt
+only_writing A (Err e) out text fails = λ none. absurd (none fails.0 fails.1)
 
-pub not_bad_writing : (r : Result (Unit {0}) ToolFault) (old new : Option (List ℕ)) (text : List ℕ) (f g : ℕ)
-    → IfErr r (IsWriteFault text old new f g) → IsErrOf r BadOptions → ⊥
-not_bad_writing (Ok done) old new text f g fails is = absurd cc
-not_bad_writing (Err e) old new text f g fails is =
+pub not_bad_writing : (r : Result (Unit {0}) ToolFault) (out : Change) (text : List ℕ)
+    → IfErr r (IsWriteFault text out) → IsErrOf r BadOptions → ⊥
+not_bad_writing (Ok done) out text fails is = absurd cc
+not_bad_writing (Err e) out text fails is =
     let bad : e ≡ BadOptions = cc in
     let same : Write fails.0 ≡ BadOptions = sym fails.1 ∙ bad in absurd cc
 

@@ -18,19 +18,27 @@ use Rattle.hdt_tool.specs.TriplesText.{GivenStrings, IsFindFault, PrintsFound, f
 use Rattle.hdt_wire.specs.declared.Role.{Role}
 use Rattle.hdt_file.specs.File.{GraphParts, IsLayout}
 use Rattle.hdt_dict.specs.Dictionary.{role_strings}
-use Rattle.hdt_tool.specs.Outcomes.{AppendsPrefix, WritesOutputPrefix, FailsAfter, PrintsInPieces}
+use Rattle.hdt_tool.specs.Changes.{Change, FailsAfter, GainsBeginning, HasFailed, IsUnfailed}
+use Rattle.hdt_tool.specs.Outcomes.{WritesOutputPrefix, PrintsInPieces}
 use Rattle.hdt_tool.specs.Outcomes.{InterruptsOutput, IsCutShort, IsFaultOfBytes, IsFaultOfInput, Prints, ReadsAll}
 use Rattle.hdt_tool.specs.Outcomes.{PrintsCountingNonTerms}
 use Rattle.hdt_tool.proofs.InputFaults.{fault_of_input, no_find, no_text, not_write}
 use Rattle.hdt_tool.proofs.Outputs.{nothing_built, reads_only}
 
+-- The writer before and after.
+abbrev pub step : Option (List ℕ) → Option (List ℕ) → ℕ → ℕ → Change
+step a b f g = record { before = a; after = b; failed_before = f; failed_after = g }
+
+abbrev pub PiecesOutcome : Action → List ℕ → ToolFault → Type 0 → Change → Type 0
+PiecesOutcome action bytes e Same out = (IsFaultOfBytes action bytes e × Same)
+    ⊎ ((text : List ℕ) × Prints action bytes text × IsCutShort e text out)
+
 -- An error other than a write error.
-memory_cut : (fault : ToolFault) (text : List ℕ) (a b : Option (List ℕ)) (f g : ℕ) → IsCutShort fault text a b f g
-    → ((n : ℕ) → fault ≢ Write n)
-    → (fault ≡ OutOfMemory) × (g ≡ f) × AppendsPrefix a b text
-memory_cut (Write n) text a b f g h none = absurd (none n refl)
-memory_cut OutOfMemory text a b f g h none = (refl, h.0, h.1)
-memory_cut fault text a b f g h none = absurd h
+memory_cut : (fault : ToolFault) (text : List ℕ) (out : Change) → IsCutShort fault text out
+    → ((n : ℕ) → fault ≢ Write n) → (fault ≡ OutOfMemory) × IsUnfailed out × GainsBeginning out text
+memory_cut (Write n) text out h none = absurd (none n refl)
+memory_cut OutOfMemory text out h none = (refl, h.0, h.1)
+memory_cut fault text out h none = absurd h
 
 -- A part of the buffer is written.
 pub more_within : (all part behind : List ℕ) (n : ℕ) → n ≤ length all → drop n all ≡ part ++ behind
@@ -52,7 +60,7 @@ less_kept all part behind n e = sym (drop-drop (length part) n all) ∙ ap (drop
 -- The writer fails after m bytes of that part.
 pub fails_behind : (a b c : Option (List ℕ)) (all part behind : List ℕ) (n m f g h : ℕ) → n ≤ length all
     → drop n all ≡ part ++ behind → Appends a b (take n all) → g ≡ f
-    → FailsAfter m part b c g h → FailsAfter (n + m) all a c f h
+    → FailsAfter m part (step b c g h) → FailsAfter (n + m) all (step a c f h)
 fails_behind a b c all part behind n m f g h within e one same fails =
     let whole : take (n + m) all ≡ take n all ++ take m part =
     take-add n m all ∙ ap (λ (t : List ℕ). take n all ++ t) (ap (take m) e
@@ -70,13 +78,13 @@ pub cut_by : {C : Type 0} (contents : C → Option (List ℕ)) (failed : C
     → Appends (contents start) (contents out) (take n all) → failed out ≡ failed start
     → ((fault ≡ OutOfMemory) × (failed new ≡ failed out) × Appends (contents out) (contents new) (take k part))
     ⊎ ((m : ℕ) × (fault ≡ Write (n + m))
-    × FailsAfter m part (contents out) (contents new) (failed out) (failed new))
-    → IsCutShort fault all (contents start) (contents new) (failed start) (failed new)
+    × FailsAfter m part (step (contents out) (contents new) (failed out) (failed new)))
+    → IsCutShort fault all (step (contents start) (contents new) (failed start) (failed new))
 cut_by contents failed fault start out new all part behind n k within e one same (inl none) =
     let front : drop n all ≡ take k part ++ (drop k part ++ behind) =
     e ∙ ap (λ (t : List ℕ). t ++ behind) (sym (take-append-drop k part))
     ∙ append_assoc (take k part) (drop k part) behind in
-    subst (λ (t : ToolFault). IsCutShort t all (contents start) (contents new) (failed start) (failed new))
+    subst (λ (t : ToolFault). IsCutShort t all (step (contents start) (contents new) (failed start) (failed new)))
     (sym none.0) (
       none.1 ∙ same,
       (
@@ -86,7 +94,8 @@ cut_by contents failed fault start out new all part behind n k within e one same
       ),
     )
 cut_by contents failed fault start out new all part behind n k within e one same (inr some) =
-    subst (λ (t : ToolFault). IsCutShort t all (contents start) (contents new) (failed start) (failed new)) (sym some.1)
+    subst (λ (t : ToolFault). IsCutShort t all (step (contents start) (contents new) (failed start) (failed new)))
+    (sym some.1)
     (fails_behind (contents start) (contents out) (contents new) all part behind n some.0 (failed start) (failed out)
     (failed new) within e one same some.2)
 
@@ -98,16 +107,14 @@ whole_gained a b c all bytes n gained behind h =
     (Appends-trans a b c (take n all) bytes gained h)
 
 -- A run with incomplete output.
-pub pieces_write : (action : Action) (before after : Option (List ℕ)) (bytes seen : List ℕ) (a b : Option (List ℕ))
-    (f g : ℕ) (fault : ToolFault) (Same : Type 0) → PrintsInPieces action → ReadsAll before after bytes → seen ≡ bytes
-    → (IsFaultOfBytes action seen fault × Same)
-    ⊎ ((text : List ℕ) × Prints action seen text × IsCutShort fault text a b f g)
-    → (n : ℕ) → fault ≡ Write n → (g ≡ f + 1) × WritesOutputPrefix action before after a b n
-pieces_write action before after bytes seen a b f g fault Same asked read is (inl told) n e =
+pub pieces_write : (action : Action) (input out : Change) (bytes seen : List ℕ) (fault : ToolFault) (Same : Type 0)
+    → PrintsInPieces action → ReadsAll input bytes → seen ≡ bytes → PiecesOutcome action seen fault Same out
+    → (n : ℕ) → fault ≡ Write n → HasFailed out × WritesOutputPrefix action input out n
+pieces_write action input out bytes seen fault Same asked read is (inl told) n e =
     absurd (not_write action seen fault n told.0 e)
-pieces_write action before after bytes seen a b f g fault Same asked read is (inr h) n e =
-    let cut : FailsAfter n h.0 a b f g = subst (λ (t : ToolFault). IsCutShort t h.0 a b f g) e h.2 in
-    let makes = nothing_built action (reads_only action asked) before after h.0 []
+pieces_write action input out bytes seen fault Same asked read is (inr h) n e =
+    let cut : FailsAfter n h.0 out = subst (λ (t : ToolFault). IsCutShort t h.0 out) e h.2 in
+    let makes = nothing_built action (reads_only action asked) input h.0 []
     (record { bytes = bytes; read = read; holds = subst (λ (x : List ℕ). Prints action x h.0) is h.1 }) in (
       cut.failed,
       record {
@@ -120,32 +127,25 @@ pieces_write action before after bytes seen a b f g fault Same asked read is (in
     )
 
 -- An error that cuts the output short says nothing of the input.
-cut_reported : (action : Action) (before after : Option (List ℕ)) (fault : ToolFault) (text : List ℕ)
-    (a b : Option (List ℕ)) (f g : ℕ) → IsCutShort fault text a b f g → IsFaultOfInput action before after fault
-cut_reported action before after (Write n) text a b f g h = tt
-cut_reported action before after OutOfMemory text a b f g h = tt
-cut_reported action before after fault text a b f g h = absurd h
+cut_reported : (action : Action) (input out : Change) (fault : ToolFault) (text : List ℕ) → IsCutShort fault text out
+    → IsFaultOfInput action input fault
+cut_reported action input out (Write n) text h = tt
+cut_reported action input out OutOfMemory text h = tt
+cut_reported action input out fault text h = absurd h
 
-pub pieces_reported : (action : Action) (before after : Option (List ℕ)) (bytes seen : List ℕ) (a b : Option (List ℕ))
-    (f g : ℕ) (fault : ToolFault) (Same : Type 0) → ReadsAll before after bytes → seen ≡ bytes
-    → (IsFaultOfBytes action seen fault × Same)
-    ⊎ ((text : List ℕ) × Prints action seen text × IsCutShort fault text a b f g)
-    → IsFaultOfInput action before after fault
-pieces_reported action before after bytes seen a b f g fault Same read is (inl told) =
-    fault_of_input action before after bytes fault read
+pub pieces_reported : (action : Action) (input out : Change) (bytes seen : List ℕ) (fault : ToolFault) (Same : Type 0)
+    → ReadsAll input bytes → seen ≡ bytes → PiecesOutcome action seen fault Same out → IsFaultOfInput action input fault
+pieces_reported action input out bytes seen fault Same read is (inl told) =
+    fault_of_input action input bytes fault read
     (subst (λ (text : List ℕ). IsFaultOfBytes action text fault) is told.0)
-pieces_reported action before after bytes seen a b f g fault Same read is (inr h) =
-    cut_reported action before after fault h.0 a b f g h.2
+pieces_reported action input out bytes seen fault Same read is (inr h) = cut_reported action input out fault h.0 h.2
 
-pub pieces_halt : (action : Action) (before after : Option (List ℕ)) (bytes seen : List ℕ) (a b : Option (List ℕ))
-    (f g : ℕ) (fault : ToolFault) (Same : Type 0) → PrintsInPieces action → ReadsAll before after bytes → seen ≡ bytes
-    → (IsFaultOfBytes action seen fault × Same)
-    ⊎ ((text : List ℕ) × Prints action seen text × IsCutShort fault text a b f g)
-    → ((n : ℕ) → fault ≢ Write n)
-    → Same ⊎ ((fault ≡ OutOfMemory) × InterruptsOutput action before after a b f g)
-pieces_halt action before after bytes seen a b f g fault Same asked read is (inl told) none = inl told.1
-pieces_halt action before after bytes seen a b f g fault Same asked read is (inr h) none =
-    let cut = memory_cut fault h.0 a b f g h.2 none in
+pub pieces_halt : (action : Action) (input out : Change) (bytes seen : List ℕ) (fault : ToolFault) (Same : Type 0)
+    → PrintsInPieces action → ReadsAll input bytes → seen ≡ bytes → PiecesOutcome action seen fault Same out
+    → ((n : ℕ) → fault ≢ Write n) → Same ⊎ ((fault ≡ OutOfMemory) × InterruptsOutput action input out)
+pieces_halt action input out bytes seen fault Same asked read is (inl told) none = inl told.1
+pieces_halt action input out bytes seen fault Same asked read is (inr h) none =
+    let cut = memory_cut fault h.0 out h.2 none in
     inr (
       cut.0,
       record {
@@ -173,30 +173,25 @@ find_prints given numbers format bytes text graph same encoded h = record {
 }
 
 -- What printing triples reports, as an outcome of the command.
-abbrev pub FindOutcome : GivenStrings → OutputFormat → Option ℕ → GraphParts → ToolFault → Type 0 → Option (List ℕ)
-    → Option (List ℕ) → ℕ → ℕ → Type 0
-FindOutcome given format most graph e Same a b f g = (IsFindFault graph given format most e × Same)
-    ⊎ ((text : List ℕ) × PrintsFound graph given format most text × IsCutShort e text a b f g)
-
-abbrev pub PiecesOutcome : Action → List ℕ → ToolFault → Type 0 → Option (List ℕ) → Option (List ℕ) → ℕ → ℕ → Type 0
-PiecesOutcome action bytes e Same a b f g = (IsFaultOfBytes action bytes e × Same)
-    ⊎ ((text : List ℕ) × Prints action bytes text × IsCutShort e text a b f g)
+abbrev pub FindOutcome : GivenStrings → OutputFormat → Option ℕ → GraphParts → ToolFault → Type 0 → Change → Type 0
+FindOutcome given format most graph e Same out = (IsFindFault graph given format most e × Same)
+    ⊎ ((text : List ℕ) × PrintsFound graph given format most text × IsCutShort e text out)
 
 pub find_told : (given : GivenStrings) (numbers : Bool) (format : OutputFormat) (bytes : List ℕ) (graph : GraphParts)
-    (e : ToolFault) (Same : Type 0) (a b : Option (List ℕ)) (f g : ℕ) → format ≡ find_format numbers
-    → IsLayout bytes graph → FindOutcome given format None graph e Same a b f g
-    → PiecesOutcome (Find given numbers) bytes e Same a b f g
-find_told given numbers format bytes graph e Same a b f g same encoded (inl h) =
+    (e : ToolFault) (Same : Type 0) (out : Change) → format ≡ find_format numbers
+    → IsLayout bytes graph → FindOutcome given format None graph e Same out
+    → PiecesOutcome (Find given numbers) bytes e Same out
+find_told given numbers format bytes graph e Same out same encoded (inl h) =
     inl (no_find given numbers format bytes e same (no_text given format None bytes graph e encoded h.0), h.1)
-find_told given numbers format bytes graph e Same a b f g same encoded (inr h) =
+find_told given numbers format bytes graph e Same out same encoded (inr h) =
     inr (h.0, find_prints given numbers format bytes h.0 graph same encoded h.1, h.2)
 
 pub search_told : (given : GivenStrings) (format : OutputFormat) (most : Option ℕ) (bytes : List ℕ)
-    (graph : GraphParts) (e : ToolFault) (Same : Type 0) (a b : Option (List ℕ)) (f g : ℕ) → IsLayout bytes graph
-    → FindOutcome given format most graph e Same a b f g → PiecesOutcome (Search given format most) bytes e Same a b f g
-search_told given format most bytes graph e Same a b f g encoded (inl h) =
+    (graph : GraphParts) (e : ToolFault) (Same : Type 0) (out : Change) → IsLayout bytes graph
+    → FindOutcome given format most graph e Same out → PiecesOutcome (Search given format most) bytes e Same out
+search_told given format most bytes graph e Same out encoded (inl h) =
     inl (no_text given format most bytes graph e encoded h.0, h.1)
-search_told given format most bytes graph e Same a b f g encoded (inr h) =
+search_told given format most bytes graph e Same out encoded (inr h) =
     inr (h.0, record { graph = graph; encoded = encoded; holds = h.1 }, h.2)
 
 pub kept_prints : (given : GivenStrings) (count : Bool) (most : Option ℕ) (bytes text : List ℕ) (n : ℕ)
@@ -206,14 +201,14 @@ kept_prints given false most bytes text n graph is encoded h = record { graph = 
 kept_prints given true most bytes text n graph is encoded h = absurd is
 
 pub kept_told : (given : GivenStrings) (count : Bool) (most : Option ℕ) (bytes : List ℕ) (graph : GraphParts)
-    (e : ToolFault) (Same : Type 0) (a b : Option (List ℕ)) (f g : ℕ)
+    (e : ToolFault) (Same : Type 0) (out : Change)
     → PrintsInPieces (SkipNonTerms given count most) → IsLayout bytes graph
     → ((e ≡ OutOfMemory) × Same)
-    ⊎ ((text : List ℕ) × (n : ℕ) × PrintsKept graph given NTriples most text n × IsCutShort e text a b f g)
-    → PiecesOutcome (SkipNonTerms given count most) bytes e Same a b f g
-kept_told given count most bytes graph e Same a b f g is encoded (inl h) =
+    ⊎ ((text : List ℕ) × (n : ℕ) × PrintsKept graph given NTriples most text n × IsCutShort e text out)
+    → PiecesOutcome (SkipNonTerms given count most) bytes e Same out
+kept_told given count most bytes graph e Same out is encoded (inl h) =
     inl (subst (λ (x : ToolFault). IsFaultOfBytes (SkipNonTerms given count most) bytes x) (sym h.0) tt, h.1)
-kept_told given count most bytes graph e Same a b f g is encoded (inr h) =
+kept_told given count most bytes graph e Same out is encoded (inr h) =
     inr (h.0, (h.1, kept_prints given count most bytes h.0 h.1 graph is encoded h.2), h.3)
 
 pub only_pieces : (action : Action) → PrintsInPieces action → ((role : Role) → action ≢ Strings role)

@@ -13,7 +13,9 @@ use Rattle.hdt_file.specs.TextWriting.{ReportsFirstNonTerm, WritesText, limited,
 use Rattle.hdt_file.specs.declared.fault.DumpFault.{DumpFault}
 use Rattle.hdt_file.specs.declared.fault.DumpFault.TheVariants as dumping
 use Rattle.hdt_tool.specs.Faults.{dump_fault_of}
-use Rattle.hdt_tool.specs.Outcomes.{FailsAfter, IsCutShort}
+use Rattle.hdt_tool.specs.Changes.{Change, FailsAfter}
+use Rattle.hdt_tool.specs.Outcomes.{IsCutShort}
+use Rattle.hdt_tool.proofs.Pieces.{step}
 use Rattle.hdt_tool.specs.NonTermText.{PrintsKept}
 use Rattle.hdt_tool.specs.TriplesText.{Finds, GivenStrings, IsFindFault, PrintsFound, numbers_lines}
 use Rattle.hdt_tool.specs.declared.fault.ToolFault.{ToolFault}
@@ -29,7 +31,7 @@ found_printed g given most found before after n finds h =
     (h.text, record { found = found; finds = finds; holds = h.is }, h.written)
 
 cut : (e : DumpFault) (text : List ℕ) (before after : Option (List ℕ)) (failed fails : ℕ)
-    → StopsAt e 0 text before after failed fails → IsCutShort (dump_fault_of e) text before after failed fails
+    → StopsAt e 0 text before after failed fails → IsCutShort (dump_fault_of e) text (step before after failed fails)
 cut (dumping.NotATerm role n) text before after failed fails h = absurd h
 cut (dumping.Write m) text before after failed fails h =
     let same : h.count ≡ m = omega (arith, h.is) in
@@ -54,7 +56,7 @@ pub found_cut : (g : GraphParts) (given : GivenStrings) (most : Option ℕ) (fou
     ⊎ CutsText g (limited most found) e before after failed fails
     → (IsFindFault g given NTriples most (dump_fault_of e) × Same)
     ⊎ ((text : List ℕ) × PrintsFound g given NTriples most text
-    × IsCutShort (dump_fault_of e) text before after failed fails)
+    × IsCutShort (dump_fault_of e) text (step before after failed fails))
 found_cut g given most found e Same before after failed fails finds (inl h) =
     inl (faulty g given most found e finds h.0, h.1)
 found_cut g given most found e Same before after failed fails finds (inr h) =
@@ -103,11 +105,11 @@ count_printed g given most found n text finds same is = record {
   holds = is ∙ ap (λ (m : ℕ). decimal m ++ 10 ∷ []) same;
 }
 
-pub line_cut : (e : ToolFault) (text bytes : List ℕ) (a b : Option (List ℕ)) (f g : ℕ) → bytes ≡ text
-    → (n : ℕ) × (e ≡ tool.Write n) × FailsAfter n bytes a b f g → IsCutShort e text a b f g
-line_cut e text bytes a b f g same h =
-    subst (λ (t : ToolFault). IsCutShort t text a b f g) (sym h.1)
-    (subst (λ (x : List ℕ). FailsAfter h.0 x a b f g) same h.2)
+pub line_cut : (e : ToolFault) (text bytes : List ℕ) (out : Change) → bytes ≡ text
+    → (n : ℕ) × (e ≡ tool.Write n) × FailsAfter n bytes out → IsCutShort e text out
+line_cut e text bytes out same h =
+    subst (λ (t : ToolFault). IsCutShort t text out) (sym h.1)
+    (subst (λ (x : List ℕ). FailsAfter h.0 x out) same h.2)
 
 -- ---- triples that have a line
 
@@ -125,7 +127,7 @@ pub kept_cut : (g : GraphParts) (given : GivenStrings) (most : Option ℕ) (foun
     → ((e ≡ dumping.OutOfMemory) × Same) ⊎ CutsWritable g most found e before after failed fails
     → ((dump_fault_of e ≡ OutOfMemory) × Same)
     ⊎ ((text : List ℕ) × (n : ℕ) × PrintsKept g given NTriples most text n
-    × IsCutShort (dump_fault_of e) text before after failed fails)
+    × IsCutShort (dump_fault_of e) text (step before after failed fails))
 kept_cut g given most found e Same before after failed fails finds (inl h) = inl (ap dump_fault_of h.0, h.1)
 kept_cut g given most found e Same before after failed fails finds (inr h) = inr (
   h.cut.text,

@@ -2,7 +2,6 @@
 use Rattle.std.specs.Prelude.{◌≡◌, ◌+◌, ◌^◌, ◌-◌, ℕ, Bool, true, false, nat_lt, length, ◌||◌, ◌⊎◌, List, [], ◌∷◌, ◌++◌}
 use Rattle.std.specs.Prelude.{if◌then◌else◌, Option, None, Some, MatchOption, Result, Ok, Err, codes, option_map}
 use Rattle.std.specs.Fmt.{decimal}
-use Rattle.std.specs.Io.KnownBytes.{Appends}
 use Rattle.hdt_wire.specs.declared.Role.{Role}
 use Rattle.hdt_terms.specs.declared.fault.LineReason.TheVariants as reasons
 use Rattle.hdt_terms.specs.declared.fault.TermFault.{TermFault}
@@ -21,7 +20,8 @@ use Rattle.hdt_file.specs.TermFlags.{AreTermFlags}
 use Rattle.hdt_file.specs.Text.{IsFirstNonTerm}
 use Rattle.hdt_file.specs.TextWriting.{limited}
 use Rattle.hdt_file.specs.declared.term_flags.TermFlags.{TermFlags}
-use Rattle.hdt_tool.specs.Outcomes.{FailsAfter, IsLayoutWith, ReadsWith}
+use Rattle.hdt_tool.specs.Changes.{Change, FailsAfter, Gains, IsUnfailed}
+use Rattle.hdt_tool.specs.Outcomes.{IsLayoutWith, ReadsWith}
 use Rattle.hdt_usage.specs.CommandTable.{role_name}
 use Rattle.hdt_tool.specs.TriplesText.{FindsStrings, PrintsTriples}
 use Rattle.hdt_tool.specs.declared.fault.ToolFault.{ToolFault}
@@ -96,17 +96,18 @@ abbrev pub non_term_comment : Role → ℕ → List ℕ
 non_term_comment role n = codes "# " ++ role_name role ++ codes " " ++ decimal n ++ codes " is not a term\n"
 
 -- An answer ends with an empty line.
-abbrev pub ended : List ℕ → List ℕ
-ended text = text ++ 10 ∷ []
+abbrev pub with_empty_line : List ℕ → List ℕ
+with_empty_line text = text ++ 10 ∷ []
 
 -- The answer without an error: the text of the triples.
 abbrev pub AnswersTriples : OutputFormat → GraphParts → List Triple → List ℕ → Type 0
-AnswersTriples format g found answer = (text : List ℕ) × PrintsTriples format g found text × (answer ≡ ended text)
+AnswersTriples format g found answer = (text : List ℕ) × PrintsTriples format g found text
+    × (answer ≡ with_empty_line text)
 
 -- The answer in N-Triples if a string of the triples is not a term: only a comment with the first one.
 abbrev pub AnswersNonTerm : OutputFormat → GraphParts → List Triple → List ℕ → Type 0
 AnswersNonTerm format g found answer = (role : Role) × (n : ℕ) × (format ≡ NTriples) × IsFirstNonTerm g found role n
-    × (answer ≡ ended (non_term_comment role n))
+    × (answer ≡ with_empty_line (non_term_comment role n))
 
 -- The answer for these triples, and whether it is an error.
 abbrev pub AnswersFound : OutputFormat → GraphParts → List Triple → Bool → List ℕ → Type 0
@@ -120,6 +121,9 @@ skips_in skip NTriples = skip
 skips_in skip Numbers = false
 skips_in skip Count = skip
 
+abbrev pub skips : AnswerOptions → Bool
+skips options = skips_in options.skip options.format
+
 -- Whether the answer is a number of triples.
 abbrev pub is_count : OutputFormat → Bool
 is_count Count = true
@@ -130,16 +134,16 @@ abbrev pub AreFlagsIfSkipping : Bool → GraphParts → Option TermFlags → Typ
 AreFlagsIfSkipping skips g flags = MatchOption flags (skips ≡ false) (λ flags. (skips ≡ true) × AreTermFlags g flags)
 
 -- The answer for those of the triples that have a line, up to the limit; n without one were left out.
-abbrev pub AnswersKept : OutputFormat → GraphParts → Option ℕ → List Triple → ℕ → List ℕ → Type 0
-AnswersKept format g most found n answer = (kept : List Triple) × SkipsNonTerms g most found kept n
-    × AnswersTriples format g kept answer
+abbrev pub AnswersKept : GraphParts → AnswerOptions → List Triple → ℕ → List ℕ → Type 0
+AnswersKept g options found n answer = (kept : List Triple) × SkipsNonTerms g options.most found kept n
+    × AnswersTriples options.format g kept answer
 
--- The answer for the triples that were found, up to the limit, and its report.
-abbrev pub AnswersMatches : Bool → OutputFormat → GraphParts → Option ℕ → List Triple → AnswerReport → List ℕ → Type 0
-AnswersMatches false format g most found report answer = (report.skipped ≡ 0)
-    × AnswersFound format g (limited most found) report.has_errors answer
-AnswersMatches true format g most found report answer = (report.has_errors ≡ false)
-    × AnswersKept format g most found report.skipped answer
+-- The answer for the triples that were found, up to the limit, and its report; true if triples are left out.
+abbrev pub AnswersMatches : Bool → GraphParts → AnswerOptions → List Triple → AnswerReport → List ℕ → Type 0
+AnswersMatches false g options found report answer = (report.skipped ≡ 0)
+    × AnswersFound options.format g (limited options.most found) report.has_errors answer
+AnswersMatches true g options found report answer = (report.has_errors ≡ false)
+    × AnswersKept g options found report.skipped answer
 
 -- The report of an answer that leaves out no triple.
 abbrev pub plain_report : Bool → AnswerReport
@@ -156,9 +160,9 @@ abbrev pub AnswersRequest : GraphParts → AnswerOptions → ℕ → Result (Opt
     → List ℕ → Type 0
 AnswersRequest g options n (Ok None) report answer = (report ≡ plain_report false) × (answer ≡ [])
 AnswersRequest g options n (Ok (Some wanted)) report answer = (found : List Triple) × FindsStrings g wanted found
-    × AnswersMatches (skips_in options.skip options.format) options.format g options.most found report answer
+    × AnswersMatches (skips options) g options found report answer
 AnswersRequest g options n (Err fault) report answer = (report ≡ plain_report true)
-    × (answer ≡ ended (fault_comment n fault))
+    × (answer ≡ with_empty_line (fault_comment n fault))
 
 -- The answer to a numbered line.
 abbrev pub AnswersLine : GraphParts → AnswerOptions → ℕ × List ℕ → AnswerReport → List ℕ → Type 0
@@ -180,13 +184,13 @@ abbrev pub max_input_bytes : ℕ
 max_input_bytes = 2 ^ 63 - 1
 
 -- The writer has gained the answers to all lines of the input.
-pub record AnswersInput (g : GraphParts) (options : AnswerOptions)
-    (input written_before written_after : Option (List ℕ)) (report : AnswerReport) : Type 0 where
+pub record AnswersInput (g : GraphParts) (options : AnswerOptions) (input out : Change)
+    (report : AnswerReport) : Type 0 where
   pub lines : List (ℕ × List ℕ)
-  pub are : AreLines max_input_bytes input lines
+  pub are : AreLines max_input_bytes input.before lines
   pub text : List ℕ
   pub answers : AnswersLines g options lines report text
-  pub written : Appends written_before written_after text
+  pub written : Gains out text
 
 -- These are the first lines of the input, or all of them.
 abbrev pub AreFirstLines : Option (List ℕ) → List (ℕ × List ℕ) → Type 0
@@ -195,53 +199,41 @@ AreFirstLines input lines =
     ⊎ AreLines max_input_bytes input lines
 
 -- The writer failed after exactly the first n bytes of the answers; or another error occurred after all of them.
-abbrev pub StopsAfterAnswers : ToolFault → List ℕ → Option (List ℕ) → Option (List ℕ) → ℕ → ℕ → Type 0
-StopsAfterAnswers (Write n) text written_before written_after failed_before failed_after =
-    FailsAfter n text written_before written_after failed_before failed_after
-StopsAfterAnswers Read text written_before written_after failed_before failed_after = (failed_after ≡ failed_before)
-    × Appends written_before written_after text
-StopsAfterAnswers OutOfMemory text written_before written_after failed_before failed_after =
-    (failed_after ≡ failed_before) × Appends written_before written_after text
-StopsAfterAnswers (Input fault) text written_before written_after failed_before failed_after =
-    (failed_after ≡ failed_before) × Appends written_before written_after text
-StopsAfterAnswers fault text written_before written_after failed_before failed_after = ⊥
+abbrev pub StopsAfterAnswers : ToolFault → List ℕ → Change → Type 0
+StopsAfterAnswers (Write n) text out = FailsAfter n text out
+StopsAfterAnswers Read text out = IsUnfailed out × Gains out text
+StopsAfterAnswers OutOfMemory text out = IsUnfailed out × Gains out text
+StopsAfterAnswers (Input fault) text out = IsUnfailed out × Gains out text
+StopsAfterAnswers fault text out = ⊥
 
--- If a line could not be read, these are exactly the complete lines before it; `after` is what the reader still yields
--- after it.
-abbrev pub FollowsLines : ToolFault → Option (List ℕ) → Option (List ℕ) → List (ℕ × List ℕ) → Type 0
-FollowsLines Read input after lines = (line : ℕ)
-    × FaultAfterLines (record { line = line; column = 0; reason = reasons.Read }) max_input_bytes input after lines
-FollowsLines (Input fault) input after lines = (fault.reason ≡ reasons.TooLong)
-    × FaultAfterLines fault max_input_bytes input after lines
-FollowsLines fault input after lines = Unit {0}
+-- If a line could not be read, these are exactly the complete lines before it.
+abbrev pub FollowsLines : ToolFault → Change → List (ℕ × List ℕ) → Type 0
+FollowsLines Read input lines = (line : ℕ)
+    × FaultAfterLines (record { line = line; column = 0; reason = reasons.Read }) max_input_bytes input.before
+    input.after lines
+FollowsLines (Input fault) input lines = (fault.reason ≡ reasons.TooLong)
+    × FaultAfterLines fault max_input_bytes input.before input.after lines
+FollowsLines fault input lines = Unit {0}
 
 -- An error ended the answers: the writer has gained those to the first lines of the input, complete unless it failed.
-pub record AnswersUntilFault (g : GraphParts) (options : AnswerOptions)
-    (input after written_before written_after : Option (List ℕ)) (failed_before failed_after : ℕ)
+pub record AnswersUntilFault (g : GraphParts) (options : AnswerOptions) (input out : Change)
     (fault : ToolFault) : Type 0 where
   pub lines : List (ℕ × List ℕ)
-  pub are : AreFirstLines input lines
-  pub behind : FollowsLines fault input after lines
+  pub are : AreFirstLines input.before lines
+  pub behind : FollowsLines fault input lines
   pub report : AnswerReport
   pub text : List ℕ
   pub answers : AnswersLines g options lines report text
-  pub stopped : StopsAfterAnswers fault text written_before written_after failed_before failed_after
+  pub stopped : StopsAfterAnswers fault text out
 
 -- ---- the same over a file
 
 -- The file is valid, and the writer has gained the answers to all lines of the requests over its graph.
-abbrev pub AnswersOverFile : AnswerOptions → Option (List ℕ) → Option (List ℕ) → Option (List ℕ) → Option (List ℕ)
-    → Option (List ℕ) → AnswerReport → Type 0
-AnswersOverFile options file_before file_after input written_before written_after report =
-    ReadsWith file_before file_after
-    (λ bytes. IsLayoutWith bytes (λ graph. AnswersInput graph options input written_before written_after report))
+abbrev pub AnswersOverFile : AnswerOptions → Change → Change → Change → AnswerReport → Type 0
+AnswersOverFile options file input out report =
+    ReadsWith file (λ bytes. IsLayoutWith bytes (λ graph. AnswersInput graph options input out report))
 
 -- The file is valid, and an error ended the answers to the requests over its graph.
-abbrev pub AnswersOverFileUntilFault : AnswerOptions → Option (List ℕ) → Option (List ℕ) → Option (List ℕ)
-    → Option (List ℕ) → Option (List ℕ) → Option (List ℕ) → ℕ → ℕ → ToolFault → Type 0
-AnswersOverFileUntilFault options file_before file_after input after written_before written_after failed_before
-    failed_after fault =
-    ReadsWith file_before file_after
-    (λ bytes. IsLayoutWith bytes
-    (λ graph. AnswersUntilFault graph options input after written_before written_after failed_before failed_after
-    fault))
+abbrev pub AnswersOverFileUntilFault : AnswerOptions → Change → Change → Change → ToolFault → Type 0
+AnswersOverFileUntilFault options file input out fault =
+    ReadsWith file (λ bytes. IsLayoutWith bytes (λ graph. AnswersUntilFault graph options input out fault))

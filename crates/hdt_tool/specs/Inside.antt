@@ -1,3 +1,2 @@
 pub mod AnswerLoop
 pub mod FrequencyKeys
-pub mod ProgressText

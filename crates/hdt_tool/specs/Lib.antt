@@ -7,6 +7,7 @@ pub mod NonTermText
 pub mod NewHeader
 pub mod InfoText
 pub mod Info
+pub mod Changes
 pub mod Outcomes
 pub mod Dialogue
 pub mod Faults

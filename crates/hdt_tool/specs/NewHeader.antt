@@ -7,6 +7,7 @@ use Rattle.hdt_file.specs.File.{GraphParts, IsLayout, decode_graph}
 use Rattle.hdt_terms.specs.Documents.{FaultInDocument}
 use Rattle.hdt_tool.specs.declared.fault.ToolFault.{ToolFault}
 use Rattle.hdt_tool.specs.declared.fault.ToolFault.TheVariants as faults
+use Rattle.hdt_tool.specs.Changes.{Change}
 use Rattle.hdt_tool.specs.Outcomes.{ReadsWith}
 use Rattle.hdt_tool.specs.PrintedReports.{rewritten_line}
 
@@ -19,11 +20,10 @@ pub record MakesNewHeader (body bytes text made : List ℕ) : Type 0 where
   pub printed : text ≡ rewritten_line (report_of graph.dictionary graph.triples made)
 
 -- The error is the first one of the file or of the header body; or reading failed, or memory ran out.
-abbrev pub IsNewHeaderFault : List ℕ → Option (List ℕ) → Option (List ℕ) → ToolFault → Type 0
-IsNewHeaderFault body before after (faults.File fault) =
-    ReadsWith before after (λ bytes. decode_graph bytes ≡ Err fault)
-IsNewHeaderFault body before after (faults.Input fault) = (given : Option (List ℕ))
+abbrev pub IsNewHeaderFault : List ℕ → Change → ToolFault → Type 0
+IsNewHeaderFault body input (faults.File fault) = ReadsWith input (λ bytes. decode_graph bytes ≡ Err fault)
+IsNewHeaderFault body input (faults.Input fault) = (given : Option (List ℕ))
     × FaultInDocument fault most (Some body) given
-IsNewHeaderFault body before after faults.Read = ⊤
-IsNewHeaderFault body before after faults.OutOfMemory = ⊤
-IsNewHeaderFault body before after fault = ⊥
+IsNewHeaderFault body input faults.Read = ⊤
+IsNewHeaderFault body input faults.OutOfMemory = ⊤
+IsNewHeaderFault body input fault = ⊥

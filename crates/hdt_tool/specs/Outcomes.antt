@@ -1,9 +1,7 @@
--- What a run of a command does: its output, the file that it makes, and its errors. In these definitions `before` and
--- `after` are what the reader still yields before and after the run.
-use Rattle.std.specs.Prelude.{◌≡◌, ◌≢◌, ◌<◌, ◌≤◌, ◌+◌, ℕ, Bool, true, false, List, [], ◌++◌, length, take, Option, None}
-use Rattle.std.specs.Prelude.{Some, Err, MatchOption, codes}
-use Rattle.std.specs.Fmt.{decimal}
-use Rattle.std.specs.Io.KnownBytes.{Appends, Consumes, IsAtEnd}
+-- What a run of a command does: its output, the file that it makes, and its errors.
+use Rattle.std.specs.Prelude.{◌≡◌, ◌≢◌, ◌<◌, ◌≤◌, ◌+◌, ℕ, true, false, List, [], ◌++◌, length, take, Option, None, Some}
+use Rattle.std.specs.Prelude.{Err, MatchOption}
+use Rattle.std.specs.Io.KnownBytes.{Consumes, IsAtEnd}
 use Rattle.hdt_wire.specs.declared.fault.Fault.{Fault}
 use Rattle.hdt_file.specs.Head.{HeadParts, IsHead, decode_head}
 use Rattle.hdt_file.specs.File.{GraphParts, IsLayout, decode_graph}
@@ -31,7 +29,7 @@ use Rattle.hdt_tool.specs.declared.request.Action.TheVariants.{ListStrings, Nth,
 use Rattle.hdt_tool.specs.declared.request.Action.TheVariants.{Exists, Count, Answer, Build, Rewrite, Info, Lint}
 use Rattle.hdt_tool.specs.declared.request.Action.TheVariants.{BuildInputs, Merge, Split}
 use Rattle.hdt_tool.specs.PrintedReports.{built_line, rewritten_line, head_text, verdict}
-use Rattle.hdt_tool.specs.ErrorLines.{fault_status}
+use Rattle.hdt_tool.specs.Changes.{Change, FailsAfter, Gains, GainsBeginning, IsUnfailed}
 use Rattle.hdt_tool.specs.Info.{PrintsInfo}
 use Rattle.hdt_tool.specs.StringsText.{string_lines, PrintsString, PrintsNumber}
 use Rattle.hdt_tool.specs.ListedStrings.{HasUnlistedTerm, PrintsListed}
@@ -213,14 +211,14 @@ IsFaultOfBytes action bytes OutOfMemory = Unit {0}
 IsFaultOfBytes action bytes fault = ⊥
 
 -- The reader has yielded exactly these bytes and is at its end.
-pub record ReadsAll (before after : Option (List ℕ)) (bytes : List ℕ) : Type 0 where
-  pub read : Consumes before after bytes
-  pub ended : IsAtEnd after
+pub record ReadsAll (input : Change) (bytes : List ℕ) : Type 0 where
+  pub read : Consumes input.before input.after bytes
+  pub ended : IsAtEnd input.after
 
 -- The reader has yielded bytes for which Holds is true, and is at its end.
-pub record ReadsWith (before after : Option (List ℕ)) (Holds : List ℕ → Type 0) : Type 0 where
+pub record ReadsWith (input : Change) (Holds : List ℕ → Type 0) : Type 0 where
   pub bytes : List ℕ
-  pub read : ReadsAll before after bytes
+  pub read : ReadsAll input bytes
   pub holds : Holds bytes
 
 -- The input is an N-Triples document, `built` is the file that `build` makes of it, and the text gives the file's
@@ -242,15 +240,15 @@ pub record RewritesFile (b : ℕ) (bytes text built : List ℕ) : Type 0 where
 
 -- The text is the command's output for the input, and `built` is the new file of `build` or `rewrite`. Other commands
 -- read the complete input and make no file.
-abbrev pub Yields : Action → Option (List ℕ) → Option (List ℕ) → List ℕ → List ℕ → Type 0
-Yields (Build options) before after text built = BuildsFile options before text built
-Yields (Rewrite b) before after text built = ReadsWith before after (λ bytes. RewritesFile b bytes text built)
-Yields action before after text built = ReadsWith before after (λ bytes. Prints action bytes text) × (built ≡ [])
+abbrev pub Yields : Action → Change → List ℕ → List ℕ → Type 0
+Yields (Build options) input text built = BuildsFile options input.before text built
+Yields (Rewrite b) input text built = ReadsWith input (λ bytes. RewritesFile b bytes text built)
+Yields action input text built = ReadsWith input (λ bytes. Prints action bytes text) × (built ≡ [])
 
 -- The error is one that the builder may return for the document.
-abbrev pub IsFaultOfDocument : Action → Option (List ℕ) → Option (List ℕ) → BuildFault → Type 0
-IsFaultOfDocument (Build options) before after fault = IsFaultOfBuild before after fault
-IsFaultOfDocument action before after fault = ⊥
+abbrev pub IsFaultOfDocument : Action → Change → BuildFault → Type 0
+IsFaultOfDocument (Build options) input fault = IsFaultOfBuild input.before input.after fault
+IsFaultOfDocument action input fault = ⊥
 
 -- Holds is true for the options of `build`; other commands have none.
 abbrev pub IfBuild : Action → (Options → Type 0) → Type 0
@@ -258,68 +256,50 @@ IfBuild (Build options) Holds = Holds options
 IfBuild action Holds = Unit {0}
 
 -- The options are not valid. `build` checks them before it reads; `rewrite` checks them only if the input is valid.
-abbrev pub HasBadOptions : Action → Option (List ℕ) → Option (List ℕ) → Type 0
-HasBadOptions (Build options) before after = AreValidOptions options → ⊥
-HasBadOptions (Rewrite b) before after = ReadsWith before after (HasBadBlockSize (Rewrite b))
-HasBadOptions action before after = ⊥
+abbrev pub HasBadOptions : Action → Change → Type 0
+HasBadOptions (Build options) input = AreValidOptions options → ⊥
+HasBadOptions (Rewrite b) input = ReadsWith input (HasBadBlockSize (Rewrite b))
+HasBadOptions action input = ⊥
 
 -- The error is one that the command may return for the input: the first one of a file or a document, a look-up without
 -- a result, or the first string to print that is not a term. Errors of reading, writing and memory may always occur.
-abbrev pub IsFaultOfInput : Action → Option (List ℕ) → Option (List ℕ) → ToolFault → Type 0
-IsFaultOfInput action before after (Input fault) = IsFaultOfDocument action before after (building.Line fault)
+abbrev pub IsFaultOfInput : Action → Change → ToolFault → Type 0
+IsFaultOfInput action input (Input fault) = IsFaultOfDocument action input (building.Line fault)
     × (fault.reason ≢ reasons.Read)
-IsFaultOfInput action before after NoTriples = IsFaultOfDocument action before after building.NoTriples
-IsFaultOfInput action before after BadOptions = HasBadOptions action before after
-IsFaultOfInput action before after Read = Unit {0}
-IsFaultOfInput action before after (Write n) = Unit {0}
-IsFaultOfInput action before after OutOfMemory = Unit {0}
-IsFaultOfInput action before after fault = ReadsWith before after (λ bytes. IsFaultOfBytes action bytes fault)
+IsFaultOfInput action input NoTriples = IsFaultOfDocument action input building.NoTriples
+IsFaultOfInput action input BadOptions = HasBadOptions action input
+IsFaultOfInput action input Read = Unit {0}
+IsFaultOfInput action input (Write n) = Unit {0}
+IsFaultOfInput action input OutOfMemory = Unit {0}
+IsFaultOfInput action input fault = ReadsWith input (λ bytes. IsFaultOfBytes action bytes fault)
 
 -- The text is the command's output for the input, and the new file has been appended to `made`.
-pub record YieldsAppended (action : Action) (before after : Option (List ℕ))
-    (text made_before made_after : List ℕ) : Type 0 where
+pub record YieldsAppended (action : Action) (input : Change) (text made_before made_after : List ℕ) : Type 0 where
   pub built : List ℕ
-  pub yields : Yields action before after text built
+  pub yields : Yields action input text built
   pub made : made_after ≡ made_before ++ built
 
 -- The run succeeded: the writer has gained the command's output for the input, and `made` the new file.
-pub record Completes (action : Action) (before after written_before written_after : Option (List ℕ))
-    (made_before made_after : List ℕ) : Type 0 where
+pub record Completes (action : Action) (input out : Change) (made_before made_after : List ℕ) : Type 0 where
   pub text : List ℕ
-  pub makes : YieldsAppended action before after text made_before made_after
-  pub written : Appends written_before written_after text
+  pub makes : YieldsAppended action input text made_before made_after
+  pub written : Gains out text
 
 -- The writer has gained exactly the first n bytes of the command's output for the input, which is longer.
-pub record WritesOutputPrefix (action : Action) (before after written_before written_after : Option (List ℕ))
-    (n : ℕ) : Type 0 where
+pub record WritesOutputPrefix (action : Action) (input out : Change) (n : ℕ) : Type 0 where
   pub text : List ℕ
   pub built : List ℕ
-  pub yields : Yields action before after text built
+  pub yields : Yields action input text built
   pub within : n < length text
-  pub written : Appends written_before written_after (take n text)
+  pub written : Gains out (take n text)
 
 -- ---- commands that count what has no form in N-Triples
 
 -- The writer has gained the command's output for the input, and n is what the command counts.
-pub record WritesWithCount (action : Action) (before after written_before written_after : Option (List ℕ))
-    (n : ℕ) : Type 0 where
+pub record WritesWithCount (action : Action) (input out : Change) (n : ℕ) : Type 0 where
   pub text : List ℕ
-  pub prints : ReadsWith before after (λ bytes. PrintsWithCount action bytes text n)
-  pub written : Appends written_before written_after text
-
--- The same, and the command counts something.
-abbrev pub WritesAndCounts : Action → Option (List ℕ) → Option (List ℕ) → Option (List ℕ) → Option (List ℕ) → Type 0
-WritesAndCounts action before after written_before written_after = (n : ℕ) × (n ≢ 0)
-    × WritesWithCount action before after written_before written_after n
-
--- The message on standard error with the number of triples that were skipped.
-abbrev pub skipped_line : ℕ → List ℕ
-skipped_line n = codes "hdt: triples skipped: " ++ decimal n
-
--- The message on standard error with the number of strings or triples.
-abbrev pub counted_line : Action → ℕ → List ℕ
-counted_line (VerifyTerms tight) n = codes "hdt: strings that are not terms: " ++ decimal n
-counted_line action n = skipped_line n
+  pub prints : ReadsWith input (λ bytes. PrintsWithCount action bytes text n)
+  pub written : Gains out text
 
 -- An error that a command with OUT may end with: no look-up fails.
 abbrev pub IsFileMakingFault : ToolFault → Type 0
@@ -345,39 +325,17 @@ IsReplaceFault built fault = ⊥
 
 -- ---- incomplete output
 
--- The writer failed once, after exactly the first n bytes of the text.
-pub record FailsAfter (n : ℕ) (text : List ℕ) (written_before written_after : Option (List ℕ))
-    (failed_before failed_after : ℕ) : Type 0 where
-  pub failed : failed_after ≡ failed_before + 1
-  pub within : n < length text
-  pub written : Appends written_before written_after (take n text)
-
--- The writer has gained a prefix of the text.
-abbrev pub AppendsPrefix : Option (List ℕ) → Option (List ℕ) → List ℕ → Type 0
-AppendsPrefix written_before written_after text = (n : ℕ) × Appends written_before written_after (take n text)
-
 -- Writing the text in pieces failed: the writer failed, or memory ran out after a prefix of the text.
-abbrev pub IsCutShort : ToolFault → List ℕ → Option (List ℕ) → Option (List ℕ) → ℕ → ℕ → Type 0
-IsCutShort (Write n) text written_before written_after failed_before failed_after =
-    FailsAfter n text written_before written_after failed_before failed_after
-IsCutShort OutOfMemory text written_before written_after failed_before failed_after = (failed_after ≡ failed_before)
-    × AppendsPrefix written_before written_after text
-IsCutShort fault text written_before written_after failed_before failed_after = ⊥
+abbrev pub IsCutShort : ToolFault → List ℕ → Change → Type 0
+IsCutShort (Write n) text out = FailsAfter n text out
+IsCutShort OutOfMemory text out = IsUnfailed out × GainsBeginning out text
+IsCutShort fault text out = ⊥
 
 -- Memory ran out while a command printed in pieces: the writer has gained a prefix of its output for the input, and did
 -- not fail.
-pub record InterruptsOutput (action : Action) (before after written_before written_after : Option (List ℕ))
-    (failed_before failed_after : ℕ) : Type 0 where
+pub record InterruptsOutput (action : Action) (input out : Change) : Type 0 where
   pub asked : PrintsInPieces action
   pub text : List ℕ
-  pub printed : ReadsWith before after (λ bytes. Prints action bytes text)
-  pub well : failed_after ≡ failed_before
-  pub written : AppendsPrefix written_before written_after text
-
--- ---- errors of status 1
-
--- The command has an error of status 1 for the input.
-pub record HasInputFault (action : Action) (before after : Option (List ℕ)) : Type 0 where
-  pub fault : ToolFault
-  pub status : fault_status fault ≡ 1
-  pub is_fault : IsFaultOfInput action before after fault
+  pub printed : ReadsWith input (λ bytes. Prints action bytes text)
+  pub well : IsUnfailed out
+  pub written : GainsBeginning out text

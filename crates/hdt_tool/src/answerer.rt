@@ -7,8 +7,8 @@ ghost use Rattle.hdt_file.specs.Graph.{graph_view};
 ghost use Rattle.hdt_file.specs.TermFlags.{AreTermFlags};
 ghost use Rattle.hdt_file.specs.TextWriting.{matches_if_given, limited};
 ghost use Rattle.hdt_tool.specs.Dialogue.{AnswersFound, AnswersKept, AnswersLine, AnswersMatches, AreFlagsIfSkipping};
-ghost use Rattle.hdt_tool.specs.Dialogue.{ReadsRequest, bounded_request_in, ended, fault_comment, given_strings};
-ghost use Rattle.hdt_tool.specs.Dialogue.{is_count, joined_reports, non_term_comment, plain_report, skips_in};
+ghost use Rattle.hdt_tool.specs.Dialogue.{ReadsRequest, bounded_request_in, fault_comment, given_strings, is_count};
+ghost use Rattle.hdt_tool.specs.Dialogue.{joined_reports, non_term_comment, plain_report, skips, with_empty_line};
 ghost use Rattle.hdt_tool.specs.TriplesText.{FindsStrings};
 ghost use Rattle.hdt_tool.specs.declared.request.AnswerReport.{AnswerReport};
 
@@ -108,7 +108,7 @@ fn joined_reports(one: AnswerReport, other: AnswerReport) -> Option<AnswerReport
 
 /// The answer to a line with an error: a comment line and an empty line.
 fn fault_answer(alloc: Global, line: u64, fault: TermFault) -> Result<Vec<u8>, AllocError>
-    ensures { IfOk result (λ answer. answer.items ≡ ended (fault_comment line fault)) }
+    ensures { IfOk result (λ answer. answer.items ≡ with_empty_line (fault_comment line fault)) }
 {
     let column = fault.column;
     let number = fault.reason.number();
@@ -119,7 +119,7 @@ fn fault_answer(alloc: Global, line: u64, fault: TermFault) -> Result<Vec<u8>, A
 
 /// The answer that reports a string that is not a term: a comment line and an empty line.
 fn non_term_answer(alloc: Global, role: Role, number: u64) -> Result<Vec<u8>, AllocError>
-    ensures { IfOk result (λ answer. answer.items ≡ ended (non_term_comment role number)) }
+    ensures { IfOk result (λ answer. answer.items ≡ with_empty_line (non_term_comment role number)) }
 {
     let role = role_name(role);
     let text = format!(in alloc; "# {role} {number} is not a term\n\n")?;
@@ -128,7 +128,7 @@ fn non_term_answer(alloc: Global, role: Role, number: u64) -> Result<Vec<u8>, Al
 
 /// Whether triples with a string that is not a term are left out.
 fn skips(options: AnswerOptions) -> bool
-    ensures { result ≡ skips_in options.skip options.format }
+    ensures { result ≡ skips options }
 {
     match options.format {
         OutputFormat::Numbers => false,
@@ -152,7 +152,7 @@ fn term_flags(
     graph: &Graph<'_>,
     options: AnswerOptions,
 ) -> Result<Option<TermFlags>, AllocError>
-    ensures { IfOk result (AreFlagsIfSkipping (skips_in options.skip options.format) (graph_view graph.now)) }
+    ensures { IfOk result (AreFlagsIfSkipping (skips options) (graph_view graph.now)) }
 {
     if !skips(options) {
         return Ok(None);
@@ -195,7 +195,7 @@ impl<'g> Answerer<'g> {
         options: AnswerOptions,
     ) -> Result<Answerer<'g>, AllocError>
         ensures { IfOk result (λ a. (a.graph.now ≡ graph.now) × (a.options ≡ options)
-            × AreFlagsIfSkipping (skips_in a.options.skip a.options.format) (graph_view a.graph.now) a.flags) }
+            × AreFlagsIfSkipping (skips a.options) (graph_view a.graph.now) a.flags) }
     {
         Ok(Answerer {
             alloc,
@@ -254,11 +254,11 @@ impl<'g> Answerer<'g> {
         out: &mut Vec<u8>,
     ) -> Result<u64, AllocError>
         requires cached { CachesTerms (graph_view self.now.graph.now) term_writer.old }
-        requires skips { skips_in self.now.options.skip self.now.options.format ≡ true }
+        requires skips { skips self.now.options ≡ true }
         requires flags { AreTermFlags (graph_view self.now.graph.now) flags.now }
         ensures cached { CachesTerms (graph_view self.now.graph.now) term_writer.new }
         ensures ok { IfOk result (λ n. (answer : List ℕ)
-            × AnswersKept self.now.options.format (graph_view self.now.graph.now) self.now.options.most
+            × AnswersKept (graph_view self.now.graph.now) self.now.options
             (matches_if_given (graph_view self.now.graph.now) pattern) n answer
             × (out.new.items ≡ out.old.items ++ answer)) }
         ensures unchanged { OnErr result (out.new.items ≡ out.old.items) }
@@ -288,12 +288,11 @@ impl<'g> Answerer<'g> {
         out: &mut Vec<u8>,
     ) -> Result<AnswerReport, AllocError>
         requires cached { CachesTerms (graph_view self.now.graph.now) term_writer.old }
-        requires flags { AreFlagsIfSkipping (skips_in self.now.options.skip self.now.options.format)
+        requires flags { AreFlagsIfSkipping (skips self.now.options)
             (graph_view self.now.graph.now) self.now.flags }
         ensures cached { CachesTerms (graph_view self.now.graph.now) term_writer.new }
         ensures ok { IfOk result (λ report. (answer : List ℕ)
-            × AnswersMatches (skips_in self.now.options.skip self.now.options.format) self.now.options.format
-            (graph_view self.now.graph.now) self.now.options.most
+            × AnswersMatches (skips self.now.options) (graph_view self.now.graph.now) self.now.options
             (matches_if_given (graph_view self.now.graph.now) pattern) report answer
             × (out.new.items ≡ out.old.items ++ answer)) }
         ensures unchanged { OnErr result (out.new.items ≡ out.old.items) }
@@ -319,7 +318,7 @@ impl<'g> Answerer<'g> {
         out: &mut Vec<u8>,
     ) -> Result<AnswerReport, AllocError>
         requires cached { CachesTerms (graph_view self.now.graph.now) buffers.old.term_writer }
-        requires flags { AreFlagsIfSkipping (skips_in self.now.options.skip self.now.options.format)
+        requires flags { AreFlagsIfSkipping (skips self.now.options)
             (graph_view self.now.graph.now) self.now.flags }
         ensures cached { CachesTerms (graph_view self.now.graph.now) buffers.new.term_writer }
         ensures ok { IfOk result (λ report. (answer : List ℕ)
@@ -354,7 +353,7 @@ impl<'g> Answerer<'g> {
         out: &mut Vec<u8>,
     ) -> Result<AnswerReport, AllocError>
         requires cached { CachesTerms (graph_view self.now.graph.now) buffers.old.term_writer }
-        requires flags { AreFlagsIfSkipping (skips_in self.now.options.skip self.now.options.format)
+        requires flags { AreFlagsIfSkipping (skips self.now.options)
             (graph_view self.now.graph.now) self.now.flags }
         ensures cached { CachesTerms (graph_view self.now.graph.now) buffers.new.term_writer }
         ensures ok { IfOk result (λ joined. (one : AnswerReport) × (answer : List ℕ)

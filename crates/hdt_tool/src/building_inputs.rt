@@ -1,22 +1,21 @@
 //! `build` of several documents.
-ghost use Rattle.std.specs.Prelude.{◌≡◌, ◌<◌, ◌↔◌, None, IfOk, IfErr, IsErrOf, [], codes, length, map};
+ghost use Rattle.std.specs.Prelude.{◌≡◌, ◌<◌, ◌≤◌, ◌↔◌, None, IfOk, IfErr, IsErrOf, [], codes, length, map};
 ghost use Rattle.hdt_build.specs.Built.{IsBuilt};
 ghost use Rattle.hdt_build.specs.Options.{AreValidOptions};
 ghost use Rattle.hdt_build.specs.declared.options.Report.{Report};
 ghost use Rattle.hdt_tool.specs.BuildInputs.{AddsInTurn, StopsAdding, document_fault};
 ghost use Rattle.hdt_tool.specs.PrintedReports.{counts_line};
-ghost use Rattle.hdt_tool.specs.Status.{IsCommandStatus};
 
 use crate::error_context::ErrorSource;
 use crate::fault::ToolFault;
 use crate::files::{is_stdin_path, output_path};
 use crate::line_limit::name_long_split_line;
+use crate::outcome::{Outcome, exit_status};
 use crate::output_file::write_made_file;
 use crate::printed_reports::counts_line;
 use crate::request::{BlankNodes, MergeOptions, Request};
-use crate::split_files::{late_inputs, print_fault, split_status};
+use crate::split_files::{late_inputs, split_status};
 use crate::splitting::{SplitInputsFault, first_with_blank_nodes, input_prefix};
-use crate::status::command_status;
 use hdt_build::{BuildFault, DocumentBuilder, Options, are_valid_options};
 use hdt_terms::SplitFault;
 use hdt_wire::Counted;
@@ -112,21 +111,18 @@ fn write_built(
     options: &MergeOptions,
     builder: DocumentBuilder,
 ) -> u8
-    ensures { IsCommandStatus result }
+    ensures { result ≤ 4 }
 {
     if builder.is_empty() {
-        return print_fault(rt, source, ToolFault::NoTriples);
+        return exit_status(rt, source, Outcome::Failed(ToolFault::NoTriples));
     }
     let (file, line) = match built(rt.alloc(), builder, &options.options) {
         Ok(made) => made,
-        Err(fault) => return print_fault(rt, source, fault),
+        Err(fault) => return exit_status(rt, source, Outcome::Failed(fault)),
     };
     let out = options.out.as_str();
     let written = write_made_file(rt, source.session, output_path(out), &file, &line);
-    match written {
-        Ok(()) => command_status(rt, source, Ok(())),
-        Err(fault) => print_fault(rt, source.with_output(out), fault),
-    }
+    exit_status(rt, source.with_output(out), Outcome::of_file(written))
 }
 
 /// Runs `build` with several documents or `--blank-nodes`, and returns the status. One document at a time is open.
@@ -138,24 +134,24 @@ pub(crate) fn build_inputs(
     options: &MergeOptions,
     blank_nodes: Option<BlankNodes>,
 ) -> u8
-    ensures { IsCommandStatus result }
+    ensures { result ≤ 4 }
 {
     let others = options.others.as_slice();
     if repeats_stdin(request, others) {
         let _ = rt.eprintln(STDIN_MESSAGE);
-        return 2;
+        return exit_status(rt, source, Outcome::Refused);
     }
     if !are_valid_options(&options.options) {
-        return print_fault(rt, source, ToolFault::BadOptions);
+        return exit_status(rt, source, Outcome::Failed(ToolFault::BadOptions));
     }
     let Ok(inputs) = late_inputs(rt, source.session, request, others) else {
-        return print_fault(rt, source, ToolFault::OutOfMemory);
+        return exit_status(rt, source, Outcome::Failed(ToolFault::OutOfMemory));
     };
     match read_documents(rt.alloc(), blank_nodes, inputs) {
         Ok(builder) => write_built(rt, source, options, builder),
         Err(stop) => {
             let stop = name_long_split_line(source.session, stop);
-            split_status(rt, source, request, others, Err(stop))
+            split_status(rt, source, request, others, stop)
         }
     }
 }

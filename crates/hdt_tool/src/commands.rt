@@ -4,11 +4,12 @@ ghost use Rattle.std.specs.Prelude.{◌≡◌, ◌≢◌, ◌<◌, ◌++◌, ◌
 ghost use Rattle.std.specs.Io.KnownBytes.{Appends};
 ghost use Rattle.hdt_wire.specs.Counted.{inner, failures};
 ghost use Rattle.hdt_build.specs.Options.{AreValidOptions};
+ghost use Rattle.hdt_tool.specs.Changes.{change, FailsAfter};
 ghost use Rattle.hdt_tool.specs.Dialogue.{AnswersOverFile, AnswersOverFileUntilFault};
 ghost use Rattle.hdt_tool.specs.PrintedReports.{counts_line};
 ghost use Rattle.hdt_tool.specs.Outcomes.{ReadsAll, IsFaultOfInput, IsFaultOfBytes, YieldsAppended};
 ghost use Rattle.hdt_tool.specs.Outcomes.{Completes, WritesOutputPrefix, WritesWithCount, InterruptsOutput, IfBuild};
-ghost use Rattle.hdt_tool.specs.Outcomes.{IsReadOnly, MakesFile, RewritesFile, FailsAfter};
+ghost use Rattle.hdt_tool.specs.Outcomes.{IsReadOnly, MakesFile, RewritesFile};
 ghost use Rattle.hdt_tool.specs.declared.request.Action.TheVariants as Action;
 
 use crate::dialogue::answer_requests;
@@ -33,8 +34,7 @@ pub(crate) fn read_all<R: Read>(
     input: &mut Counted<R>,
     capacity: usize,
 ) -> Result<Vec<u8>, ToolFault>
-    ensures ok { IfOk result (λ bytes. ReadsAll (R.remaining (inner input.old))
-        (R.remaining (inner input.new)) bytes.items) }
+    ensures ok { IfOk result (λ bytes. ReadsAll (change R.remaining input.old input.new) bytes.items) }
     ensures read { IsErrOf result ToolFault.Read → failures input.new ≡ failures input.old + 1 }
     ensures others { IfErr result (λ e. e ≢ ToolFault.Read → e ≡ ToolFault.OutOfMemory) }
     ensures unfailed { OnOk result (failures input.new ≡ failures input.old) }
@@ -81,11 +81,10 @@ fn build_file<R: Read>(
     input: &mut Counted<R>,
     made: &mut Vec<u8>,
 ) -> Result<Vec<u8>, ToolFault>
-    ensures ok { IfOk result (λ text. YieldsAppended (Action.Build options.now) (R.remaining (inner input.old))
-        (R.remaining (inner input.new))
+    ensures ok { IfOk result (λ text. YieldsAppended (Action.Build options.now) (change R.remaining input.old input.new)
         text.items made.old.items made.new.items) }
     ensures reported { IfErr result
-        (IsFaultOfInput (Action.Build options.now) (R.remaining (inner input.old)) (R.remaining (inner input.new))) }
+        (IsFaultOfInput (Action.Build options.now) (change R.remaining input.old input.new)) }
     ensures read { IsErrOf result ToolFault.Read → failures input.new ≡ failures input.old + 1 }
     ensures reader_unfailed { OnOk result (failures input.new ≡ failures input.old) }
     ensures reader_reported { IfErr result (λ e. e ≢ ToolFault.Read → failures input.new ≡ failures input.old) }
@@ -131,11 +130,10 @@ pub(crate) fn make_file<R: Read>(
     made: &mut Vec<u8>,
 ) -> Result<Vec<u8>, ToolFault>
     requires { MakesFile action.now }
-    ensures ok { IfOk result (λ text. YieldsAppended action.now (R.remaining (inner input.old))
-        (R.remaining (inner input.new))
+    ensures ok { IfOk result (λ text. YieldsAppended action.now (change R.remaining input.old input.new)
         text.items made.old.items made.new.items) }
     ensures reported { IfErr result
-        (IsFaultOfInput action.now (R.remaining (inner input.old)) (R.remaining (inner input.new))) }
+        (IsFaultOfInput action.now (change R.remaining input.old input.new)) }
     ensures bad { IfBuild action.now (λ options. IsErrOf result ToolFault.BadOptions ↔ (AreValidOptions options → ⊥)) }
     ensures unread { IfBuild action.now (λ options. IsErrOf result ToolFault.BadOptions → input.new ≡ input.old) }
     ensures read { IsErrOf result ToolFault.Read → failures input.new ≡ failures input.old + 1 }
@@ -171,21 +169,21 @@ pub fn print_output<R: Read, W: Write>(
 ) -> Result<u64, ToolFault>
     requires { IsReadOnly action.now }
     // `out` has gained the command's output for the complete input, and the number belongs to it.
-    ensures ok { IfOk result (WritesWithCount action.now (R.remaining (inner input.old)) (R.remaining (inner input.new))
-        (W.contents (inner out.old)) (W.contents (inner out.new))) }
+    ensures ok { IfOk result (WritesWithCount action.now (change R.remaining input.old input.new)
+        (change W.contents out.old out.new)) }
     ensures reported { IfErr result
-        (IsFaultOfInput action.now (R.remaining (inner input.old)) (R.remaining (inner input.new))) }
+        (IsFaultOfInput action.now (change R.remaining input.old input.new)) }
     ensures read { IsErrOf result ToolFault.Read → failures input.new ≡ failures input.old + 1 }
     ensures reader_unfailed { OnOk result (failures input.new ≡ failures input.old) }
     ensures reader_reported { IfErr result (λ e. e ≢ ToolFault.Read → failures input.new ≡ failures input.old) }
     ensures write { IfErr result (λ e. (n : ℕ) → e ≡ ToolFault.Write n → (failures out.new ≡ failures out.old + 1)
-        × WritesOutputPrefix action.now (R.remaining (inner input.old)) (R.remaining (inner input.new))
-        (W.contents (inner out.old)) (W.contents (inner out.new)) n) }
+        × WritesOutputPrefix action.now (change R.remaining input.old input.new)
+        (change W.contents out.old out.new) n) }
     ensures writer_unfailed { OnOk result (failures out.new ≡ failures out.old) }
     ensures unwritten { IfErr result (λ e. ((n : ℕ) → e ≢ ToolFault.Write n) → (out.new ≡ out.old)
         ⊎ ((e ≡ ToolFault.OutOfMemory)
-        × InterruptsOutput action.now (R.remaining (inner input.old)) (R.remaining (inner input.new))
-        (W.contents (inner out.old)) (W.contents (inner out.new)) (failures out.old) (failures out.new))) }
+        × InterruptsOutput action.now (change R.remaining input.old input.new)
+        (change W.contents out.old out.new))) }
 {
     let bytes = read_all(alloc, input, capacity)?;
     if prints_in_pieces(action) {
@@ -224,14 +222,13 @@ pub fn run<R: Read, W: Write>(
     made: &mut Vec<u8>,
 ) -> Result<(), ToolFault>
     // `out` has gained the command's output for the complete input, and `made` the new file.
-    ensures ok { OnOk result (Completes request.now.action (R.remaining (inner input.old))
-        (R.remaining (inner input.new))
-        (W.contents (inner out.old)) (W.contents (inner out.new)) made.old.items made.new.items) }
+    ensures ok { OnOk result (Completes request.now.action (change R.remaining input.old input.new)
+        (change W.contents out.old out.new) made.old.items made.new.items) }
     // An error of a file or a document is the first one of the input. `NoSuchTerm` and `NoSuchNumber` mean that the
     // role has no such string or ID. `NotATerm` is the first string to print that is not a term. `BadOptions` is
     // returned only by `build`, and by `rewrite` if the input is valid and the block size is not.
     ensures reported { IfErr result
-        (IsFaultOfInput request.now.action (R.remaining (inner input.old)) (R.remaining (inner input.new))) }
+        (IsFaultOfInput request.now.action (change R.remaining input.old input.new)) }
     // `build` returns it exactly if its options are not valid, and then it has read nothing.
     ensures bad { IfBuild request.now.action (λ options. IsErrOf result ToolFault.BadOptions
         ↔ (AreValidOptions options → ⊥)) }
@@ -243,15 +240,15 @@ pub fn run<R: Read, W: Write>(
     ensures reader_reported { IfErr result (λ e. e ≢ ToolFault.Read → failures input.new ≡ failures input.old) }
     // `Write(n)`: the writer failed once in this call, after exactly the first n bytes of the output.
     ensures write { IfErr result (λ e. (n : ℕ) → e ≡ ToolFault.Write n → (failures out.new ≡ failures out.old + 1)
-        × WritesOutputPrefix request.now.action (R.remaining (inner input.old)) (R.remaining (inner input.new))
-        (W.contents (inner out.old)) (W.contents (inner out.new)) n) }
+        × WritesOutputPrefix request.now.action (change R.remaining input.old input.new)
+        (change W.contents out.old out.new) n) }
     // With any other result the writer did not fail. With any other error nothing was written, except that a command
     // that writes in pieces may have written a prefix of its output before it ran out of memory.
     ensures writer_unfailed { OnOk result (failures out.new ≡ failures out.old) }
     ensures unwritten { IfErr result (λ e. ((n : ℕ) → e ≢ ToolFault.Write n) → (out.new ≡ out.old)
         ⊎ ((e ≡ ToolFault.OutOfMemory)
-        × InterruptsOutput request.now.action (R.remaining (inner input.old)) (R.remaining (inner input.new))
-        (W.contents (inner out.old)) (W.contents (inner out.new)) (failures out.old) (failures out.new))) }
+        × InterruptsOutput request.now.action (change R.remaining input.old input.new)
+        (change W.contents out.old out.new))) }
     ensures unchanged { OnErr result (made.new.items ≡ made.old.items) }
 {
     match &request.action {
@@ -283,9 +280,9 @@ pub fn answer_file<F: Read, R: Read, W: Write>(
     out: &mut Counted<W>,
 ) -> Result<AnswerReport, ToolFault>
     // The file is valid, and `out` has gained the answers to all requests over its graph.
-    ensures ok { IfOk result (AnswersOverFile options (F.remaining (inner file.old)) (F.remaining (inner file.new))
-        (R.remaining (inner input.old))
-        (W.contents (inner out.old)) (W.contents (inner out.new))) }
+    ensures ok { IfOk result (AnswersOverFile options (change F.remaining file.old file.new)
+        (change R.remaining input.old input.new)
+        (change W.contents out.old out.new)) }
     ensures writer_unfailed { OnOk result (failures out.new ≡ failures out.old) }
     ensures readers_unfailed { OnOk result ((failures file.new ≡ failures file.old)
         × (failures input.new ≡ failures input.old)) }
@@ -295,16 +292,15 @@ pub fn answer_file<F: Read, R: Read, W: Write>(
     // Either the file is not valid or was not read, and no request was read and nothing written; or the error occurred
     // while answering.
     ensures stopped { IfErr result
-        (λ e. (IsFaultOfInput (Action.Answer options) (F.remaining (inner file.old)) (F.remaining (inner file.new)) e
+        (λ e. (IsFaultOfInput (Action.Answer options) (change F.remaining file.old file.new) e
         × (input.new ≡ input.old) × (out.new ≡ out.old))
-        ⊎ AnswersOverFileUntilFault options (F.remaining (inner file.old)) (F.remaining (inner file.new))
-        (R.remaining (inner input.old)) (R.remaining (inner input.new))
-        (W.contents (inner out.old)) (W.contents (inner out.new)) (failures out.old) (failures out.new) e) }
+        ⊎ AnswersOverFileUntilFault options (change F.remaining file.old file.new)
+        (change R.remaining input.old input.new)
+        (change W.contents out.old out.new) e) }
     // `Write(n)` occurs only while answering: the writer failed once, after exactly the first n bytes of the answers.
     ensures write { IfErr result (λ e. (n : ℕ) → e ≡ ToolFault.Write n
-        → AnswersOverFileUntilFault options (F.remaining (inner file.old)) (F.remaining (inner file.new))
-        (R.remaining (inner input.old)) (R.remaining (inner input.new)) (W.contents (inner out.old))
-        (W.contents (inner out.new)) (failures out.old) (failures out.new) e) }
+        → AnswersOverFileUntilFault options (change F.remaining file.old file.new)
+        (change R.remaining input.old input.new) (change W.contents out.old out.new) e) }
 {
     let bytes = read_all(alloc, file, capacity)?;
     let graph = open(alloc, &bytes)?;

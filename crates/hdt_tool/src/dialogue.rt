@@ -6,6 +6,7 @@ ghost use Rattle.hdt_terms.specs.Documents.{AreLines, FaultAfterLines};
 ghost use Rattle.hdt_terms.specs.LinesReader.{HasBufferedLine, left, line_number};
 ghost use Rattle.hdt_terms.specs.declared.fault.LineReason.TheVariants as reasons;
 ghost use Rattle.hdt_file.specs.Graph.{graph_view};
+ghost use Rattle.hdt_tool.specs.Changes.{change};
 ghost use Rattle.hdt_tool.specs.Dialogue.{AnswersInput, AnswersUntilFault, max_input_bytes};
 ghost use Rattle.hdt_tool.specs.Inside.AnswerLoop.{HasTakenLines, lines_left};
 
@@ -78,15 +79,14 @@ pub fn answer_requests<R: Read, W: Write>(
 ) -> Result<AnswerReport, ToolFault>
     // `out` has gained the answers to all lines, in order; the result is whether any of them is an error, and how many
     // triples they leave out.
-    ensures ok { IfOk result (AnswersInput (graph_view graph.now) options (R.remaining (inner input.old))
-        (W.contents (inner out.old)) (W.contents (inner out.new))) }
+    ensures ok { IfOk result (AnswersInput (graph_view graph.now) options (change R.remaining input.old input.new)
+        (change W.contents out.old out.new)) }
     ensures writer_unfailed { OnOk result (failures out.new ≡ failures out.old) }
     // `out` has gained the complete answers to earlier lines, or exactly the first n bytes of the answers if the writer
     // failed. If a line cannot be read, other than for lack of memory, these are the answers to all lines before it.
     ensures stopped { IfErr result
-        (AnswersUntilFault (graph_view graph.now) options (R.remaining (inner input.old))
-        (R.remaining (inner input.new))
-        (W.contents (inner out.old)) (W.contents (inner out.new)) (failures out.old) (failures out.new)) }
+        (AnswersUntilFault (graph_view graph.now) options (change R.remaining input.old input.new)
+        (change W.contents out.old out.new)) }
     ensures read { IsErrOf result ToolFault.Read → failures input.new ≡ failures input.old + 1 }
     ensures reader_reported { IfErr result (λ e. e ≢ ToolFault.Read → failures input.new ≡ failures input.old) }
     ensures reader_unfailed { OnOk result (failures input.new ≡ failures input.old) }

@@ -13,7 +13,7 @@ use hdt_wire::put_decimal;
 use std::io::{self, Read};
 
 /// The bytes of a regular file; none of another file.
-fn content(rt: &HostRuntime, path: &str) -> io::Result<Vec<u8>> {
+fn read_regular_file(rt: &HostRuntime, path: &str) -> io::Result<Vec<u8>> {
     let mut bytes = Vec::new(rt.alloc());
     if let Some(mut file) = reopen(rt, path)? {
         file.read_to_end(&mut bytes)?;
@@ -91,7 +91,7 @@ pub(crate) fn put_unused_string(
     place: u64,
     out: &mut Vec<u8>,
 ) -> io::Result<()> {
-    let bytes = content(rt, path)?;
+    let bytes = read_regular_file(rt, path)?;
     let Ok((_, dictionary, _)) = read_dictionary(rt.alloc(), &bytes) else {
         return Ok(());
     };
@@ -109,7 +109,7 @@ pub(crate) fn put_term_string(
     id: u64,
     out: &mut Vec<u8>,
 ) -> io::Result<()> {
-    let bytes = content(rt, path)?;
+    let bytes = read_regular_file(rt, path)?;
     match read_dictionary(rt.alloc(), &bytes) {
         Ok((_, dictionary, _)) => put_labelled_string(rt, &dictionary, role, id, out),
         Err(_) => Ok(()),

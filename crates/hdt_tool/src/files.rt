@@ -1,7 +1,8 @@
 //! Opening files, and comparing paths by the file that they lead to.
-ghost use Rattle.std.specs.Prelude.{◌≡◌, ◌≢◌, ◌↔◌, ◌≤ℤ◌, pos, IfOk, IfSome, IsTrue, codes};
+ghost use Rattle.std.specs.Prelude.{◌≡◌, ◌≢◌, ◌↔◌, ◌≤ℤ◌, ◌⊎◌, pos, IfErr, IfOk, IfSome, IsTrue, codes};
 ghost use Rattle.hdt_tool.specs.Paths.{IsStdinPath};
 
+use crate::fault::{ToolFault, file_fault};
 use crate::progress::ProgressReader;
 use crate::session::Session;
 use std::fs::{self, File, OpenFile};
@@ -94,8 +95,8 @@ impl Read for Source {
     }
 }
 
-/// Opens the input, which reports its progress.
-pub(crate) fn open_input<'a>(
+/// Opens an input, which reports its progress.
+pub(crate) fn open_reader<'a>(
     rt: &HostRuntime,
     path: &str,
     session: &'a Session<'a>,
@@ -103,6 +104,20 @@ pub(crate) fn open_input<'a>(
     let source = session.note_error(Source::open(rt, path))?;
     let size = source.size(rt);
     Ok(ProgressReader::new(source, session, size))
+}
+
+/// Opens the input of a command, as [`open_reader`] does.
+pub(crate) fn open_input<'a>(
+    rt: &HostRuntime,
+    path: &str,
+    session: &'a Session<'a>,
+) -> Result<ProgressReader<'a, Source>, ToolFault>
+    ensures { IfErr result (λ fault. (fault ≡ ToolFault.OutOfMemory) ⊎ (fault ≡ ToolFault.Read)) }
+{
+    match open_reader(rt, path, session) {
+        Ok(reader) => Ok(reader),
+        Err(error) => Err(file_fault(&error, ToolFault::Read)),
+    }
 }
 
 /// The identity of a file on this system.

@@ -18,11 +18,11 @@
 //! - `commands`: all commands, from a reader to a writer; `lint`: the one with two writers;
 //! - `split_arguments`, `splitting`: the command `split`;
 //! - `merge_arguments` and `build_arguments`: reading the arguments of the commands `merge` and `build`;
-//! - `error_lines` and `non_term_status`: exit statuses and messages; `error_context`, `error_hints` and
-//!   `error_strings`: the lines that follow a message;
+//! - `error_lines` and `outcome`: exit statuses and messages; `error_context`, `error_hints` and `error_strings`: the
+//!   lines that follow a message;
 //! - `line_limit`: documents whose lines may not be longer than a limit;
-//! - `session`: what a command shows on standard error beside its message; `progress`, `progress_text`, `watched` and
-//!   `recent_lines`: its parts;
+//! - `session`: what a command shows on standard error beside its message; `progress`, `progress_text`,
+//!   `session_stream` and `recent_lines`: its parts;
 //! - `files`, `overwriting`, `atomic_replace`, `output_file`, `split_parts`, `split_files`, `merging`,
 //!   `building_inputs`, `new_header` and `status`: the same over files and streams.
 #![tactic(auto)]
@@ -49,8 +49,8 @@ mod listed_strings;
 mod merge_arguments;
 mod merging;
 mod new_header;
-mod non_term_status;
 mod non_term_text;
+mod outcome;
 mod output_file;
 mod overwriting;
 mod pending_output;
@@ -64,12 +64,12 @@ mod queries;
 mod recent_lines;
 mod request;
 mod session;
+mod session_stream;
 mod split_arguments;
 mod split_files;
 mod split_parts;
 mod splitting;
 mod status;
-mod watched;
 
 pub use command_line::{parse_invocation, parse_words};
 pub use commands::{answer_file, print_output, run};

@@ -1,17 +1,14 @@
 //! The command `lint`: reports every faulty line of a document.
-ghost use Rattle.std.specs.Prelude.{◌≡◌, ◌≢◌, ◌⊎◌, ◌+◌, ℕ, Option, false, true, if◌then◌else◌, IfOk, IfErr};
-ghost use Rattle.std.specs.Prelude.{IsErrOf, MatchResult, OnOk, ◌<◌, ◌^◌};
+ghost use Rattle.std.specs.Prelude.{◌≡◌, ◌≢◌, ◌⊎◌, ◌+◌, ℕ, IfOk, IfErr, IsErrOf, OnOk, ◌<◌, ◌^◌};
 ghost use Rattle.hdt_wire.specs.Counted.{inner, failures};
 ghost use Rattle.hdt_terms.specs.Lint.{GainsBytes};
-ghost use Rattle.hdt_tool.specs.ErrorLines.{fault_status};
+ghost use Rattle.hdt_tool.specs.Changes.{change};
 ghost use Rattle.hdt_tool.specs.Linting.{IsAny, Lints, LintsUntilError, longest_line, most_faulty};
-ghost use Rattle.hdt_tool.specs.Status.{IsCommandStatus};
 
 use crate::error_context::ErrorSource;
 use crate::error_hints::print_document_hint;
 use crate::fault::{ToolFault, line_fault};
 use crate::files::open_input;
-use crate::status::{command_status, open_failed};
 use hdt_terms::{LintFault, MAX_INPUT_LEN, lint_document};
 use hdt_wire::Counted;
 use std::alloc::Global;
@@ -56,9 +53,19 @@ fn is_any(count: u64) -> bool
     count > 0
 }
 
-/// Checks every line of a document and reports each faulty one to `reported`, as [`lint_document`] does. Returns
-/// whether there are any. With `keep`, writes the lines without an error to `kept`. Stops after `most` faulty lines, if
-/// that is given. A line of more than `longest` bytes, without its end, is faulty, if that is given.
+/// What `lint` checks and prints.
+#[derive(Clone, Copy)]
+pub(crate) struct LintOptions {
+    /// The greatest number of bytes of a line, without its end; `None` for no limit.
+    longest: Option<u64>,
+    /// Whether the lines without an error are printed.
+    keep: bool,
+    /// The number of faulty lines after which to stop; `None` for no limit.
+    most: Option<u64>,
+}
+
+/// Checks the lines of a document and reports each faulty one to `reported`, as [`lint_document`] does. Returns whether
+/// there are any. Writes the lines without an error to `kept`, if they are wanted.
 ///
 /// # Errors
 ///
@@ -66,17 +73,14 @@ fn is_any(count: u64) -> bool
 /// has 2^63 bytes or more, and [`ToolFault::OutOfMemory`].
 pub(crate) fn lint_input<R: Read, K: Write, T: Write>(
     alloc: Global,
-    longest: Option<u64>,
-    keep: bool,
-    most: Option<u64>,
+    options: LintOptions,
     input: &mut Counted<R>,
     kept: &mut Counted<K>,
     reported: &mut Counted<T>,
 ) -> Result<bool, ToolFault>
     // All lines were checked, or those up to the last of `most` faulty ones; the result is whether any is faulty.
-    ensures ok { IfOk result (Lints longest keep most (R.remaining (inner input.old)) (K.contents (inner kept.old))
-        (K.contents (inner kept.new))
-        (T.contents (inner reported.old)) (T.contents (inner reported.new))) }
+    ensures ok { IfOk result (Lints options (change R.remaining input.old input.new)
+        (change K.contents kept.old kept.new) (change T.contents reported.old reported.new)) }
     ensures writers_unfailed { OnOk result ((failures kept.new ≡ failures kept.old)
         × (failures reported.new ≡ failures reported.old)) }
     // `Write(n)`: one of them failed once in this call, after it had gained n bytes, and the other one did not fail.
@@ -87,115 +91,44 @@ pub(crate) fn lint_input<R: Read, K: Write, T: Write>(
         × GainsBytes n (T.contents (inner reported.old)) (T.contents (inner reported.new)))) }
     // The writers have gained a prefix of the output for some first lines; all lines before one that cannot be read.
     ensures stopped { IfErr result
-        (LintsUntilError longest keep (R.remaining (inner input.old)) (R.remaining (inner input.new))
-        (K.contents (inner kept.old))
-        (K.contents (inner kept.new)) (T.contents (inner reported.old)) (T.contents (inner reported.new))) }
+        (LintsUntilError options (change R.remaining input.old input.new)
+        (change K.contents kept.old kept.new) (change T.contents reported.old reported.new)) }
     // `Read`: the reader failed once in this call. With any other result it did not fail.
     ensures read { IsErrOf result ToolFault.Read → failures input.new ≡ failures input.old + 1 }
     ensures reader_unfailed { OnOk result (failures input.new ≡ failures input.old) }
     ensures reader_reported { IfErr result (λ e. e ≢ ToolFault.Read → failures input.new ≡ failures input.old) }
 {
-    let (longest, most) = (longest_line(longest), most_faulty(most));
-    let count = lint_document(alloc, longest, keep, most, input, kept, reported)?;
+    let (longest, most) = (longest_line(options.longest), most_faulty(options.most));
+    let count = lint_document(alloc, longest, options.keep, most, input, kept, reported)?;
     Ok(is_any(count))
 }
 
-/// The status of `lint`: 1 if any line is faulty. Removes the line of progress, and prints the message of an error that
-/// ended it.
-fn lint_status(rt: &HostRuntime, source: ErrorSource<'_>, outcome: Result<bool, ToolFault>) -> u8
-    ensures { MatchResult outcome (λ faulty. result ≡ (if faulty then 1 else 0)) (λ fault. (result ≡ fault_status fault)
-        ⊎ (result ≡ 4)) }
-{
-    match outcome {
-        Ok(faulty) => {
-            source.session.clear();
-            if faulty {
-                print_document_hint(rt, source);
-            }
-            u8::from(faulty)
-        }
-        Err(fault) => command_status(rt, source, Err(fault)),
-    }
-}
-
-/// Lints a document, and returns the status.
-fn run_lint<R: Read, K: Write, T: Write>(
-    rt: &HostRuntime,
-    source: ErrorSource<'_>,
-    longest: Option<u64>,
-    keep: bool,
-    most: Option<u64>,
-    input: &mut Counted<R>,
-    kept: &mut Counted<K>,
-    reported: &mut Counted<T>,
-) -> u8
-    ensures statuses { IsCommandStatus result }
-    // 0: no line that was checked is faulty, and `kept` has gained the lines if `keep`.
-    ensures done { result ≡ 0
-        → Lints longest keep most (R.remaining (inner input.old)) (K.contents (inner kept.old))
-        (K.contents (inner kept.new))
-        (T.contents (inner reported.old)) (T.contents (inner reported.new)) false }
-    ensures unfailed { result ≡ 0 → (failures kept.new ≡ failures kept.old)
-        × (failures reported.new ≡ failures reported.old) }
-    ensures reader_unfailed { result ≡ 0 → failures input.new ≡ failures input.old }
-    // 3: the reader or a writer failed.
-    ensures failed { result ≡ 3 → (failures input.new ≡ failures input.old + 1)
-        ⊎ (failures kept.new ≡ failures kept.old + 1) ⊎ (failures reported.new ≡ failures reported.old + 1) }
-    // Otherwise the status is 1, some of the lines that were checked are faulty, and the writers have gained the
-    // reports of exactly these and the other lines; or an error with this status, or lack of memory for its message,
-    // ended the run.
-    ensures stopped { result ≢ 0
-        → ((result ≡ 1) × Lints longest keep most (R.remaining (inner input.old)) (K.contents (inner kept.old))
-        (K.contents (inner kept.new))
-        (T.contents (inner reported.old)) (T.contents (inner reported.new)) true)
-        ⊎ ((e : ToolFault) × ((result ≡ fault_status e) ⊎ (result ≡ 4))
-        × LintsUntilError longest keep (R.remaining (inner input.old)) (R.remaining (inner input.new))
-        (K.contents (inner kept.old)) (K.contents (inner kept.new)) (T.contents (inner reported.old))
-        (T.contents (inner reported.new)) e) }
-{
-    let outcome = lint_input(rt.alloc(), longest, keep, most, input, kept, reported);
-    lint_status(rt, source, outcome)
-}
-
-/// Lints the document at a path, and returns the status. The reports go to standard output; with `keep`, to standard
-/// error, and the lines without an error to standard output.
+/// Lints the document at a path, as [`lint_input`] does. The reports go to standard output; with `keep`, to standard
+/// error, and the lines without an error to standard output. Prints a hint if any line is faulty.
 pub(crate) fn lint_path(
     rt: &HostRuntime,
     source: ErrorSource<'_>,
     path: &str,
     keep: bool,
     most: Option<u64>,
-) -> u8
-    ensures { IsCommandStatus result }
-{
+) -> Result<bool, ToolFault> {
     let session = source.session;
-    let longest = session.longest_line();
-    let mut input = match open_input(rt, path, session) {
-        Ok(input) => Counted::new(input),
-        Err(error) => return open_failed(rt, source, &error),
+    let options = LintOptions {
+        longest: session.longest_line(),
+        keep,
+        most,
     };
+    let mut input = Counted::new(open_input(rt, path, session)?);
     let mut out = Counted::new(session.watch(io::writer(rt)));
     let mut errors = Counted::new(session.watch(rt.stderr()));
-    if keep {
-        return run_lint(
-            rt,
-            source,
-            longest,
-            true,
-            most,
-            &mut input,
-            &mut out,
-            &mut errors,
-        );
+    let faulty = if keep {
+        lint_input(rt.alloc(), options, &mut input, &mut out, &mut errors)?
+    } else {
+        lint_input(rt.alloc(), options, &mut input, &mut errors, &mut out)?
+    };
+    if faulty {
+        session.clear();
+        print_document_hint(rt, source);
     }
-    run_lint(
-        rt,
-        source,
-        longest,
-        false,
-        most,
-        &mut input,
-        &mut errors,
-        &mut out,
-    )
+    Ok(faulty)
 }

@@ -1,25 +1,24 @@
 //! `merge` over files.
-ghost use Rattle.std.specs.Prelude.{◌≡◌, ◌<◌, ◌++◌, ◌↔◌, length, IfOk, IfErr, IsErrOf, codes};
+ghost use Rattle.std.specs.Prelude.{◌≡◌, ◌<◌, ◌≤◌, ◌++◌, ◌↔◌, length, IfOk, IfErr, IsErrOf, codes};
 ghost use Rattle.hdt_wire.specs.Counted.{inner};
 ghost use Rattle.hdt_build.specs.Built.{IsBuilt};
 ghost use Rattle.hdt_build.specs.Layouts.{denoted_by};
 ghost use Rattle.hdt_build.specs.Options.{AreValidOptions};
 ghost use Rattle.hdt_build.specs.declared.options.Report.{Report};
+ghost use Rattle.hdt_tool.specs.Changes.{change};
 ghost use Rattle.hdt_tool.specs.Outcomes.{IsFaultOfInput, IsLayoutWith, ReadsWith};
 ghost use Rattle.hdt_tool.specs.PrintedReports.{counts_line};
-ghost use Rattle.hdt_tool.specs.Status.{IsCommandStatus};
 ghost use Rattle.hdt_tool.specs.declared.request.Action.TheVariants as Action;
 
 use crate::commands::read_all;
 use crate::error_context::ErrorSource;
-use crate::fault::{ToolFault, file_fault};
+use crate::fault::ToolFault;
 use crate::files::{open_input, output_path};
+use crate::outcome::{Outcome, exit_status};
 use crate::output_file::write_made_file;
 use crate::printed_reports::counts_line;
 use crate::request::{MergeOptions, Request};
 use crate::session::Session;
-use crate::split_files::{print_fault, print_line_fault};
-use crate::status::command_status;
 use hdt_build::{Merger, Options};
 use hdt_file::open;
 use hdt_wire::Counted;
@@ -33,11 +32,11 @@ fn add_file<R: Read>(
     input: &mut Counted<R>,
     capacity: usize,
 ) -> Result<Merger, ToolFault>
-    ensures ok { IfOk result (λ made. ReadsWith (R.remaining (inner input.old)) (R.remaining (inner input.new))
+    ensures ok { IfOk result (λ made. ReadsWith (change R.remaining input.old input.new)
         (λ bytes. IsLayoutWith bytes (λ graph. made ≡ merger ++ denoted_by graph))) }
     ensures some { IfOk result (λ made. 0 < length made) }
     ensures reported { IfErr result
-        (IsFaultOfInput Action.Verify (R.remaining (inner input.old)) (R.remaining (inner input.new))) }
+        (IsFaultOfInput Action.Verify (change R.remaining input.old input.new)) }
 {
     let bytes = read_all(alloc, input, capacity)?;
     let graph = open(alloc, &bytes)?;
@@ -66,7 +65,7 @@ fn add_path(
     ensures { IfOk result (λ made. 0 < length made) }
 {
     session.begin_input();
-    let input = open_input(rt, path, session).map_err(|error| file_fault(&error, ToolFault::Read))?;
+    let input = open_input(rt, path, session)?;
     let capacity = input.capacity();
     let mut input = Counted::new(input);
     add_file(rt.alloc(), merger, &mut input, capacity)
@@ -99,23 +98,20 @@ pub(crate) fn run_merge(
     request: &Request,
     options: &MergeOptions,
 ) -> u8
-    ensures { IsCommandStatus result }
+    ensures { result ≤ 4 }
 {
     let session = source.session;
     let merger = match merge_inputs(rt, session, request, options) {
         Ok(merger) => merger,
         Err((fault, path)) => {
-            return print_line_fault(rt, source.with_input(path), path, &fault);
+            return exit_status(rt, source.with_input(path), Outcome::Failed(fault));
         }
     };
     let (file, line) = match merged(rt.alloc(), merger, &options.options) {
         Ok(made) => made,
-        Err(fault) => return print_fault(rt, source, fault),
+        Err(fault) => return exit_status(rt, source, Outcome::Failed(fault)),
     };
     let out = options.out.as_str();
     let written = write_made_file(rt, session, output_path(out), &file, &line);
-    match written {
-        Ok(()) => command_status(rt, source, Ok(())),
-        Err(fault) => print_fault(rt, source.with_output(out), fault),
-    }
+    exit_status(rt, source.with_output(out), Outcome::of_file(written))
 }

@@ -1,23 +1,22 @@
 //! `rewrite --header` over files.
-ghost use Rattle.std.specs.Prelude.{◌≡◌, ◌⊎◌, IfOk, IfErr, IfSome};
-ghost use Rattle.hdt_wire.specs.Counted.{inner};
+ghost use Rattle.std.specs.Prelude.{◌≡◌, ◌≤◌, ◌⊎◌, IfOk, IfErr, IfSome};
+ghost use Rattle.hdt_tool.specs.Changes.{change};
 ghost use Rattle.hdt_tool.specs.NewHeader.{IsNewHeaderFault, MakesNewHeader};
-ghost use Rattle.hdt_tool.specs.Outcomes.{MakesFile, ReadsWith};
-ghost use Rattle.hdt_tool.specs.Status.{IsCommandStatus};
+ghost use Rattle.hdt_tool.specs.Outcomes.{ReadsWith};
+ghost use Rattle.hdt_tool.specs.declared.outcome.Outcome.TheVariants as Outcome;
 
 use crate::command_line::is_block_size_given;
 use crate::commands::read_all;
 use crate::error_context::ErrorSource;
-use crate::error_lines::OUT_OF_MEMORY;
-use crate::fault::{ToolFault, file_fault};
-use crate::files::{is_stdin_path, open_input, output_path};
-use crate::output_file::{make_file_at, write_made_file};
+use crate::fault::ToolFault;
+use crate::files::{open_input, output_path};
+use crate::outcome::{Outcome, exit_status};
+use crate::output_file::write_made_file;
 use crate::overwriting::{SameFile, refuse_same_file};
 use crate::printed_reports::counts_line;
-use crate::request::{Invocation, Request};
+use crate::request::Request;
 use crate::session::Session;
-use crate::split_files::{print_fault, print_line_fault};
-use crate::status::{borrow_strings, command_status, print_error_line};
+use crate::status::borrow_strings;
 use hdt_build::with_header;
 use hdt_wire::Counted;
 use std::alloc::{AllocError, Global};
@@ -35,10 +34,10 @@ fn with_new_header<R: Read>(
     input: &mut Counted<R>,
     capacity: usize,
 ) -> Result<(Vec<u8>, Vec<u8>), ToolFault>
-    ensures ok { IfOk result (λ made. ReadsWith (R.remaining (inner input.old)) (R.remaining (inner input.new))
+    ensures ok { IfOk result (λ made. ReadsWith (change R.remaining input.old input.new)
         (λ bytes. MakesNewHeader header.now bytes made.1.items made.0.items)) }
     ensures reported { IfErr result
-        (IsNewHeaderFault header.now (R.remaining (inner input.old)) (R.remaining (inner input.new))) }
+        (IsNewHeaderFault header.now (change R.remaining input.old input.new)) }
 {
     let bytes = read_all(alloc, input, capacity)?;
     let (file, report) = with_header(alloc, &bytes, header)?;
@@ -49,7 +48,7 @@ fn with_new_header<R: Read>(
 /// The contents of the file at a path.
 fn read_path(rt: &HostRuntime, session: &Session<'_>, path: &str) -> Result<Vec<u8>, ToolFault> {
     session.begin_input();
-    let input = open_input(rt, path, session).map_err(|error| file_fault(&error, ToolFault::Read))?;
+    let input = open_input(rt, path, session)?;
     let capacity = input.capacity();
     read_all(rt.alloc(), &mut Counted::new(input), capacity)
 }
@@ -62,7 +61,7 @@ fn describe_path(
     header: &[u8],
 ) -> Result<(Vec<u8>, Vec<u8>), ToolFault> {
     session.begin_input();
-    let input = open_input(rt, path, session).map_err(|error| file_fault(&error, ToolFault::Read))?;
+    let input = open_input(rt, path, session)?;
     let capacity = input.capacity();
     with_new_header(rt.alloc(), header, &mut Counted::new(input), capacity)
 }
@@ -75,21 +74,24 @@ fn has_block_size(alloc: Global, words: &io::Result<Vec<String>>) -> Result<bool
     }
 }
 
-/// The status if `--block-size` is given, too: 2, or 4 if memory runs out. Prints the message.
-fn block_size_status(rt: &HostRuntime, words: &io::Result<Vec<String>>) -> Option<u8>
-    ensures { IfSome result (λ status. (status ≡ 2) ⊎ (status ≡ 4)) }
+/// The outcome if `--block-size` is given, too, or memory runs out. Prints the message.
+fn refuse_block_size(rt: &HostRuntime, words: &io::Result<Vec<String>>) -> Option<Outcome>
+    ensures { IfSome result
+        (λ outcome. (outcome ≡ Outcome.Refused) ⊎ (outcome ≡ Outcome.Failed ToolFault.OutOfMemory)) }
 {
     match has_block_size(rt.alloc(), words) {
         Ok(false) => None,
-        Ok(true) => Some(print_error_line(rt, 2, BLOCK_SIZE_MESSAGE)),
-        Err(AllocError) => Some(print_error_line(rt, 4, OUT_OF_MEMORY)),
+        Ok(true) => {
+            let _ = rt.eprintln(BLOCK_SIZE_MESSAGE);
+            Some(Outcome::Refused)
+        }
+        Err(AllocError) => Some(Outcome::Failed(ToolFault::OutOfMemory)),
     }
 }
 
 /// Runs `rewrite --header` with the header at a path, and returns the status. The header is read first, then IN, and
-/// then OUT is written, so OUT may be IN. (Contracts can't describe the file system; tests/test_header.py checks this.)
-#[tactic(auto, using(crate::proofs::Statuses::refusal_status, crate::proofs::Statuses::command_status))]
-fn run_new_header(
+/// then OUT is written, so OUT may be IN. (Contracts cannot describe the file system; tests/test_header.py checks this.)
+pub(crate) fn run_new_header(
     rt: &HostRuntime,
     source: ErrorSource<'_>,
     words: &io::Result<Vec<String>>,
@@ -97,55 +99,30 @@ fn run_new_header(
     path: &str,
     out: &str,
 ) -> u8
-    ensures { IsCommandStatus result }
+    ensures { result ≤ 4 }
 {
-    if let Some(status) = block_size_status(rt, words) {
-        return status;
+    if let Some(outcome) = refuse_block_size(rt, words) {
+        return exit_status(rt, source, outcome);
     }
     if let Some(same) = SameFile::of_header(rt, request, path, out) {
-        return refuse_same_file(rt, same);
+        return exit_status(rt, source, refuse_same_file(rt, same));
     }
     let session = source.session;
     let header = match read_path(rt, session, path) {
         Ok(header) => header,
-        Err(fault) => return print_line_fault(rt, source.with_input(path), path, &fault),
+        Err(fault) => return exit_status(rt, source.with_input(path), Outcome::Failed(fault)),
     };
     let (file, line) = match describe_path(rt, session, request.file.as_str(), &header) {
         Ok(made) => made,
         Err(ToolFault::Input(fault)) => {
             session.begin_input();
             session.keep_input(&header, header.len());
-            return print_line_fault(rt, source.with_input(path), path, &ToolFault::Input(fault));
+            let outcome = Outcome::Failed(ToolFault::Input(fault));
+            return exit_status(rt, source.with_input(path), outcome);
         }
-        Err(fault) => return print_fault(rt, source, fault),
+        Err(fault) => return exit_status(rt, source, Outcome::Failed(fault)),
     };
     drop(header);
-    command_status(
-        rt,
-        source,
-        write_made_file(rt, session, output_path(out), &file, &line),
-    )
-}
-
-/// Runs a command with OUT, `build`, `rewrite` or `rewrite --header`, and returns the status.
-#[tactic(auto, using(crate::proofs::Statuses::command_status))]
-pub(crate) fn run_with_out(
-    rt: &HostRuntime,
-    source: ErrorSource<'_>,
-    words: &io::Result<Vec<String>>,
-    invocation: &Invocation,
-    out: &str,
-) -> u8
-    requires { MakesFile invocation.now.request.action }
-    ensures { IsCommandStatus result }
-{
-    let request = &invocation.request;
-    if let Some(header) = &invocation.header {
-        return run_new_header(rt, source, words, request, header.as_str(), out);
-    }
-    command_status(
-        rt,
-        source,
-        make_file_at(rt, source.session, request, output_path(out)),
-    )
+    let written = write_made_file(rt, session, output_path(out), &file, &line);
+    exit_status(rt, source, Outcome::of_file(written))
 }

@@ -3,7 +3,8 @@ ghost use Rattle.std.specs.Prelude.{◌≡◌, ◌≢◌, ◌⊎◌, ℕ, Ok, Er
 ghost use Rattle.std.specs.Io.KnownBytes.{Appends};
 ghost use Rattle.std.specs.IoError.{error_kind};
 ghost use Rattle.hdt_wire.specs.Counted.{inner, failures};
-ghost use Rattle.hdt_tool.specs.Outcomes.{FailsAfter, IsFileMakingFault, IsOutputFault, MakesFile};
+ghost use Rattle.hdt_tool.specs.Changes.{change, FailsAfter};
+ghost use Rattle.hdt_tool.specs.Outcomes.{IsFileMakingFault, IsOutputFault, MakesFile};
 
 use crate::atomic_replace::{replace_file, replaceable_path};
 use crate::commands::make_file;
@@ -41,11 +42,9 @@ fn write_file_and_line<F: Write, W: Write>(
     // `Write(n)`: either the file failed after exactly n bytes, and `out` is unchanged; or the writer failed after
     // exactly n bytes of the line, and the file is complete.
     ensures failed { IfErr result (λ e. (n : ℕ) × (e ≡ ToolFault.Write n) × (
-        (FailsAfter n built.now (F.contents (inner file.old)) (F.contents (inner file.new)) (failures file.old)
-        (failures file.new)
+        (FailsAfter n built.now (change F.contents file.old file.new)
         × (out.new ≡ out.old))
-        ⊎ (FailsAfter n line.now (W.contents (inner out.old)) (W.contents (inner out.new)) (failures out.old)
-        (failures out.new)
+        ⊎ (FailsAfter n line.now (change W.contents out.old out.new)
         × Appends (F.contents (inner file.old)) (F.contents (inner file.new)) built.now
         × (failures file.new ≡ failures file.old)))) }
 {
@@ -125,10 +124,7 @@ pub(crate) fn make_file_at(
     let mut built = Vec::new(rt.alloc());
     // The input is closed before OUT is opened, so one descriptor is enough.
     let line = {
-        let input = open_input(rt, request.file.as_str(), session).map_err(|error| file_fault(
-            &error,
-            ToolFault::Read,
-        ))?;
+        let input = open_input(rt, request.file.as_str(), session)?;
         let capacity = input.capacity();
         let mut input = Counted::new(LineLimit::new(input, session));
         let outcome = make_file(

@@ -1,10 +1,11 @@
 //! Refusing to write to a file that the command reads.
 ghost use Rattle.std.specs.Prelude.{◌≡◌, ◌⊎◌};
+ghost use Rattle.hdt_tool.specs.declared.outcome.Outcome.TheVariants as Outcome;
 
-use crate::error_lines::OUT_OF_MEMORY;
+use crate::fault::ToolFault;
 use crate::files::{STDERR_PATH, STDOUT_PATH, is_stdin_path, output_path, would_overwrite};
+use crate::outcome::Outcome;
 use crate::request::{Action, Request};
-use crate::status::print_error_line;
 use std::alloc::{AllocError, Global};
 
 /// The name of standard error.
@@ -136,16 +137,18 @@ pub(crate) fn same_file<'a>(rt: &HostRuntime, request: &Request) -> Option<SameF
     }
 }
 
-/// The status if an input is an output, too: 2, or 4 if there is no memory for the message. Prints the message, but not
-/// into the input.
-pub(crate) fn refuse_same_file(rt: &HostRuntime, same: SameFile<'_>) -> u8
-    ensures { (result ≡ 2) ⊎ (result ≡ 4) }
+/// The outcome if an input is an output, too. Prints the message, but not into the input.
+pub(crate) fn refuse_same_file(rt: &HostRuntime, same: SameFile<'_>) -> Outcome
+    ensures { (result ≡ Outcome.Refused) ⊎ (result ≡ Outcome.Failed ToolFault.OutOfMemory) }
 {
     if same.takes_messages() {
-        return 2;
+        return Outcome::Refused;
     }
     match same.message(rt.alloc()) {
-        Ok(text) => print_error_line(rt, 2, text.as_str()),
-        Err(AllocError) => print_error_line(rt, 4, OUT_OF_MEMORY),
+        Ok(text) => {
+            let _ = rt.eprintln(text.as_str());
+            Outcome::Refused
+        }
+        Err(AllocError) => Outcome::Failed(ToolFault::OutOfMemory),
     }
 }

@@ -2,7 +2,7 @@
 ghost use Rattle.std.specs.Prelude.{◌≡◌, ◌+◌, ◌^◌, ◌<◌, ◌≤◌, ◌⊎◌, ◌++◌, [], ℕ, List, true, length, take, IfErr, OnOk};
 ghost use Rattle.std.specs.Io.KnownBytes.{Appends};
 ghost use Rattle.hdt_wire.specs.Counted.{inner, failures};
-ghost use Rattle.hdt_tool.specs.Outcomes.{FailsAfter};
+ghost use Rattle.hdt_tool.specs.Changes.{change, FailsAfter};
 
 use crate::fault::ToolFault;
 use hdt_wire::Counted;
@@ -42,8 +42,7 @@ impl PendingOutput {
             (W.contents (inner out.new)) self.old.bytes.items) }
         ensures well { OnOk result (failures out.new ≡ failures out.old) }
         ensures err { IfErr result (λ e. (m : ℕ) × (e ≡ ToolFault.Write (self.old.written + m))
-            × FailsAfter m self.old.bytes.items (W.contents (inner out.old)) (W.contents (inner out.new))
-            (failures out.old) (failures out.new)) }
+            × FailsAfter m self.old.bytes.items (change W.contents out.old out.new)) }
     {
         match out.write_all(&self.bytes) {
             Ok(()) => {
@@ -58,11 +57,8 @@ impl PendingOutput {
         }
     }
 
-    /// Accepts the bytes that were appended from `start` on. Writes all pending bytes, except if `more` follow and at
-    /// most
-    /// `limit` are pending. If the number of bytes overflows 64 bits, drops the new ones, writes the others and fails
-    /// with
-    /// `OutOfMemory`.
+    /// Accepts the bytes from `start` on. Flushes, unless `more` follow and at most `limit` are pending. If the number
+    /// of bytes overflows 64 bits, drops them, flushes the rest, and fails with `OutOfMemory`.
     pub(crate) fn accept<W: Write>(
         &mut self,
         start: usize,
@@ -82,8 +78,7 @@ impl PendingOutput {
             (λ e. ((e ≡ ToolFault.OutOfMemory) × (failures out.new ≡ failures out.old)
             × Appends (W.contents (inner out.old)) (W.contents (inner out.new)) (take start self.old.bytes.items))
             ⊎ ((m : ℕ) × (e ≡ ToolFault.Write (self.old.written + m))
-            × FailsAfter m self.old.bytes.items (W.contents (inner out.old)) (W.contents (inner out.new))
-            (failures out.old) (failures out.new))) }
+            × FailsAfter m self.old.bytes.items (change W.contents out.old out.new))) }
     {
         if self.written.checked_add(self.bytes.len() as u64).is_none() {
             self.bytes.truncate(start);
@@ -102,7 +97,7 @@ pub(crate) fn write_text<W: Write>(text: &[u8], out: &mut Counted<W>) -> Result<
     ensures ok { OnOk result (Appends (W.contents (inner out.old)) (W.contents (inner out.new)) text.now) }
     ensures unfailed { OnOk result (failures out.new ≡ failures out.old) }
     ensures failed { IfErr result (λ e. (n : ℕ) × (e ≡ ToolFault.Write n) × FailsAfter n text.now
-        (W.contents (inner out.old)) (W.contents (inner out.new)) (failures out.old) (failures out.new)) }
+        (change W.contents out.old out.new)) }
 {
     out.write_all(text).map_err(ToolFault::Write)
 }

@@ -6,6 +6,7 @@ ghost use Rattle.hdt_wire.specs.Counted.{inner, failures};
 ghost use Rattle.hdt_dict.specs.Ids.{string_at_id};
 ghost use Rattle.hdt_file.specs.Graph.{layout_view};
 ghost use Rattle.hdt_dict.specs.Dictionary.{role_strings};
+ghost use Rattle.hdt_tool.specs.Changes.{change};
 ghost use Rattle.hdt_tool.specs.Outcomes.{IsCutShort};
 ghost use Rattle.hdt_tool.specs.StringsText.{string_line, string_lines, PrintsString, PrintsNumber};
 
@@ -46,7 +47,7 @@ pub(crate) fn print_strings<W: Write>(
     // The writer failed or memory ran out, after a prefix of the lines.
     ensures cut { IfErr result
         (λ e. IsCutShort e (string_lines 1 (role_strings (layout_view layout.now).dictionary role))
-        (W.contents (inner out.old)) (W.contents (inner out.new)) (failures out.old) (failures out.new)) }
+        (change W.contents out.old out.new)) }
 {
     let mut pending = PendingOutput::new(alloc);
     let mut strings = layout.strings(alloc, role);

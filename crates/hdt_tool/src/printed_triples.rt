@@ -3,6 +3,7 @@ ghost use Rattle.std.specs.Prelude.{◌≡◌, ◌<◌, ◌^◌, ◌++◌, ◌�
 ghost use Rattle.std.specs.Io.KnownBytes.{Appends};
 ghost use Rattle.hdt_wire.specs.Control.{IsPrefixOf};
 ghost use Rattle.hdt_wire.specs.Counted.{inner, failures};
+ghost use Rattle.hdt_tool.specs.Changes.{change};
 ghost use Rattle.hdt_tool.specs.Outcomes.{IsCutShort};
 ghost use Rattle.hdt_tool.specs.declared.request.OutputFormat.TheVariants.{NTriples};
 ghost use Rattle.hdt_file.specs.TextWriting.{matches_if_given, limited};
@@ -78,7 +79,7 @@ fn print_numbers<W: Write>(
         (numbers_lines (limited most (remaining_matches found.entry)))) }
     ensures unfailed { OnOk result (failures out.new ≡ failures out.old) }
     ensures cut { IfErr result (λ e. IsCutShort e (numbers_lines (limited most (remaining_matches found.entry)))
-        (W.contents (inner out.old)) (W.contents (inner out.new)) (failures out.old) (failures out.new)) }
+        (change W.contents out.old out.new)) }
 {
     let mut matches = found;
     let mut remaining = most.unwrap_or(u64::MAX);
@@ -149,8 +150,7 @@ pub(crate) fn print_triples<W: Write>(
     ensures err { IfErr result (λ e. (IsFindFault (layout_view layout.now) given.now format most e
         × (out.new ≡ out.old))
         ⊎ ((text : List ℕ) × PrintsFound (layout_view layout.now) given.now format most text
-        × IsCutShort e text (W.contents (inner out.old)) (W.contents (inner out.new))
-        (failures out.old) (failures out.new))) }
+        × IsCutShort e text (change W.contents out.old out.new))) }
 {
     let pattern = find_pattern(layout, given);
     match format {
@@ -184,8 +184,7 @@ pub(crate) fn print_kept_triples<W: Write>(
     ensures unfailed { OnOk result (failures out.new ≡ failures out.old) }
     ensures err { IfErr result (λ e. ((e ≡ ToolFault.OutOfMemory) × (out.new ≡ out.old))
         ⊎ ((text : List ℕ) × (n : ℕ) × PrintsKept (layout_view layout.now) given.now NTriples most text n
-        × IsCutShort e text (W.contents (inner out.old)) (W.contents (inner out.new))
-        (failures out.old) (failures out.new))) }
+        × IsCutShort e text (change W.contents out.old out.new))) }
 {
     let pattern = find_pattern(layout, given);
     Ok(stream_writable(alloc, layout, pattern, most, out)?)

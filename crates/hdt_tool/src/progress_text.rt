@@ -1,6 +1,4 @@
 //! The texts of progress: lines for a log, and the line of a terminal.
-ghost use Rattle.std.specs.Prelude.{◌≡◌, ◌*◌, ◌/◌, max, IfOk, string_bytes};
-ghost use Rattle.hdt_tool.specs.Inside.ProgressText.{progress_line, reading_text, phase_text};
 
 use std::alloc::{AllocError, Global};
 
@@ -9,9 +7,7 @@ pub(crate) fn progress_line(
     alloc: Global,
     read: u64,
     size: Option<u64>,
-) -> Result<String, AllocError>
-    ensures { IfOk result (λ line. string_bytes line ≡ progress_line read size) }
-{
+) -> Result<String, AllocError> {
     match size {
         Some(size) => format!(in alloc; "hdt: read {read} of {size} bytes\n"),
         None => format!(in alloc; "hdt: read {read} bytes\n"),
@@ -19,9 +15,7 @@ pub(crate) fn progress_line(
 }
 
 /// The percentage of the input that has been read.
-fn percentage(read: u64, size: u64) -> u128
-    ensures { result ≡ read * 100 / max size 1 }
-{
+fn percentage(read: u64, size: u64) -> u128 {
     u128::from(read) * 100 / u128::from(size.max(1))
 }
 
@@ -31,9 +25,7 @@ pub(crate) fn reading_text(
     alloc: Global,
     read: u64,
     size: Option<u64>,
-) -> Result<String, AllocError>
-    ensures { IfOk result (λ text. string_bytes text ≡ reading_text read size) }
-{
+) -> Result<String, AllocError> {
     let read_mb = read / 1_000_000;
     match size {
         Some(size) => {
@@ -46,9 +38,7 @@ pub(crate) fn reading_text(
 }
 
 /// What a terminal shows after the input was read: what is done now, and a number of megabytes.
-pub(crate) fn phase_text(alloc: Global, phase: &str, bytes: u64) -> Result<String, AllocError>
-    ensures { IfOk result (λ text. string_bytes text ≡ phase_text phase.now bytes) }
-{
+pub(crate) fn phase_text(alloc: Global, phase: &str, bytes: u64) -> Result<String, AllocError> {
     let megabytes = bytes / 1_000_000;
     format!(in alloc; "hdt: {phase}, {megabytes} MB")
 }

@@ -2,6 +2,7 @@
 ghost use Rattle.std.specs.Prelude.{◌≡◌, ◌↔◌, ◌⊎◌, ℕ, List, IfOk, IfErr, IsTrue, OnOk};
 ghost use Rattle.std.specs.Io.KnownBytes.{Appends};
 ghost use Rattle.hdt_wire.specs.Counted.{inner, failures};
+ghost use Rattle.hdt_tool.specs.Changes.{change};
 ghost use Rattle.hdt_tool.specs.TriplesText.{find_format};
 ghost use Rattle.hdt_tool.specs.Outcomes.{IsCutShort, IsFaultOfBytes, Prints, PrintsInPieces, PrintsText};
 ghost use Rattle.hdt_tool.specs.Outcomes.{PrintsWithCount};
@@ -33,8 +34,7 @@ pub(crate) fn print_in_pieces<W: Write>(
     ensures unfailed { OnOk result (failures out.new ≡ failures out.old) }
     ensures err { IfErr result (λ e. (IsFaultOfBytes action.now bytes.now e × (out.new ≡ out.old))
         ⊎ ((text : List ℕ) × Prints action.now bytes.now text
-        × IsCutShort e text (W.contents (inner out.old)) (W.contents (inner out.new))
-        (failures out.old) (failures out.new))) }
+        × IsCutShort e text (change W.contents out.old out.new))) }
 {
     let layout = Layout::read(alloc, bytes)?;
     match action {
@@ -83,9 +83,8 @@ fn find_format(numbers: bool) -> OutputFormat
     }
 }
 
-/// The output of a command that prints one complete text and counts nothing, for the bytes of a file. `answer` without
-/// requests prints nothing, and neither do `lint` and `split`, which have several outputs, and `merge`, which has
-/// several inputs.
+/// The output of a command that prints one complete text and counts nothing, for the bytes of a file. Empty for
+/// `answer`, `lint`, `split` and `merge`, which write elsewhere.
 pub(crate) fn file_text(alloc: Global, action: &Action, bytes: &[u8]) -> Result<Vec<u8>, ToolFault>
     requires { PrintsText action.now }
     ensures ok { IfOk result (λ text. Prints action.now bytes.now text.items) }

@@ -3,8 +3,8 @@
 use crate::error_context::nth_line;
 use std::alloc::{AllocError, Global};
 
-/// The last lines read from an input that cannot be read twice: the line being parsed and what was read after it. The
-/// reader must ask for more only if it has no complete line.
+/// The current line and the unread bytes of an input that cannot be read twice. More may be read only if no complete
+/// line is left.
 #[derive(Drop)]
 pub(crate) struct RecentLines {
     bytes: Vec<u8>,

@@ -7,7 +7,7 @@ use crate::files::{STDERR_PATH, is_same_file, is_stdin_path, output_path};
 use crate::progress_text::{phase_text, progress_line, reading_text};
 use crate::recent_lines::RecentLines;
 use crate::request::{Action, Invocation, Progress};
-use crate::watched::Watched;
+use crate::session_stream::SessionStream;
 use hdt_terms::LineFault;
 use std::alloc::AllocError;
 use std::cell::{Cell, RefCell};
@@ -115,7 +115,7 @@ fn phase_of(action: &Action) -> Phase {
 }
 
 /// Whether the terminal knows the escape codes that `show` prints.
-fn knows_codes(rt: &HostRuntime) -> bool {
+fn supports_escape_codes(rt: &HostRuntime) -> bool {
     match env::var(rt, "TERM") {
         Ok(name) => !name.as_str().is_empty() && name.as_str() != "dumb",
         Err(_) => false,
@@ -133,7 +133,7 @@ fn progress_of(rt: &HostRuntime, invocation: &Invocation) -> Progress {
         }
     }
     match invocation.progress {
-        Progress::Automatic if !is_terminal(rt) || !knows_codes(rt) => Progress::Off,
+        Progress::Automatic if !is_terminal(rt) || !supports_escape_codes(rt) => Progress::Off,
         progress => progress,
     }
 }
@@ -213,17 +213,17 @@ impl<'a> Session<'a> {
     }
 
     /// Watches a standard stream or a device, which may be the terminal of standard error.
-    pub(crate) fn watch<'b, T>(&'b self, inner: T) -> Watched<'b, T>
+    pub(crate) fn watch<'b, T>(&'b self, inner: T) -> SessionStream<'b, T>
         ensures { result.inner ≡ inner }
     {
-        Watched::new(inner, self, true)
+        SessionStream::new(inner, self, true)
     }
 
     /// Watches a regular file.
-    pub(crate) fn watch_file<'b, T>(&'b self, inner: T) -> Watched<'b, T>
+    pub(crate) fn watch_file<'b, T>(&'b self, inner: T) -> SessionStream<'b, T>
         ensures { result.inner ≡ inner }
     {
-        Watched::new(inner, self, false)
+        SessionStream::new(inner, self, false)
     }
 
     /// Remembers the error of an operation, if it failed, and returns the outcome.

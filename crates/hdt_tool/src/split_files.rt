@@ -1,21 +1,20 @@
 //! `split` over files and streams.
-ghost use Rattle.std.specs.Prelude.{◌≡◌, ◌≢◌, ◌⊎◌, ◌<◌, ◌^◌, IfOk, MatchResult, length, map, get_or, string_bytes};
+ghost use Rattle.std.specs.Prelude.{◌≡◌, ◌≢◌, ◌<◌, ◌≤◌, ◌^◌, IfOk, length, map, get_or, string_bytes};
 ghost use Rattle.hdt_tool.specs.Paths.{input_paths};
-ghost use Rattle.hdt_tool.specs.ErrorLines.{fault_status};
-ghost use Rattle.hdt_tool.specs.Status.{IsCommandStatus, split_fault_status};
+ghost use Rattle.hdt_tool.specs.Status.{IsExitStatus, split_outcome};
 
 use crate::atomic_replace::{NAME_ATTEMPTS, random_number};
-use crate::error_context::{ErrorSource, print_context};
-use crate::error_lines::{OUT_OF_MEMORY, fault_line};
+use crate::error_context::ErrorSource;
+use crate::error_lines::OUT_OF_MEMORY;
 use crate::fault::{ToolFault, file_fault, line_fault};
-use crate::files::{Source, open_input};
+use crate::files::{Source, open_reader};
 use crate::line_limit::{LineLimit, name_long_split_line};
+use crate::outcome::{Outcome, exit_status, print_error_line};
 use crate::progress::ProgressReader;
 use crate::request::{Request, SplitOptions, SplitOutput};
 use crate::session::Session;
 use crate::split_parts::{part_files, printed_parts, publish_folder, remove_folder};
 use crate::splitting::{SplitInputsFault, split_inputs};
-use crate::status::{command_status, print_error_line};
 use hdt_terms::SplitFault;
 use hdt_usage::put_shown;
 use hdt_wire::Counted;
@@ -47,7 +46,7 @@ impl Read for LateInput<'_> {
     fn read(&mut self, buf: &mut [u8]) -> io::Result<usize> {
         if self.opened.is_none() {
             self.session.begin_input();
-            let source = open_input(self.rt, self.path, self.session)?;
+            let source = open_reader(self.rt, self.path, self.session)?;
             self.opened = Some(LineLimit::new(source, self.session));
         }
         match &mut self.opened {
@@ -97,57 +96,6 @@ pub(crate) fn late_inputs<'a>(
     Ok(inputs)
 }
 
-/// The status of an error. Prints its message.
-pub(crate) fn print_fault(rt: &HostRuntime, source: ErrorSource<'_>, fault: ToolFault) -> u8
-    ensures statuses { IsCommandStatus result }
-    ensures is { (result ≡ fault_status fault) ⊎ (result ≡ 4) }
-{
-    command_status(rt, source, Err(fault))
-}
-
-/// Prints an error with the path of the input.
-fn print_input_line(rt: &HostRuntime, path: &str, line: &str) -> Result<(), AllocError> {
-    let mut text = Vec::new(rt.alloc());
-    text.extend_from_slice(b"hdt: ")?;
-    put_shown(path.as_bytes(), &mut text)?;
-    text.extend_from_slice(b": ")?;
-    text.extend_from_slice(line.strip_prefix("hdt: ").unwrap_or(line).as_bytes())?;
-    text.push(b'\n')?;
-    let mut errors = rt.stderr();
-    let _ = errors.write_all(&text);
-    Ok(())
-}
-
-/// The status of an error of the input at a path. Prints the message, and the lines that follow it.
-fn print_input_fault(rt: &HostRuntime, source: ErrorSource<'_>, path: &str, fault: &ToolFault) -> u8
-    ensures { (result ≡ fault_status fault.now) ⊎ (result ≡ 4) }
-{
-    let Ok((status, line)) = fault_line(rt.alloc(), fault) else {
-        return print_error_line(rt, 4, OUT_OF_MEMORY);
-    };
-    let Ok(()) = print_input_line(rt, path, line.as_str()) else {
-        return print_error_line(rt, 4, OUT_OF_MEMORY);
-    };
-    print_context(rt, source, fault);
-    status
-}
-
-/// The status of an error of the input at a path, or of reading it.
-pub(crate) fn print_line_fault(
-    rt: &HostRuntime,
-    source: ErrorSource<'_>,
-    path: &str,
-    fault: &ToolFault,
-) -> u8
-    ensures statuses { IsCommandStatus result }
-    ensures is { (result ≡ fault_status fault.now) ⊎ (result ≡ 4) }
-{
-    if *fault == ToolFault::OutOfMemory {
-        return print_fault(rt, source, *fault);
-    }
-    print_input_fault(rt, source, path, fault)
-}
-
 /// Prints that two inputs have blank nodes, and what to do.
 fn print_blank_nodes_line(rt: &HostRuntime, one: &str, other: &str) -> Result<(), AllocError> {
     let mut text = Vec::new(rt.alloc());
@@ -161,52 +109,49 @@ fn print_blank_nodes_line(rt: &HostRuntime, one: &str, other: &str) -> Result<()
     Ok(())
 }
 
-/// The status for two inputs with blank nodes.
-fn print_blank_nodes_fault(rt: &HostRuntime, one: &str, other: &str) -> u8
-    ensures statuses { IsCommandStatus result }
-    ensures is { (result ≡ 2) ⊎ (result ≡ 4) }
+/// The outcome of an error of `split`.
+fn split_outcome(stop: SplitInputsFault) -> Outcome
+    ensures { result ≡ split_outcome stop }
 {
-    match print_blank_nodes_line(rt, one, other) {
-        Ok(()) => 2,
-        Err(AllocError) => print_error_line(rt, 4, OUT_OF_MEMORY),
+    match stop {
+        SplitInputsFault::Input(_, SplitFault::Line(fault)) => Outcome::Failed(line_fault(fault)),
+        SplitInputsFault::Input(_, SplitFault::Write(_)) => Outcome::Failed(ToolFault::Write(0)),
+        SplitInputsFault::Input(_, SplitFault::OutOfMemory) | SplitInputsFault::OutOfMemory => {
+            Outcome::Failed(ToolFault::OutOfMemory)
+        }
+        SplitInputsFault::BlankNodes(..) => Outcome::Refused,
     }
 }
 
-/// The status of a split, or of reading the documents of a build. Prints the message of an error.
+/// The status of an error of `split`, or of reading the documents of a build. Prints its message, with the paths of the
+/// inputs that it is about.
 pub(crate) fn split_status(
     rt: &HostRuntime,
     source: ErrorSource<'_>,
     request: &Request,
     others: &[String],
-    outcome: Result<(), SplitInputsFault>,
+    stop: SplitInputsFault,
 ) -> u8
-    ensures statuses { IsCommandStatus result }
-    // 0 without an error, else that of the error, or 4 if there is no memory for its message.
-    ensures is { MatchResult outcome (λ _. result ≡ 0)
-        (λ stop. (result ≡ split_fault_status stop) ⊎ (result ≡ 4)) }
+    ensures is { IsExitStatus (split_outcome stop) result }
+    ensures bound { result ≤ 4 }
 {
-    let stop = match outcome {
-        Ok(()) => return 0,
-        Err(stop) => stop,
-    };
     match stop {
         SplitInputsFault::Input(number, SplitFault::Line(fault)) => {
-            let path = input_path(request, others, number);
-            print_line_fault(rt, source.with_input(path), path, &line_fault(fault))
+            let source = source.with_input(input_path(request, others, number));
+            exit_status(rt, source, Outcome::Failed(line_fault(fault)))
         }
-        SplitInputsFault::Input(_, SplitFault::Write(_)) => print_fault(
-            rt,
-            source,
-            ToolFault::Write(0),
-        ),
-        SplitInputsFault::Input(_, SplitFault::OutOfMemory) | SplitInputsFault::OutOfMemory => {
-            print_fault(rt, source, ToolFault::OutOfMemory)
+        SplitInputsFault::BlankNodes(one, other) => {
+            source.session.clear();
+            let (one, other) = (
+                input_path(request, others, one),
+                input_path(request, others, other),
+            );
+            match print_blank_nodes_line(rt, one, other) {
+                Ok(()) => 2,
+                Err(AllocError) => print_error_line(rt, 4, OUT_OF_MEMORY),
+            }
         }
-        SplitInputsFault::BlankNodes(one, other) => print_blank_nodes_fault(
-            rt,
-            input_path(request, others, one),
-            input_path(request, others, other),
-        ),
+        stop => exit_status(rt, source, split_outcome(stop)),
     }
 }
 
@@ -219,18 +164,22 @@ fn split_to<W: Write + Drop>(
     outs: Result<Vec<Counted<W>>, AllocError>,
 ) -> u8
     requires { IfOk outs (λ outs. length outs.items < 2 ^ 32) }
-    ensures { IsCommandStatus result }
+    ensures { result ≤ 4 }
 {
     let others = options.others.as_slice();
     let (Ok(mut outs), Ok(inputs)) = (outs, late_inputs(rt, source.session, request, others)) else {
-        return print_fault(rt, source, ToolFault::OutOfMemory);
+        return exit_status(rt, source, Outcome::Failed(ToolFault::OutOfMemory));
     };
     if outs.is_empty() {
-        return print_fault(rt, source, ToolFault::BadOptions);
+        return exit_status(rt, source, Outcome::Failed(ToolFault::BadOptions));
     }
-    let outcome = split_inputs(rt.alloc(), options.blank_nodes, inputs, outs.as_mut_slice());
-    let outcome = outcome.map_err(|fault| name_long_split_line(source.session, fault));
-    split_status(rt, source, request, others, outcome)
+    match split_inputs(rt.alloc(), options.blank_nodes, inputs, outs.as_mut_slice()) {
+        Ok(()) => exit_status(rt, source, Outcome::Done),
+        Err(stop) => {
+            let stop = name_long_split_line(source.session, stop);
+            split_status(rt, source, request, others, stop)
+        }
+    }
 }
 
 /// Makes a new folder beside a path, under a random name.
@@ -256,8 +205,8 @@ fn finish_folder(
     parts: u32,
     status: u8,
 ) -> u8
-    requires { IsCommandStatus status }
-    ensures statuses { IsCommandStatus result }
+    requires { status ≤ 4 }
+    ensures bound { result ≤ 4 }
     ensures kept { status ≢ 0 → result ≡ status }
 {
     let mut status = status;
@@ -267,7 +216,10 @@ fn finish_folder(
             .note_error(publish_folder(rt, made, path, parts))
         {
             Ok(()) => return 0,
-            Err(error) => status = print_fault(rt, source, file_fault(&error, ToolFault::Write(0))),
+            Err(error) => {
+                let fault = file_fault(&error, ToolFault::Write(0));
+                status = exit_status(rt, source, Outcome::Failed(fault));
+            }
         }
     }
     remove_folder(rt, made, parts);
@@ -290,16 +242,19 @@ fn split_to_folder(
     options: &SplitOptions,
     folder: &str,
 ) -> u8
-    ensures { IsCommandStatus result }
+    ensures { result ≤ 4 }
 {
     let path = without_slashes(folder);
     if fs::symlink_metadata(rt, path).is_ok() {
         let _ = rt.eprintln(FOLDER_MESSAGE);
-        return 2;
+        return exit_status(rt, source, Outcome::Refused);
     }
     let made = match source.session.note_error(make_folder_beside(rt, path)) {
         Ok(made) => made,
-        Err(error) => return print_fault(rt, source, file_fault(&error, ToolFault::Write(0))),
+        Err(error) => {
+            let fault = file_fault(&error, ToolFault::Write(0));
+            return exit_status(rt, source, Outcome::Failed(fault));
+        }
     };
     let files = part_files(rt, source.session, made.as_str(), options.parts);
     let status = split_to(rt, source, request, options, files);
@@ -315,7 +270,7 @@ pub(crate) fn run_split(
     request: &Request,
     options: &SplitOptions,
 ) -> u8
-    ensures { IsCommandStatus result }
+    ensures { result ≤ 4 }
 {
     match &options.output {
         SplitOutput::Folder(folder) => {

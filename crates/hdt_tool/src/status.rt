@@ -9,33 +9,27 @@
 //! | 2 | `split`: two inputs have blank nodes, and --blank-nodes is missing |
 //! | 3 | reading or writing failed |
 //! | 4 | out of memory |
-ghost use Rattle.std.specs.Prelude.{◌≡◌, ◌≢◌, ◌⊎◌, ◌+◌, ℕ, true, false, Ok, Err, Some, IfOk, IfErr, MatchResult, map};
-ghost use Rattle.std.specs.Prelude.{string_bytes, ◌≤◌};
+ghost use Rattle.std.specs.Prelude.{◌≡◌, ◌≢◌, ◌⊎◌, Ok, Err, IfOk, IfErr, MatchResult, map, string_bytes, ◌≤◌};
 ghost use Rattle.std.specs.IoError.{error_kind};
 ghost use Rattle.std.specs.Vec.Iter.{into_iter_items};
-ghost use Rattle.hdt_wire.specs.Counted.{inner, failures};
-ghost use Rattle.hdt_tool.specs.Outcomes.{HasInputFault, HasOut, InterruptsOutput, IsReadOnly, WritesAndCounts};
-ghost use Rattle.hdt_tool.specs.Outcomes.{IsFaultOfInput, WritesOutputPrefix, WritesWithCount};
+ghost use Rattle.hdt_tool.specs.Outcomes.{HasOut, IsReadOnly};
 ghost use Rattle.hdt_tool.specs.CommandLine.{IsRefused, IsUsageText, ParsesToInvocation};
-ghost use Rattle.hdt_tool.specs.Dialogue.{AnswersOverFile, AnswersOverFileUntilFault, plain_report};
-ghost use Rattle.hdt_tool.specs.declared.fault.ToolFault.{ToolFault};
-ghost use Rattle.hdt_tool.specs.declared.request.Action.TheVariants as Action;
-ghost use Rattle.hdt_tool.specs.declared.request.AnswerReport.{AnswerReport};
-ghost use Rattle.hdt_tool.specs.ErrorLines.{fault_status};
-ghost use Rattle.hdt_tool.specs.Status.{ExitsWith, IsCommandStatus, IsRefusalStatus, IsReportStatus};
+ghost use Rattle.hdt_tool.specs.ErrorLines.{usage_status};
+ghost use Rattle.hdt_tool.specs.Status.{ExitsWith, IsRefusalStatus};
 
 use crate::building_inputs::build_inputs;
 use crate::command_line::parse_invocation;
 use crate::commands::{answer_file, print_output};
-use crate::error_context::{ErrorSource, is_terminal, print_context, print_term_context};
+use crate::error_context::{ErrorSource, is_terminal, print_term_context};
 use crate::error_hints::print_prefix_hint;
-use crate::error_lines::{OUT_OF_MEMORY, fault_line, usage_line};
-use crate::fault::{ToolFault, UsageFault, file_fault};
-use crate::files::open_input;
+use crate::error_lines::{OUT_OF_MEMORY, usage_line};
+use crate::fault::{ToolFault, UsageFault};
+use crate::files::{open_input, output_path};
 use crate::lint::lint_path;
 use crate::merging::run_merge;
-use crate::new_header::run_with_out;
-use crate::non_term_status::{count_status, skipped_line};
+use crate::new_header::run_new_header;
+use crate::outcome::{Outcome, exit_status, print_error_line};
+use crate::output_file::make_file_at;
 use crate::overwriting::{refuse_same_file, same_file};
 use crate::request::{Action, AnswerOptions, AnswerReport, Invocation, Request};
 use crate::session::Session;
@@ -44,60 +38,11 @@ use hdt_usage::put_shown;
 use hdt_wire::Counted;
 use std::alloc::{AllocError, Global};
 use std::env::Args;
-use std::io::{self, ErrorKind, Read, Write};
+use std::io::{self, ErrorKind, Write};
 
 const NOT_UTF8_MESSAGE: &str = "error: an argument is not UTF-8
 
 For more information, try '--help'.";
-
-/// Prints a line to standard error, ignoring failure, and returns the status.
-pub(crate) fn print_error_line(rt: &HostRuntime, status: u8, line: &str) -> u8
-    ensures { result ≡ status }
-{
-    let _ = rt.eprintln(line);
-    status
-}
-
-/// Prints an error message and returns its status; 4 if there is no memory for the message.
-pub(crate) fn print_message(rt: &HostRuntime, line: Result<(u8, String), AllocError>) -> u8
-    ensures { MatchResult line (λ said. result ≡ said.0) (λ _. result ≡ 4) }
-{
-    match line {
-        Ok((status, text)) => print_error_line(rt, status, text.as_str()),
-        Err(AllocError) => print_error_line(rt, 4, OUT_OF_MEMORY),
-    }
-}
-
-/// The status of printing to standard output. A failure gets a message on standard error.
-fn print_status(rt: &HostRuntime, outcome: io::Result<()>) -> u8
-    ensures { MatchResult outcome (λ _. result ≡ 0) (λ _. result ≡ 3) }
-{
-    match outcome {
-        Ok(()) => 0,
-        Err(_) => print_error_line(rt, 3, "hdt: writing failed"),
-    }
-}
-
-/// The status of a command. Removes the line of progress, and prints the message of an error, and the lines that follow
-/// it; none if `find --quiet` has no match.
-pub(crate) fn command_status(
-    rt: &HostRuntime,
-    source: ErrorSource<'_>,
-    outcome: Result<(), ToolFault>,
-) -> u8
-    ensures { MatchResult outcome (λ _. result ≡ 0) (λ fault. (result ≡ fault_status fault) ⊎ (result ≡ 4)) }
-{
-    source.session.clear();
-    match outcome {
-        Ok(()) => 0,
-        Err(ToolFault::NoMatch) => 1,
-        Err(fault) => {
-            let status = print_message(rt, fault_line(rt.alloc(), &fault));
-            print_context(rt, source, &fault);
-            status
-        }
-    }
-}
 
 /// Borrows each argument as a text.
 pub(crate) fn borrow_strings<'a>(
@@ -158,61 +103,6 @@ fn parse_process_arguments(
     }
 }
 
-/// The status if an input cannot be opened. Prints the message, and the lines that follow it.
-pub(crate) fn open_failed(rt: &HostRuntime, source: ErrorSource<'_>, error: &io::Error) -> u8
-    ensures statuses { IsCommandStatus result }
-    // 4 if the error is `OutOfMemory`, else 3; or 4 if there is no memory for the message.
-    ensures memory { error_kind error.now ≡ ErrorKind.OutOfMemory → result ≡ 4 }
-    ensures other { error_kind error.now ≢ ErrorKind.OutOfMemory → (result ≡ 3) ⊎ (result ≡ 4) }
-{
-    command_status(rt, source, Err(file_fault(error, ToolFault::Read)))
-}
-
-/// Runs a command that writes no file, and returns the status.
-fn run_query<R: Read, W: Write>(
-    rt: &HostRuntime,
-    source: ErrorSource<'_>,
-    action: &Action,
-    input: &mut Counted<R>,
-    capacity: usize,
-    out: &mut Counted<W>,
-) -> u8
-    requires { IsReadOnly action.now }
-    ensures statuses { IsCommandStatus result }
-    // 0: `out` has gained the command's output for the input, and nothing was counted.
-    ensures done { result ≡ 0
-        → WritesWithCount action.now (R.remaining (inner input.old)) (R.remaining (inner input.new))
-        (W.contents (inner out.old)) (W.contents (inner out.new)) 0 }
-    ensures unfailed { result ≡ 0 → failures out.new ≡ failures out.old }
-    ensures reader_unfailed { result ≡ 0 → failures input.new ≡ failures input.old }
-    // It is never 2: the options are valid.
-    ensures accepted { result ≢ 2 }
-    // 3: the reader or the writer failed, once.
-    ensures failed { result ≡ 3 → (failures input.new ≡ failures input.old + 1)
-        ⊎ (failures out.new ≡ failures out.old + 1) }
-    // 1: the input is not valid, a look-up found nothing, or a string is not a term, and nothing was written; or `out`
-    // has gained the output, and something was counted.
-    ensures fault { result ≡ 1
-        → (HasInputFault action.now (R.remaining (inner input.old)) (R.remaining (inner input.new))
-        × (out.new ≡ out.old))
-        ⊎ WritesAndCounts action.now (R.remaining (inner input.old)) (R.remaining (inner input.new))
-        (W.contents (inner out.old)) (W.contents (inner out.new)) }
-    // Any but 0: nothing was written; or all of the output, and something was counted; or the writer failed once, after
-    // exactly the first n bytes of the output; or memory ran out after a prefix of output that is
-    // written in pieces.
-    ensures stopped { result ≢ 0 → (out.new ≡ out.old)
-        ⊎ WritesAndCounts action.now (R.remaining (inner input.old)) (R.remaining (inner input.new))
-        (W.contents (inner out.old)) (W.contents (inner out.new))
-        ⊎ ((failures out.new ≡ failures out.old + 1) × (n : ℕ)
-        × WritesOutputPrefix action.now (R.remaining (inner input.old)) (R.remaining (inner input.new))
-        (W.contents (inner out.old)) (W.contents (inner out.new)) n)
-        ⊎ InterruptsOutput action.now (R.remaining (inner input.old)) (R.remaining (inner input.new))
-        (W.contents (inner out.old)) (W.contents (inner out.new)) (failures out.old) (failures out.new) }
-{
-    let outcome = print_output(rt.alloc(), action, input, capacity, out);
-    count_status(rt, source, action, outcome)
-}
-
 /// Prints the lines that follow the message of an argument that is not a term.
 fn print_usage_context(rt: &HostRuntime, words: &io::Result<Vec<String>>, fault: &UsageFault) {
     let (Ok(words), UsageFault::InvalidTerm { argument, fault }) = (words, fault) else {
@@ -235,16 +125,17 @@ fn print_shown(rt: &HostRuntime, message: &str) -> Result<(), AllocError> {
     Ok(())
 }
 
-/// Prints a usage error, without control characters on a terminal. Returns its status, or 4 without memory for it.
-fn print_usage_line(rt: &HostRuntime, line: Result<(u8, String), AllocError>) -> u8
-    ensures { MatchResult line (λ said. (result ≡ said.0) ⊎ (result ≡ 4)) (λ _. result ≡ 4) }
+/// Prints the message of a usage error, which may quote an argument, and returns its status; 4 if there is no memory
+/// for the message. Control characters of the argument do not reach a terminal.
+fn print_usage_line(rt: &HostRuntime, fault: &UsageFault) -> u8
+    ensures { (result ≡ usage_status fault.now) ⊎ (result ≡ 4) }
 {
-    if !is_terminal(rt) {
-        return print_message(rt, line);
-    }
-    let Ok((status, text)) = line else {
+    let Ok((status, text)) = usage_line(rt.alloc(), fault) else {
         return print_error_line(rt, 4, OUT_OF_MEMORY);
     };
+    if !is_terminal(rt) {
+        return print_error_line(rt, status, text.as_str());
+    }
     match print_shown(rt, text.as_str()) {
         Ok(()) => status,
         Err(AllocError) => print_error_line(rt, 4, OUT_OF_MEMORY),
@@ -256,101 +147,97 @@ fn refusal_status(rt: &HostRuntime, words: &io::Result<Vec<String>>, fault: Usag
     ensures { IsRefusalStatus fault result }
 {
     match fault {
-        UsageFault::Help(text) => print_status(rt, rt.println(text.as_str())),
+        UsageFault::Help(text) => match rt.println(text.as_str()) {
+            Ok(()) => 0,
+            Err(_) => print_error_line(rt, 3, "hdt: writing failed"),
+        },
         fault => {
-            let status = print_usage_line(rt, usage_line(rt.alloc(), &fault));
+            let status = print_usage_line(rt, &fault);
             print_usage_context(rt, words, &fault);
             status
         }
     }
 }
 
-/// The status of `answer`: 1 if any answer is an error or triples were left out. Removes the line of progress, and
-/// prints the number of triples left out, or the message of an error that ended the answers.
-fn answers_status(
+/// Writes the output of a command that writes no file to standard output, as [`print_output`] does.
+fn print_to_stdout(
     rt: &HostRuntime,
-    source: ErrorSource<'_>,
-    outcome: Result<AnswerReport, ToolFault>,
-) -> u8
-    ensures { MatchResult outcome (λ report. IsReportStatus report result) (λ fault. (result ≡ fault_status fault)
-        ⊎ (result ≡ 4)) }
+    session: &Session<'_>,
+    request: &Request,
+) -> Result<u64, ToolFault>
+    requires { IsReadOnly request.now.action }
 {
-    match outcome {
-        Ok(report) => {
-            source.session.clear();
-            if report.skipped > 0 {
-                return print_message(rt, skipped_line(rt.alloc(), report.skipped));
-            }
-            u8::from(report.has_errors)
-        }
-        Err(fault) => command_status(rt, source, Err(fault)),
-    }
+    let input = open_input(rt, request.file.as_str(), session)?;
+    let capacity = input.capacity();
+    let mut input = Counted::new(input);
+    let mut out = Counted::new(session.watch(io::writer(rt)));
+    print_output(rt.alloc(), &request.action, &mut input, capacity, &mut out)
 }
 
-/// Serves requests over a file, and returns the status.
-fn run_answer<F: Read, R: Read, W: Write>(
+/// Answers the requests of standard input on standard output, as [`answer_file`] does.
+fn answer_on_streams(
     rt: &HostRuntime,
-    source: ErrorSource<'_>,
-    options: AnswerOptions,
-    file: &mut Counted<F>,
-    capacity: usize,
-    input: &mut Counted<R>,
-    out: &mut Counted<W>,
-) -> u8
-    ensures statuses { IsCommandStatus result }
-    // 0: `out` has gained the answers to all requests, none of which is an error, and no triple was left out.
-    ensures done { result ≡ 0
-        → AnswersOverFile options (F.remaining (inner file.old)) (F.remaining (inner file.new))
-        (R.remaining (inner input.old))
-        (W.contents (inner out.old)) (W.contents (inner out.new)) (plain_report false) }
-    ensures unfailed { result ≡ 0 → failures out.new ≡ failures out.old }
-    ensures readers_unfailed { result ≡ 0 → (failures file.new ≡ failures file.old)
-        × (failures input.new ≡ failures input.old) }
-    // It is never 2: the options are valid.
-    ensures accepted { result ≢ 2 }
-    // 3: one of the readers or the writer failed, once.
-    ensures failed { result ≡ 3 → (failures file.new + failures input.new ≡ failures file.old + failures input.old + 1)
-        ⊎ (failures out.new ≡ failures out.old + 1) }
-    // Otherwise the file has an error with this status or was not read, and nothing was written; or all answers were,
-    // and one of them is an error (status 1), or they leave out triples (1, or 4 without memory for the message); or an
-    // error with this status ended the answers. Without memory for the message of an error the status is 4.
-    ensures stopped { result ≢ 0 → ((e : ToolFault) × ((result ≡ fault_status e) ⊎ (result ≡ 4))
-        × (IsFaultOfInput (Action.Answer options) (F.remaining (inner file.old)) (F.remaining (inner file.new)) e
-        × (input.new ≡ input.old) × (out.new ≡ out.old)))
-        ⊎ ((report : AnswerReport) × IsReportStatus report result
-        × AnswersOverFile options (F.remaining (inner file.old)) (F.remaining (inner file.new))
-        (R.remaining (inner input.old)) (W.contents (inner out.old)) (W.contents (inner out.new)) report)
-        ⊎ ((e : ToolFault) × ((result ≡ fault_status e) ⊎ (result ≡ 4))
-        × AnswersOverFileUntilFault options (F.remaining (inner file.old)) (F.remaining (inner file.new))
-        (R.remaining (inner input.old)) (R.remaining (inner input.new)) (W.contents (inner out.old))
-        (W.contents (inner out.new))
-        (failures out.old) (failures out.new) e) }
-{
-    let outcome = answer_file(rt.alloc(), options, file, capacity, input, out);
-    answers_status(rt, source, outcome)
-}
-
-/// Serves the requests of standard input on standard output, and returns the status.
-fn run_answer_on_streams(
-    rt: &HostRuntime,
-    source: ErrorSource<'_>,
+    session: &Session<'_>,
     path: &str,
     options: AnswerOptions,
-) -> u8
-    ensures { IsCommandStatus result }
-{
-    let session = source.session;
-    let file = match open_input(rt, path, session) {
-        Ok(file) => file,
-        Err(error) => return open_failed(rt, source, &error),
-    };
+) -> Result<AnswerReport, ToolFault> {
+    let file = open_input(rt, path, session)?;
     let capacity = file.capacity();
     let mut file = Counted::new(file);
     let mut input = Counted::new(session.watch(rt.stdin()));
     let mut out = Counted::new(session.watch(io::writer(rt)));
-    run_answer(
-        rt, source, options, &mut file, capacity, &mut input, &mut out,
+    answer_file(
+        rt.alloc(),
+        options,
+        &mut file,
+        capacity,
+        &mut input,
+        &mut out,
     )
+}
+
+/// Runs a command that writes no file, and returns the status.
+fn query_status(rt: &HostRuntime, source: ErrorSource<'_>, request: &Request) -> u8
+    requires { IsReadOnly request.now.action }
+    ensures { result ≤ 4 }
+{
+    let (session, path) = (source.session, request.file.as_str());
+    let outcome = match &request.action {
+        Action::Answer(options) => {
+            Outcome::of_answers(answer_on_streams(rt, session, path, *options))
+        }
+        Action::Lint { keep, most } => Outcome::of_lint(lint_path(rt, source, path, *keep, *most)),
+        Action::Split(options) => return run_split(rt, source, request, options),
+        Action::Merge(options) => return run_merge(rt, source, request, options),
+        Action::BuildInputs(options, blank_nodes) => {
+            return build_inputs(rt, source, request, options, *blank_nodes);
+        }
+        action => Outcome::of_count(action, print_to_stdout(rt, session, request)),
+    };
+    let status = exit_status(rt, source, outcome);
+    print_prefix_hint(rt, source, request, status);
+    status
+}
+
+/// Runs the command that the arguments of the process ask for, and returns the status.
+fn command_status(rt: &HostRuntime, words: &io::Result<Vec<String>>, invocation: &Invocation) -> u8
+    requires { HasOut invocation.now.request }
+    ensures { result ≤ 4 }
+{
+    let request = &invocation.request;
+    let session = Session::new(rt, invocation);
+    let source = ErrorSource::of(invocation, &session);
+    if let Some(same) = same_file(rt, request) {
+        return exit_status(rt, source, refuse_same_file(rt, same));
+    }
+    let Some(path) = &request.out else {
+        return query_status(rt, source, request);
+    };
+    if let Some(header) = &invocation.header {
+        return run_new_header(rt, source, words, request, header.as_str(), path.as_str());
+    }
+    let made = make_file_at(rt, &session, request, output_path(path.as_str()));
+    exit_status(rt, source, Outcome::of_file(made))
 }
 
 /// Runs a command line over the standard streams and returns the exit status: 0 success or help; 1 invalid input, no
@@ -363,40 +250,8 @@ pub fn process_status(rt: &HostRuntime, words: io::Result<Vec<String>>) -> u8
     ensures memory { IfErr words (λ error. error_kind error ≡ ErrorKind.OutOfMemory → result ≡ 4) }
     ensures other { IfErr words (λ error. error_kind error ≢ ErrorKind.OutOfMemory → (result ≡ 2) ⊎ (result ≡ 4)) }
 {
-    let invocation = match parse_process_arguments(rt.alloc(), &words) {
-        Ok(invocation) => invocation,
-        Err(fault) => return refusal_status(rt, &words, fault),
-    };
-    let request = &invocation.request;
-    let session = Session::new(rt, &invocation);
-    let source = ErrorSource::of(&invocation, &session);
-    if let Some(same) = same_file(rt, request) {
-        return refuse_same_file(rt, same);
-    }
-    if let Some(out) = &request.out {
-        return run_with_out(rt, source, &words, &invocation, out.as_str());
-    }
-    match &request.action {
-        Action::Answer(options) => {
-            run_answer_on_streams(rt, source, request.file.as_str(), *options)
-        }
-        Action::Lint { keep, most } => {
-            lint_path(rt, source, request.file.as_str(), *keep, *most)
-        }
-        Action::Split(options) => run_split(rt, source, request, options),
-        Action::Merge(options) => run_merge(rt, source, request, options),
-        Action::BuildInputs(options, nodes) => build_inputs(rt, source, request, options, *nodes),
-        _ => {
-            let input = match open_input(rt, request.file.as_str(), source.session) {
-                Ok(input) => input,
-                Err(error) => return open_failed(rt, source, &error),
-            };
-            let capacity = input.capacity();
-            let mut input = Counted::new(input);
-            let mut out = Counted::new(source.session.watch(io::writer(rt)));
-            let status = run_query(rt, source, &request.action, &mut input, capacity, &mut out);
-            print_prefix_hint(rt, source, request, status);
-            status
-        }
+    match parse_process_arguments(rt.alloc(), &words) {
+        Ok(invocation) => command_status(rt, &words, &invocation),
+        Err(fault) => refusal_status(rt, &words, fault),
     }
 }

@@ -1,6 +1,6 @@
 use Rattle.std.proofs.Common.{◌↔◌, List, ℕ, IsErrOf, subst, sym}
 use Rattle.std.proofs.lemmas.Result.{IfErr-weaker, IfOk-weaker}
-use Rattle.hdt_wire.specs.Counted.{inner}
+use Rattle.hdt_tool.specs.Changes.{change}
 use Rattle.hdt_build.specs.Options.{AreValidOptions}
 use Rattle.hdt_build.specs.declared.options.Options.{Options}
 use Rattle.hdt_tool.specs.Outcomes.{IfBuild, IsFaultOfBytes, IsFaultOfInput, YieldsAppended}
@@ -18,22 +18,20 @@ returns-in-Build-clause-bad g c =
 
 pub returns-in_ok-bytes-in-Rewrite-clause-ok : goal.returns-in_ok-bytes-in-Rewrite-clause-ok
 returns-in_ok-bytes-in-Rewrite-clause-ok g c =
-    let before = g.R.Read.remaining (inner c.args.input.now) in
-    let after = g.R.Read.remaining (inner c.read_all.new.input) in
+    let input = change g.R.Read.remaining c.args.input.now c.read_all.new.input in
     IfOk-weaker c.rewrite_file.result _ _
-    (λ text h. subst (λ (a : Action). YieldsAppended a before after text.items c.args.made.now.items
+    (λ text h. subst (λ (a : Action). YieldsAppended a input text.items c.args.made.now.items
     c.rewrite_file.new.made.items) (sym c.in-Rewrite.is)
-    (rewrites c.in-Rewrite.block_size before after c.in_ok-bytes-in-Rewrite.bytes.items c.deref.result.now text.items
+    (rewrites c.in-Rewrite.block_size input c.in_ok-bytes-in-Rewrite.bytes.items c.deref.result.now text.items
     c.args.made.now.items c.rewrite_file.new.made.items c.in_ok-bytes-in-Rewrite.ensures.ok
     c.deref.ensures.value h)) c.rewrite_file.ensures.ok
 
 pub returns-in_ok-bytes-in-Rewrite-clause-reported : goal.returns-in_ok-bytes-in-Rewrite-clause-reported
 returns-in_ok-bytes-in-Rewrite-clause-reported g c =
-    let before = g.R.Read.remaining (inner c.args.input.now) in
-    let after = g.R.Read.remaining (inner c.read_all.new.input) in
+    let input = change g.R.Read.remaining c.args.input.now c.read_all.new.input in
     let b = c.in-Rewrite.block_size in
     IfErr-weaker c.rewrite_file.result _ _
-    (λ e h. subst (λ (a : Action). IsFaultOfInput a before after e) (sym c.in-Rewrite.is)
-    (fault_of_input (Rewrite b) before after c.in_ok-bytes-in-Rewrite.bytes.items e c.in_ok-bytes-in-Rewrite.ensures.ok
+    (λ e h. subst (λ (a : Action). IsFaultOfInput a input e) (sym c.in-Rewrite.is)
+    (fault_of_input (Rewrite b) input c.in_ok-bytes-in-Rewrite.bytes.items e c.in_ok-bytes-in-Rewrite.ensures.ok
     (subst (λ (bytes : List ℕ). IsFaultOfBytes (Rewrite b) bytes e) c.deref.ensures.value h)))
     c.rewrite_file.ensures.reported

@@ -1,6 +1,6 @@
 use Rattle.std.proofs.Common.{[], Err}
 use Rattle.std.proofs.lemmas.Result.{IfErr-weaker, IfOk-weaker, err_from_is_err_and}
-use Rattle.hdt_wire.specs.Counted.{inner}
+use Rattle.hdt_tool.specs.Changes.{change}
 use Rattle.hdt_tool.specs.Outcomes.{Prints, PrintsWithCount, ReadsWith}
 use Rattle.hdt_tool.proofs.Outputs.{counts_non_terms, counts_nothing, not_in_pieces, nothing_built}
 use Rattle.hdt_tool.proofs.Outputs.{prints_text}
@@ -24,20 +24,20 @@ returns-then-prints_in_pieces-clause-ok g c =
 pub returns-then-prints_in_pieces-clause-write : goal.returns-then-prints_in_pieces-clause-write
 returns-then-prints_in_pieces-clause-write g c =
     IfErr-weaker c.print_in_pieces.result _ _
-    (λ e h. pieces_write _ _ _ _ _ _ _ _ _ e _
+    (λ e h. pieces_write _ _ _ _ _ e _
     (c.prints_in_pieces.ensures.0 c.if-prints_in_pieces.true) c.in_ok-bytes.ensures.ok c.deref.ensures.value h)
     c.print_in_pieces.ensures.err
 
 pub returns-then-prints_in_pieces-clause-reported : goal.returns-then-prints_in_pieces-clause-reported
 returns-then-prints_in_pieces-clause-reported g c =
     IfErr-weaker c.print_in_pieces.result _ _
-    (λ e h. pieces_reported _ _ _ _ _ _ _ _ _ e _ c.in_ok-bytes.ensures.ok c.deref.ensures.value h)
+    (λ e h. pieces_reported _ _ _ _ _ e _ c.in_ok-bytes.ensures.ok c.deref.ensures.value h)
     c.print_in_pieces.ensures.err
 
 pub returns-then-prints_in_pieces-clause-unwritten : goal.returns-then-prints_in_pieces-clause-unwritten
 returns-then-prints_in_pieces-clause-unwritten g c =
     IfErr-weaker c.print_in_pieces.result _ _
-    (λ e h. pieces_halt _ _ _ _ _ _ _ _ _ e _
+    (λ e h. pieces_halt _ _ _ _ _ e _
     (c.prints_in_pieces.ensures.0 c.if-prints_in_pieces.true) c.in_ok-bytes.ensures.ok c.deref.ensures.value h)
     c.print_in_pieces.ensures.err
 
@@ -57,22 +57,21 @@ returns-in-SkipNonTerms-clause-ok g c =
 
 pub returns-in_err-write_text-in-SkipNonTerms-clause-write : goal.returns-in_err-write_text-in-SkipNonTerms-clause-write
 returns-in_err-write_text-in-SkipNonTerms-clause-write g c =
-    let left = g.R.Read.remaining in
     let action = c.args.action.now in
     let made = c.in_ok-text-in-SkipNonTerms in
     let text = made.text.items in
     let e = c.in_err-write_text-in-SkipNonTerms.field-0.0 in
-    let counted : ReadsWith (left (inner c.args.input.now)) (left (inner c.read_all.new.input))
+    let counted : ReadsWith (change g.R.Read.remaining c.args.input.now c.read_all.new.input)
     (λ bytes. PrintsWithCount action bytes text made.count) = record {
       bytes = c.in_ok-bytes.bytes.items;
       read = c.in_ok-bytes.ensures.ok;
       holds = counts_non_terms action c.in_ok-bytes.bytes.items text made.count
           (rw c.deref-in-SkipNonTerms.ensures.value at made.ensures.ok);
     } in
-    let makes = nothing_built action c.requires _ _ text [] (reads_printed action _ _ text made.count counted) in
+    let makes = nothing_built action c.requires _ text [] (reads_printed action _ text made.count counted) in
     let p = err_from_is_err_and c.from_residual-in_err-write_text-in-SkipNonTerms.result
     c.from_residual-in_err-write_text-in-SkipNonTerms.ensures.1 in
-    rw (p.1, p.2) (writes_prefix (Err e) _ _ _ _ _ text makes.built _ _ makes.yields
+    rw (p.1, p.2) (writes_prefix (Err e) _ _ _ text makes.built makes.yields
     (rw c.deref-in-SkipNonTerms-2.ensures.value at c.in_err-write_text-in-SkipNonTerms.ensures.failed))
 
 pub file_text-requires : goal.file_text-requires
@@ -101,17 +100,16 @@ returns-clause-ok g c =
 
 pub returns-in_err-write_text-in_default-clause-write : goal.returns-in_err-write_text-in_default-clause-write
 returns-in_err-write_text-in_default-clause-write g c =
-    let left = g.R.Read.remaining in
     let text = c.in_ok-text-in_default.text.items in
     let e = c.in_err-write_text-in_default.field-0.0 in
-    let printed : ReadsWith (left (inner c.args.input.now)) (left (inner c.read_all.new.input))
+    let printed : ReadsWith (change g.R.Read.remaining c.args.input.now c.read_all.new.input)
     (λ bytes. Prints c.args.action.now bytes text) = record {
       bytes = c.in_ok-bytes.bytes.items;
       read = c.in_ok-bytes.ensures.ok;
       holds = rw c.deref-in_default.ensures.value at c.in_ok-text-in_default.ensures.ok;
     } in
-    let makes = nothing_built c.args.action.now c.requires _ _ text [] printed in
+    let makes = nothing_built c.args.action.now c.requires _ text [] printed in
     let p = err_from_is_err_and c.from_residual-in_err-write_text-in_default.result
     c.from_residual-in_err-write_text-in_default.ensures.1 in
-    rw (p.1, p.2) (writes_prefix (Err e) _ _ _ _ _ text makes.built _ _ makes.yields
+    rw (p.1, p.2) (writes_prefix (Err e) _ _ _ text makes.built makes.yields
     (rw c.deref-in_default-2.ensures.value at c.in_err-write_text-in_default.ensures.failed))

@@ -1,10 +1,9 @@
 use Rattle.std.proofs.Common.{◌≡◌, ◌∙◌, ℕ, List, Ok, Err, IfErr, OnErr, OnOk, ap, length, rules, subst}
 use Rattle.std.proofs.Common.{sym}
-use Rattle.std.specs.Io.KnownBytes.{Appends}
 use Rattle.std.proofs.lemmas.Result.{err_from_is_err_and, on_ok_weaker}
 use Rattle.std.specs.declared.alloc.Global.{Global}
 use Rattle.std.specs.declared.vec.Vec.{Vec}
-use Rattle.hdt_wire.specs.Counted.{inner, failures}
+use Rattle.hdt_tool.specs.Changes.{Gains, change}
 use Rattle.hdt_tool.specs.declared.fault.ToolFault.TheVariants.{BadOptions}
 use Rattle.hdt_tool.proofs.Outputs.{IsWriteFault, completes, if_build, no_options, not_bad_writing, nothing_built}
 use Rattle.hdt_tool.proofs.Outputs.{only_writing, read_only, reads_printed, restored, writes_prefix}
@@ -31,69 +30,50 @@ returns-in_err-line-in-Build-clause-unread g c =
 
 pub returns-in_ok-line-in-Build-clause-ok : goal.returns-in_ok-line-in-Build-clause-ok
 returns-in_ok-line-in-Build-clause-ok g c =
-    let left = g.R.Read.remaining in
-    let before = left (inner c.args.input.now) in
-    let after = left (inner c.make_file.new.input) in
-    let old = g.W.Write.contents (inner c.args.out.now) in
-    let new = g.W.Write.contents (inner c.write_text.new.out) in
-    let made = c.args.made.now.items in
+    let input = change g.R.Read.remaining c.args.input.now c.make_file.new.input in
+    let out = change g.W.Write.contents c.args.out.now c.write_text.new.out in
     let line = c.in_ok-line-in-Build.line.items in
-    let result = c.truncate_on_error.result in
     let same = c.truncate_on_error.ensures.same in
-    completes result c.args.request.now.action before after old new line made c.make_file.new.made.items
-    c.truncate_on_error.new.out.items
+    completes c.truncate_on_error.result c.args.request.now.action input out line c.args.made.now.items
+    c.make_file.new.made.items c.truncate_on_error.new.out.items
     c.in_ok-line-in-Build.ensures.ok
-    (subst (λ r. OnOk r (Appends old new line)) (sym same)
-    (subst (λ (text : List ℕ). OnOk c.write_text.result (Appends old new text)) c.deref.ensures.value
+    (subst (λ r. OnOk r (Gains out line)) (sym same)
+    (subst (λ (text : List ℕ). OnOk c.write_text.result (Gains out text)) c.deref.ensures.value
     c.write_text.ensures.ok))
     (subst (λ r. OnOk r (c.truncate_on_error.new.out.items ≡ c.make_file.new.made.items)) (sym same)
     (on_ok_weaker c.write_text.result (ap (λ v. v.items)) c.truncate_on_error.ensures.ok))
 
 pub returns-in_ok-line-in-Build-clause-bad : goal.returns-in_ok-line-in-Build-clause-bad
 returns-in_ok-line-in-Build-clause-bad g c =
-    let old = g.W.Write.contents (inner c.args.out.now) in
-    let new = g.W.Write.contents (inner c.write_text.new.out) in
     let line = c.in_ok-line-in-Build.line in
     let same = c.truncate_on_error.ensures.same in
     still_bad c.args.request.now.action (Ok line) c.truncate_on_error.result (not_error line BadOptions)
-    (λ is. absurd (not_bad_writing c.write_text.result old new c.deref.result.now (failures c.args.out.now)
-    (failures c.write_text.new.out) c.write_text.ensures.failed (sym same ∙ is)))
+    (λ is. absurd (not_bad_writing c.write_text.result _ c.deref.result.now c.write_text.ensures.failed
+    (sym same ∙ is)))
     c.in_ok-line-in-Build.ensures.bad
 
 pub returns-in_ok-line-in-Build-clause-unread : goal.returns-in_ok-line-in-Build-clause-unread
 returns-in_ok-line-in-Build-clause-unread g c =
-    let old = g.W.Write.contents (inner c.args.out.now) in
-    let new = g.W.Write.contents (inner c.write_text.new.out) in
     if_build c.args.request.now.action _ _
-    (λ options _ is. absurd (not_bad_writing c.write_text.result old new c.deref.result.now
-    (failures c.args.out.now) (failures c.write_text.new.out) c.write_text.ensures.failed
+    (λ options _ is. absurd (not_bad_writing c.write_text.result _ c.deref.result.now c.write_text.ensures.failed
     (sym c.truncate_on_error.ensures.same ∙ is))) c.in_ok-line-in-Build.ensures.unread
 
 pub returns-in_ok-line-in-Build-clause-write : goal.returns-in_ok-line-in-Build-clause-write
 returns-in_ok-line-in-Build-clause-write g c =
-    let left = g.R.Read.remaining in
-    let before = left (inner c.args.input.now) in
-    let after = left (inner c.make_file.new.input) in
-    let old = g.W.Write.contents (inner c.args.out.now) in
-    let new = g.W.Write.contents (inner c.write_text.new.out) in
-    let f = failures c.args.out.now in
-    let f' = failures c.write_text.new.out in
+    let input = change g.R.Read.remaining c.args.input.now c.make_file.new.input in
+    let out = change g.W.Write.contents c.args.out.now c.write_text.new.out in
     let line = c.in_ok-line-in-Build.line.items in
     let makes = c.in_ok-line-in-Build.ensures.ok in
-    let fails = subst (λ (text : List ℕ). IfErr c.write_text.result (IsWriteFault text old new f f'))
+    let fails = subst (λ (text : List ℕ). IfErr c.write_text.result (IsWriteFault text out))
     c.deref.ensures.value c.write_text.ensures.failed in
-    writes_prefix c.truncate_on_error.result c.args.request.now.action before after old new line makes.built f f'
-    makes.yields
-    (subst (λ r. IfErr r (IsWriteFault line old new f f')) (sym c.truncate_on_error.ensures.same) fails)
+    writes_prefix c.truncate_on_error.result c.args.request.now.action input out line makes.built makes.yields
+    (subst (λ r. IfErr r (IsWriteFault line out)) (sym c.truncate_on_error.ensures.same) fails)
 
 pub returns-in_ok-line-in-Build-clause-unwritten : goal.returns-in_ok-line-in-Build-clause-unwritten
 returns-in_ok-line-in-Build-clause-unwritten g c =
-    let old = g.W.Write.contents (inner c.args.out.now) in
-    let new = g.W.Write.contents (inner c.write_text.new.out) in
-    let f = failures c.args.out.now in
-    let f' = failures c.write_text.new.out in
-    only_writing _ c.truncate_on_error.result old new c.deref.result.now f f'
-    (subst (λ r. IfErr r (IsWriteFault c.deref.result.now old new f f'))
+    let out = change g.W.Write.contents c.args.out.now c.write_text.new.out in
+    only_writing _ c.truncate_on_error.result out c.deref.result.now
+    (subst (λ r. IfErr r (IsWriteFault c.deref.result.now out))
     (sym c.truncate_on_error.ensures.same) c.write_text.ensures.failed)
 
 pub returns-in_ok-line-in-Build-clause-unchanged : goal.returns-in_ok-line-in-Build-clause-unchanged
@@ -117,7 +97,7 @@ returns-in_ok-print_output-in_default-clause-ok g c =
     let made = c.in_ok-print_output-in_default.ensures.ok in
     record {
       text = made.text;
-      makes = nothing_built action only _ _ made.text _ (reads_printed action _ _ made.text _ made.prints);
+      makes = nothing_built action only _ made.text _ (reads_printed action _ made.text _ made.prints);
       written = made.written;
     }
 

@@ -12,17 +12,17 @@ use Rattle.hdt_tool.proofs.dialogue.answer_requests.Goals as goal
 pub returns-in_err-lines-clause-stopped : goal.returns-in_err-lines-clause-stopped
 returns-in_err-lines-clause-stopped g c =
     let p = err_from_is_err_and c.from_residual.result c.from_residual.ensures.1 in
-    rw (p.1, p.2) (nothing_answered c.lines_so_far.ensures.begins _ _ _ _ _ _)
+    rw (p.1, p.2) (nothing_answered c.lines_so_far.ensures.begins _ _ _ _ refl refl)
 
 pub returns-in_err-answerer-clause-stopped : goal.returns-in_err-answerer-clause-stopped
 returns-in_err-answerer-clause-stopped g c =
     let p = err_from_is_err_and c.from_residual-in_err-answerer.result c.from_residual-in_err-answerer.ensures.1 in
-    rw (p.1, p.2) (nothing_answered c.lines_so_far.ensures.begins _ _ _ _ _ _)
+    rw (p.1, p.2) (nothing_answered c.lines_so_far.ensures.begins _ _ _ _ refl refl)
 
 pub returns-in_err-buffers-clause-stopped : goal.returns-in_err-buffers-clause-stopped
 returns-in_err-buffers-clause-stopped g c =
     let p = err_from_is_err_and c.from_residual-in_err-buffers.result c.from_residual-in_err-buffers.ensures.1 in
-    rw (p.1, p.2) (nothing_answered c.lines_so_far.ensures.begins _ _ _ _ _ _)
+    rw (p.1, p.2) (nothing_answered c.lines_so_far.ensures.begins _ _ _ _ refl refl)
 
 pub add_answer-requires-clause-flags : goal.add_answer-requires-clause-flags
 add_answer-requires-clause-flags g c = c.lines.invariant.13
@@ -54,7 +54,7 @@ returns-in_err-flush-in-Ok-false-clause-stopped g c =
     let inv = c.lines.invariant in
     let p = err_from_is_err_and c.from_residual-in_err-flush-in-Ok-false.result
     c.from_residual-in_err-flush-in-Ok-false.ensures.1 in
-    rw (p.1, p.2) (cut_pending _ _ _ _ _ _ _ inv.0 c.lines.report inv.1 c.lines.pending.bytes.items
+    rw (p.1, p.2) (cut_pending _ _ _ _ _ _ inv.0 c.lines.report inv.1 c.lines.pending.bytes.items
     c.lines.pending.written _ _ _ c.in_err-flush-in-Ok-false.field-0.0
     (gone_some _ _ _ _ inv.2) inv.3 inv.4 inv.6 c.in_err-flush-in-Ok-false.ensures.err)
 
@@ -74,14 +74,14 @@ returns-in_err-flush-in-Err-clause-stopped g c =
     let inv = c.lines.invariant in
     let p = err_from_is_err_and c.from_residual-in_err-flush-in-Err.result
     c.from_residual-in_err-flush-in-Err.ensures.1 in
-    rw (p.1, p.2) (cut_pending _ _ _ _ _ _ _ inv.0 c.lines.report inv.1 c.lines.pending.bytes.items
+    rw (p.1, p.2) (cut_pending _ _ _ _ _ _ inv.0 c.lines.report inv.1 c.lines.pending.bytes.items
     c.lines.pending.written _ _ _ c.in_err-flush-in-Err.field-0.0
     (gone_some _ _ _ _ inv.2) inv.3 inv.4 inv.6 c.in_err-flush-in-Err.ensures.err)
 
 pub returns-in-Err-clause-stopped : goal.returns-in-Err-clause-stopped
 returns-in-Err-clause-stopped g c =
     let inv = c.lines.invariant in
-    rw c.line_fault.ensures (unread_line _ _ c.lines.lines _ _ _ _ _ inv.0 c.lines.report inv.1 _ _ c.in-Err.fault inv.2
+    rw c.line_fault.ensures (unread_line _ _ c.lines.lines _ _ _ inv.0 c.lines.report inv.1 c.in-Err.fault inv.2
     inv.3
     (gained_all _ _ _ inv.1 c.lines.pending.bytes.items _ inv.4 c.in_ok-flush-in-Err.ensures.ok)
     (c.in_ok-flush-in-Err.ensures.well ∙ inv.6)
@@ -96,7 +96,7 @@ returns-in_err-accept-in-Ok-clause-stopped g c =
     let this = rw (c.line_number-line.ensures, c.deref.ensures.value, inv.11, inv.12) at c.in-Ok.ensures.ok in
     let whole = front_answered _ c.args.options
     (line_number c.next_line.new.lines) _ more.0 this.0 this.1 more.1 this.2 in
-    rw (p.1, p.2) (cut_answer _ _ _ _ _ _ _ inv.0 (
+    rw (p.1, p.2) (cut_answer _ _ _ _ _ _ inv.0 (
       line_number c.next_line.new.lines,
       more.0,
     ) c.lines.report this.0 inv.1 c.lines.pending.bytes.items this.1 c.add_answer.new.out.items
@@ -135,7 +135,7 @@ returns-in_err-flush-in-Err-add_answer-clause-stopped g c =
     let inv = c.lines.invariant in
     let p = err_from_is_err_and c.from_residual-in_err-flush-in-Err-add_answer.result
     c.from_residual-in_err-flush-in-Err-add_answer.ensures.1 in
-    rw (p.1, p.2) (cut_pending _ _ _ _ _ _ _ inv.0 c.lines.report inv.1 c.lines.pending.bytes.items
+    rw (p.1, p.2) (cut_pending _ _ _ _ _ _ inv.0 c.lines.report inv.1 c.lines.pending.bytes.items
     c.lines.pending.written _ _ _ c.in_err-flush-in-Err-add_answer.field-0.0
     (gone_some _ _ _ _ inv.2) inv.3 inv.4 inv.6
     (rw c.in-Err-add_answer.ensures.unchanged at c.in_err-flush-in-Err-add_answer.ensures.err))
@@ -143,7 +143,7 @@ returns-in_err-flush-in-Err-add_answer-clause-stopped g c =
 pub returns-in-Err-add_answer-clause-stopped : goal.returns-in-Err-add_answer-clause-stopped
 returns-in-Err-add_answer-clause-stopped g c =
     let inv = c.lines.invariant in
-    refused_behind _ _ _ _ _ _ inv.0 c.lines.report inv.1 _ _ _ (gone_some _ _ _ _ inv.2) inv.3
+    refused_behind _ _ _ _ inv.0 c.lines.report inv.1 _ (gone_some _ _ _ _ inv.2) inv.3
     (gained_all _ _ _ inv.1 c.lines.pending.bytes.items _ inv.4
     (rw c.in-Err-add_answer.ensures.unchanged at c.in_ok-flush-in-Err-add_answer.ensures.ok))
     (c.in_ok-flush-in-Err-add_answer.ensures.well ∙ inv.6) refl

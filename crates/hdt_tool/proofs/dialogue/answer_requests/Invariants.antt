@@ -3,7 +3,7 @@ use Rattle.hdt_wire.specs.Counted.{inner, failures}
 use Rattle.hdt_terms.specs.LinesReader.{HasBufferedLine, left}
 use Rattle.hdt_file.specs.CachedTerms.{CachesTerms}
 use Rattle.hdt_file.specs.Graph.{graph_view}
-use Rattle.hdt_tool.specs.Dialogue.{AnswersLines, AreFlagsIfSkipping, skips_in}
+use Rattle.hdt_tool.specs.Dialogue.{AnswersLines, AreFlagsIfSkipping, skips}
 use Rattle.hdt_tool.specs.Inside.AnswerLoop.{HasTakenLines, lines_left}
 use Rattle.hdt_tool.proofs.Dialogues.{GainedButFor}
 use Rattle.hdt_tool.proofs.dialogue.answer_requests.Given as goal
@@ -21,7 +21,7 @@ invariant-lines g l = (lines : List (ℕ × List ℕ)) × (text : List ℕ)
     × CachesTerms (graph_view l.answerer.graph.now) l.buffers.term_writer
     × ((l.pending.bytes.items ≡ []) ⊎ HasBufferedLine l.lines)
     × (l.answerer.graph.now ≡ l.fn.graph) × (l.answerer.options ≡ l.options)
-    × AreFlagsIfSkipping (skips_in l.answerer.options.skip l.answerer.options.format)
+    × AreFlagsIfSkipping (skips l.answerer.options)
     (graph_view l.answerer.graph.now) l.answerer.flags
 
 abbrev pub decreases-lines : goal.decreases-lines

@@ -75,5 +75,5 @@ returns-in_ok-line-in-Count-clause-err g c =
       count_printed (layout_view c.args.layout.now) c.args.given.now c.args.most
           (matches_if_given (layout_view c.args.layout.now) c.find_pattern-pattern.result) _ _
           c.find_pattern-pattern.ensures c.count_layout_matches.ensures c.in_ok-line-in-Count.ensures,
-      line_cut e c.in_ok-line-in-Count.line.items _ _ _ _ _ c.deref.ensures.value h,
+      line_cut e c.in_ok-line-in-Count.line.items _ _ c.deref.ensures.value h,
     ))) c.write_text.ensures.failed

@@ -52,7 +52,7 @@ returns-in_err-print_triples-in-Find-clause-err g c =
     let p = err_from_is_err_and c.from_residual-in_err-print_triples-in-Find.result
     c.from_residual-in_err-print_triples-in-Find.ensures.1 in
     rw (p.1, p.2, c.in-Find.is)
-    (find_told c.in-Find.given c.in-Find.numbers _ c.args.bytes.now v _ _ _ _ _ _ c.find_format.ensures
+    (find_told c.in-Find.given c.in-Find.numbers _ c.args.bytes.now v _ _ _ c.find_format.ensures
     c.in_ok-layout.ensures.found c.in_err-print_triples-in-Find.ensures.err)
 
 pub returns-in_ok-print_triples-in-Search-clause-ok : goal.returns-in_ok-print_triples-in-Search-clause-ok
@@ -71,7 +71,7 @@ returns-in_err-print_triples-in-Search-clause-err g c =
     let p = err_from_is_err_and c.from_residual-in_err-print_triples-in-Search.result
     c.from_residual-in_err-print_triples-in-Search.ensures.1 in
     rw (p.1, p.2, c.in-Search.is)
-    (search_told c.in-Search.given c.in-Search.format c.in-Search.most c.args.bytes.now v _ _ _ _ _ _
+    (search_told c.in-Search.given c.in-Search.format c.in-Search.most c.args.bytes.now v _ _ _
     c.in_ok-layout.ensures.found c.in_err-print_triples-in-Search.ensures.err)
 
 pub returns-in-SkipNonTerms-clause-ok : goal.returns-in-SkipNonTerms-clause-ok
@@ -93,7 +93,7 @@ returns-in-SkipNonTerms-clause-err g c =
     let asked = subst PrintsInPieces c.in-SkipNonTerms.is c.requires in
     IfErr-weaker c.print_kept_triples.result _ _
     (λ e h. rw c.in-SkipNonTerms.is
-    (kept_told c.in-SkipNonTerms.given _ c.in-SkipNonTerms.most c.args.bytes.now v e _ _ _ _ _ asked
+    (kept_told c.in-SkipNonTerms.given _ c.in-SkipNonTerms.most c.args.bytes.now v e _ _ asked
     c.in_ok-layout.ensures.found h))
     c.print_kept_triples.ensures.err
 

@@ -13,7 +13,6 @@ append_kept_triples-requires-clause-lines c =
 pub returns-clause-ok : goal.returns-clause-ok
 returns-clause-ok c =
     let pushed : c.truncate_on_error.new.out.items ≡ c.append_kept_triples.new.out.items ++ 10 ∷ [] = search rules in
-    let options = c.args.self.now.options in
-    kept_answered _ options.format options.skip c.is_count-count.result options.most _ c.in_ok-kept.kept.triples.items
+    kept_answered _ c.args.self.now.options c.is_count-count.result _ c.in_ok-kept.kept.triples.items
     c.deref.result.now c.in_ok-kept.kept.skipped _ _ _ c.is_count-count.ensures
     c.requires.skips c.in_ok-kept.ensures.kept c.deref.ensures.value c.in_ok-append_kept_triples.ensures.ok pushed

@@ -7,18 +7,22 @@ use std::io::{self, Read, Write};
 /// A reader or writer whose errors a session notes. If it may share a terminal with the line of progress, this is
 /// removed before each call.
 #[derive(Drop)]
-pub(crate) struct Watched<'a, T> {
+pub(crate) struct SessionStream<'a, T> {
     inner: T,
     session: &'a Session<'a>,
     shares_terminal: bool,
 }
 
-impl<'a, T> Watched<'a, T> {
+impl<'a, T> SessionStream<'a, T> {
     /// Watches a reader or a writer, which may share a terminal.
-    pub(crate) fn new(inner: T, session: &'a Session<'a>, shares_terminal: bool) -> Watched<'a, T>
+    pub(crate) fn new(
+        inner: T,
+        session: &'a Session<'a>,
+        shares_terminal: bool,
+    ) -> SessionStream<'a, T>
         ensures { result.inner ≡ inner }
     {
-        Watched {
+        SessionStream {
             inner,
             session,
             shares_terminal,
@@ -29,12 +33,12 @@ impl<'a, T> Watched<'a, T> {
     pub(crate) fn into_inner(self) -> T
         ensures { result ≡ self.entry.inner }
     {
-        let Watched { inner, .. } = self;
+        let SessionStream { inner, .. } = self;
         inner
     }
 }
 
-impl<R: Read> Read for Watched<'_, R> {
+impl<R: Read> Read for SessionStream<'_, R> {
     ghost use Rattle.std.specs.Io.{ReadsAtMost};
     ghost use Rattle.std.specs.Io.KnownBytes.{ReadConsumes};
 
@@ -53,7 +57,7 @@ impl<R: Read> Read for Watched<'_, R> {
     }
 }
 
-impl<W: Write> Write for Watched<'_, W> {
+impl<W: Write> Write for SessionStream<'_, W> {
     ghost use Rattle.std.specs.Io.{WritesAtMost};
     ghost use Rattle.std.specs.Io.KnownBytes.{WriteAppends, Keeps};
 
