@@ -93,17 +93,16 @@ inputs-preserved g c =
     (λ (p : List ℕ). AddsDocument p (g.R.Read.remaining (inner c.new-input.result)) c.inputs.builder more has)
     (c.deref.ensures.value ∙ c.in_ok-prefix.ensures.is) c.in-Ok.ensures.added) in
     let first = c.in_ok-first.ensures.ok in
-    let rest = map (λ input. g.R.Read.remaining input) (into_iter_items c.next.new.self) in
-    (
+    let rest = map (λ input. g.R.Read.remaining input) (into_iter_items c.next.new.self) in (
       λ after h. c.inputs.invariant.0 after
-      (subst (λ items. AddsInTurn mode c.inputs.first c.inputs.number
-      (map (λ input. g.R.Read.remaining input) items) c.inputs.builder after) (sym here)
-      (adds_next mode c.inputs.first c.in_ok-first.first c.inputs.number (g.R.Read.remaining c.in-Some.input) rest
-      c.inputs.builder more after has added first.1 first.0 h)),
+          (subst (λ items. AddsInTurn mode c.inputs.first c.inputs.number
+          (map (λ input. g.R.Read.remaining input) items) c.inputs.builder after) (sym here)
+          (adds_next mode c.inputs.first c.in_ok-first.first c.inputs.number (g.R.Read.remaining c.in-Some.input) rest
+          c.inputs.builder more after has added first.1 first.0 h)),
       λ stop h. c.inputs.invariant.1 stop
-      (subst (λ items. StopsAdding mode c.inputs.first c.inputs.number
-      (map (λ input. g.R.Read.remaining input) items) c.inputs.builder stop) (sym here)
-      (stops_next mode c.inputs.first c.in_ok-first.first c.inputs.number (g.R.Read.remaining c.in-Some.input) rest
-      c.inputs.builder more has stop added first.1 first.0 h)),
+          (subst (λ items. StopsAdding mode c.inputs.first c.inputs.number
+          (map (λ input. g.R.Read.remaining input) items) c.inputs.builder stop) (sym here)
+          (stops_next mode c.inputs.first c.in_ok-first.first c.inputs.number (g.R.Read.remaining c.in-Some.input) rest
+          c.inputs.builder more has stop added first.1 first.0 h)),
       omega (arith, c.inputs.invariant.2, len),
     )
