@@ -24,9 +24,9 @@ use Rattle.hdt_tool.specs.declared.fault.ToolFault.TheVariants.{NoSuchNumber, No
 use Rattle.hdt_tool.specs.declared.fault.ToolFault.TheVariants.{OutOfMemory}
 use Rattle.hdt_tool.specs.declared.request.Action.{Action}
 use Rattle.hdt_tool.specs.declared.request.Request.{Request}
-use Rattle.hdt_tool.specs.declared.request.Action.TheVariants.{Head, HeadBody, Verify, VerifyTight, VerifyTerms, Strings}
-use Rattle.hdt_tool.specs.declared.request.Action.TheVariants.{ListStrings, Nth, Number, Find, Search, SkipNonTerms}
-use Rattle.hdt_tool.specs.declared.request.Action.TheVariants.{Exists, Count, Answer, Build, Rewrite, Info, Lint}
+use Rattle.hdt_tool.specs.declared.request.Action.TheVariants.{Head, HeadBody, Verify, VerifyTight, VerifyTerms}
+use Rattle.hdt_tool.specs.declared.request.Action.TheVariants.{Strings, ListStrings, Nth, Number, Find, Search}
+use Rattle.hdt_tool.specs.declared.request.Action.TheVariants.{SkipNonTerms, Exists, Count, Answer, Build, Rewrite, Info, Lint}
 use Rattle.hdt_tool.specs.declared.request.Action.TheVariants.{BuildInputs, Merge, Split}
 use Rattle.hdt_tool.specs.PrintedReports.{built_line, rewritten_line, head_text, verdict}
 use Rattle.hdt_tool.specs.Changes.{Change, FailsAfter, Gains, GainsBeginning, IsUnfailed}

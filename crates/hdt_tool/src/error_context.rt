@@ -26,8 +26,8 @@ pub(crate) struct ErrorSource<'a> {
     action: &'a Action,
     /// The path of the input.
     input: &'a str,
-    /// Whether the command has several inputs, so that a message has the path.
-    is_one_of_several: bool,
+    /// The path of the input, if the command has several, so that a message has it.
+    pub(crate) named_input: Option<&'a str>,
     /// The path of the output, or a name for standard output.
     output: &'a str,
     /// What is known besides the error.
@@ -40,7 +40,7 @@ impl<'a> ErrorSource<'a> {
         ErrorSource {
             action: &invocation.request.action,
             input: invocation.request.file.as_str(),
-            is_one_of_several: false,
+            named_input: None,
             output: match &invocation.request.out {
                 Some(path) => path.as_str(),
                 None => "standard output",
@@ -53,17 +53,8 @@ impl<'a> ErrorSource<'a> {
     pub(crate) fn with_input(self, path: &'a str) -> ErrorSource<'a> {
         ErrorSource {
             input: path,
-            is_one_of_several: true,
+            named_input: Some(path),
             ..self
-        }
-    }
-
-    /// The path of the input, if a message has it.
-    pub(crate) fn named_input(self) -> Option<&'a str> {
-        if self.is_one_of_several {
-            Some(self.input)
-        } else {
-            None
         }
     }
 

@@ -90,7 +90,7 @@ fn refuse_block_size(rt: &HostRuntime, words: &io::Result<Vec<String>>) -> Optio
 }
 
 /// Runs `rewrite --header` with the header at a path, and returns the status. The header is read first, then IN, and
-/// then OUT is written, so OUT may be IN. (Contracts cannot describe the file system; tests/test_header.py checks this.)
+/// then OUT is written, so OUT may be IN. (Contracts can't describe the file system; tests/test_header.py checks this.)
 pub(crate) fn run_new_header(
     rt: &HostRuntime,
     source: ErrorSource<'_>,

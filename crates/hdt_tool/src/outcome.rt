@@ -117,7 +117,7 @@ fn print_fault(rt: &HostRuntime, source: ErrorSource<'_>, fault: ToolFault) -> u
     let Ok((status, line)) = fault_line(rt.alloc(), &fault) else {
         return print_error_line(rt, 4, OUT_OF_MEMORY);
     };
-    let printed = match source.named_input() {
+    let printed = match source.named_input {
         Some(path) if fault != ToolFault::OutOfMemory => print_input_line(rt, path, line.as_str()),
         _ => {
             let _ = rt.eprintln(line.as_str());
