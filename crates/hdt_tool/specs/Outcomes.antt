@@ -26,8 +26,8 @@ use Rattle.hdt_tool.specs.declared.request.Action.{Action}
 use Rattle.hdt_tool.specs.declared.request.Request.{Request}
 use Rattle.hdt_tool.specs.declared.request.Action.TheVariants.{Head, HeadBody, Verify, VerifyTight, VerifyTerms}
 use Rattle.hdt_tool.specs.declared.request.Action.TheVariants.{Strings, ListStrings, Nth, Number, Find, Search}
-use Rattle.hdt_tool.specs.declared.request.Action.TheVariants.{SkipNonTerms, Exists, Count, Answer, Build, Rewrite, Info, Lint}
-use Rattle.hdt_tool.specs.declared.request.Action.TheVariants.{BuildInputs, Merge, Split}
+use Rattle.hdt_tool.specs.declared.request.Action.TheVariants.{SkipNonTerms, Exists, Count, Answer, Build, Rewrite}
+use Rattle.hdt_tool.specs.declared.request.Action.TheVariants.{Info, Lint, BuildInputs, Merge, Split}
 use Rattle.hdt_tool.specs.PrintedReports.{built_line, rewritten_line, head_text, verdict}
 use Rattle.hdt_tool.specs.Changes.{Change, FailsAfter, Gains, GainsBeginning, IsUnfailed}
 use Rattle.hdt_tool.specs.Info.{PrintsInfo}
