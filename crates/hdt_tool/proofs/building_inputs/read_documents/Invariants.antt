@@ -1,4 +1,4 @@
-use Rattle.std.proofs.Common.{◌≡◌, ◌+◌, ℕ, List, [], None, map, length}
+use Rattle.std.proofs.Common.{◌≡◌, ◌+◌, List, [], None, map, length}
 use Rattle.std.specs.Vec.Iter.{into_iter_items}
 use Rattle.hdt_file.specs.Denoted.{StringTriple}
 use Rattle.hdt_tool.specs.BuildInputs.{AddsInTurn, StopsAdding}
