@@ -1,6 +1,6 @@
 -- Reading several documents: prefixes, and errors.
 use Rattle.std.proofs.Common.{◌≡◌, ◌≢◌, ◌<◌, ◌^◌, ◌++◌, ◌∷◌, ℕ, List, [], Bool, true}
-use Rattle.std.proofs.Common.{Option, None, Some, codes, refl, arith, inl, inr, suc, zero, ◌/◌, ◌%◌, ◌+◌, ◌≤◌, rules}
+use Rattle.std.proofs.Common.{Option, None, Some, codes, refl, arith, inl, inr, suc, zero, ◌%◌, ◌+◌, rules}
 use Rattle.std.proofs.Common.{subst}
 use Rattle.std.specs.Fmt.{decimal}
 use Rattle.std.proofs.lemmas.Fmt.{IsAscii-decimal, decimal_by_steps}
