@@ -286,7 +286,7 @@ aside : Nat
 aside = low
 """
 HIGH = """\
-use Rattle.low.specs.Lib.{low as lowest}
+use Rattle.low.specs.Lib.{low as lowest, aside}
 
 -- Reached by a clause.
 pub outer : Nat
@@ -297,14 +297,33 @@ inner = 1 -- and not hidden
 
 hidden : Nat
 hidden = outer
+
+-- A record with fields of these names, and a value of it whose variable has one, reach neither.
+record Pair : Type where
+  hidden : Nat
+  aside : Nat
+
+pair : Nat → Pair
+pair aside = record { hidden = aside; aside = aside.hidden }
 """
 CODE = """\
-ghost use Rattle.toy.specs.Lib.{outer, hidden};
+ghost use Rattle.toy.specs.Lib.{outer, hidden, pair};
 
-pub fn shown() -> u8
-    ensures { result ≡ outer }
+pub fn shown(hidden: u8) -> u8
+    ensures { result ≡ outer } // not hidden
+    ensures { hidden.pair }
 {
-    hidden
+    pair
+}
+
+pub fn law()
+    ensures { pair }
+{}
+
+pub(crate) fn own() -> u8
+    ensures { result ≡ hidden }
+{
+    0
 }
 
 fn kept() -> u8
@@ -323,7 +342,7 @@ def defined(tmp_path: Path) -> Path:
         "crates/low/specs/Lib.antt": LOW,
         "crates/low/specs/Laws/More.antt": "law : Nat\nlaw = 1\n",
         "crates/toy/specs/Lib.antt": HIGH,
-        "crates/toy/src/lib.rt": "pub use crate::more::shown;\n",
+        "crates/toy/src/lib.rt": "pub use crate::more::{law, shown};\n",
         "crates/toy/src/more.rt": CODE,
     }
     for name, text in files.items():
@@ -341,18 +360,13 @@ def definitions(top: Path, *words: str) -> list[str]:
 
 def test_definitions_reached(defined: Path) -> None:
     """Those that clauses of exported functions name, and all that these name, with their lines and comments."""
-    assert definitions(defined, "--list") == ["low.Lib.low 4", "toy.Lib.inner 2", "toy.Lib.outer 3"]
+    own = ["toy.Lib.Pair 4", "toy.Lib.inner 2", "toy.Lib.outer 3", "toy.Lib.pair 2"]
+    assert definitions(defined, "--list") == ["low.Lib.low 4", *own]
     assert definitions(defined, "--others") == ["low.Laws.More.law 2", "low.Lib.aside 2", "toy.Lib.hidden 2"]
-
-
-def test_definitions_table(defined: Path) -> None:
-    """A row for each crate, and their sums."""
-    assert definitions(defined) == [
-        "| crate | definitions reached | their lines | comments | inside | their lines | laws | their lines |",
-        "|---|---|---|---|---|---|---|---|",
+    assert definitions(defined)[2:] == [
         "| low | 1 | 4 | 2 | 1 | 2 | 1 | 2 |",
-        "| toy | 2 | 5 | 1 | 1 | 2 | 0 | 0 |",
-        "| together | 3 | 9 | 3 | 2 | 4 | 1 | 2 |",
+        "| toy | 4 | 11 | 2 | 1 | 2 | 0 | 0 |",
+        "| together | 5 | 15 | 4 | 2 | 4 | 1 | 2 |",
     ]
 
 
@@ -360,6 +374,7 @@ def test_definitions_of_a_function(defined: Path) -> None:
     """Those that its contract reaches, exported or not."""
     assert definitions(defined, "--of", "toy::shown") == ["3 definitions, 9 lines, 3 of them comments"]
     assert definitions(defined, "--of", "toy::kept") == ["4 definitions, 11 lines, 3 of them comments"]
+    assert definitions(defined, "--of", "toy::law", "--list") == ["toy.Lib.Pair 4", "toy.Lib.pair 2"]
 
 
 # ---- contracts
