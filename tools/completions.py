@@ -11,15 +11,13 @@ of the folder HDT_BUILT, else the one that belongs to the sources (tools/current
 from __future__ import annotations
 
 import argparse
-import os
 import re
 import subprocess
 import sys
 from collections.abc import Callable
-from pathlib import Path
 from typing import NamedTuple
 
-from tools.repository import TOP
+from tools.repository import TOP, built
 
 # The arguments that are paths.
 PATHS = {"FILE", "IN", "OUT", "PATHS"}
@@ -62,16 +60,9 @@ class Command(NamedTuple):
 # ---- the program's help
 
 
-def program() -> Path:
-    """Return the path of the program."""
-    named = os.environ.get("HDT_BUILT")
-    found = named or subprocess.run([TOP / "tools/current"], check=True, stdout=subprocess.PIPE, text=True).stdout
-    return TOP / found.strip() / "hdt"
-
-
 def printed(*words: str) -> str:
     """Return what the program prints with these words."""
-    return subprocess.run([program(), *words], check=True, stdout=subprocess.PIPE, text=True).stdout
+    return subprocess.run([built() / "hdt", *words], check=True, stdout=subprocess.PIPE, text=True).stdout
 
 
 def rows(text: str, title: str) -> list[tuple[str, str]]:

@@ -24,11 +24,10 @@ import tempfile
 import textwrap
 from collections.abc import Iterator
 from contextlib import contextmanager
-from functools import lru_cache
 from pathlib import Path
 from typing import NamedTuple, Optional
 
-from tools.repository import TOP
+from tools.repository import TOP, built
 
 sys.path.insert(0, str(TOP / "tests"))
 
@@ -377,14 +376,6 @@ def example(entry: Entry) -> Example:
 
 
 # ---- the page
-
-
-@lru_cache(maxsize=None)
-def built() -> Path:
-    """Return the folder of the program."""
-    named = os.environ.get("HDT_BUILT")
-    found = named or subprocess.run([TOP / "tools/current"], check=True, stdout=subprocess.PIPE, text=True).stdout
-    return TOP / found.strip()
 
 
 def search_path() -> str:

@@ -2,8 +2,10 @@
 
 from __future__ import annotations
 
+import os
 import shutil
 import subprocess
+import sys
 from functools import lru_cache
 from pathlib import Path
 
@@ -28,6 +30,18 @@ def kit_line() -> str:
     """Return the kit's one-line identity, as `rt version` prints it. Raises NoKit."""
     kit()
     return subprocess.run(["rt", "version"], check=True, stdout=subprocess.PIPE, text=True).stdout.strip()
+
+
+@lru_cache(maxsize=None)
+def built() -> Path:
+    """Return the folder of built files: that of HDT_BUILT, else the one that belongs to the sources.
+
+    Ends the program if there is none, with the line of `tools/current`.
+    """
+    if named := os.environ.get("HDT_BUILT"):
+        return Path(named).resolve()
+    ran = subprocess.run(TOP / "tools/current", stdout=subprocess.PIPE, text=True)
+    return TOP / ran.stdout.strip() if ran.returncode == 0 else sys.exit(2)
 
 
 def crates(top: Path = TOP) -> dict[str, list[str]]:
