@@ -15,7 +15,7 @@ from support.tools import tool
 
 MODULES = sorted(it.stem for it in (TOP / "tools").glob("*.py") if "argparse" in it.read_text())
 SCRIPTS = ["hdt", "test", "tools/current", "tools/install", "tools/package", ".ci/run"]
-FOLDERS = ["tools", "python", "tests"]
+FOLDERS = ["tools", "python", "reference", "tests"]
 
 
 @pytest.mark.parametrize("name", MODULES)

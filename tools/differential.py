@@ -21,13 +21,8 @@ from functools import partial
 from pathlib import Path
 from typing import NamedTuple
 
-from tools.repository import TOP
-
-sys.path.insert(0, str(TOP / "tests"))
-
-from reference import checks  # noqa: E402
-from reference import hdt as reference  # noqa: E402
-from reference import ntriples  # noqa: E402
+from reference import checks, ntriples
+from reference import hdt as reference
 
 SECONDS = 60
 ROLES = ["subject", "predicate", "object"]

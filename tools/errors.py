@@ -27,11 +27,8 @@ from contextlib import contextmanager
 from pathlib import Path
 from typing import NamedTuple, Optional
 
+from reference import hdt as model
 from tools.repository import TOP, built
-
-sys.path.insert(0, str(TOP / "tests"))
-
-from reference import hdt as model  # noqa: E402
 
 PAGE = TOP / "docs/ERRORS.md"
 SOURCES = TOP / "crates/hdt_usage/src"
