@@ -139,12 +139,11 @@ TRIALS = {
 @pytest.mark.slow
 @pytest.mark.skipif(not shutil.which("rt"), reason="there is no Rattle kit")
 def test_kit(tmp_path: Path) -> None:
-    """Each mutant is judged as it should be, and the counts and the status are right; none shows nothing."""
+    """Each mutant is judged as it should be, and the counts and the status are right."""
     top = repository(tmp_path, {name: change for name, (change, _) in TRIALS.items()})
     (top / "crates.txt").write_text("toy:\n")
     for part in ("specs", "proofs"):
         shutil.rmtree(top / "crates/toy" / part)
-    assert judge(top, "--all", "--only", "none") == Answer(["0 refused, 0 failed"], 1)
     answer = judge(top, "--all")
     begins = [f"toy/{name}: {begin}" for name, (_, begin) in TRIALS.items()]
     missing = [it for it in begins if not any(line.startswith(it) for line in answer.lines)]

@@ -13,7 +13,7 @@ from support.built import PROGRAM as BUILT_PROGRAM, SAMPLES, SHARED_LIBRARY, TOP
 from support.program import Result, run
 from support.tools import tool
 
-MODULES = sorted(it.stem for it in (TOP / "tools").glob("*.py") if "argparse" in it.read_text())
+MODULES = sorted(it.stem for it in (TOP / "tools").glob("*.py") if "__main__" in it.read_text())
 SCRIPTS = ["hdt", "test", "tools/current", "tools/install", "tools/package", ".ci/run"]
 FOLDERS = ["tools", "python", "reference", "tests"]
 

@@ -9,7 +9,6 @@ proved, also if it is interrupted. All linking is done by the kit's own tools, s
 
 from __future__ import annotations
 
-import argparse
 import os
 import re
 import shutil
@@ -20,7 +19,7 @@ import time
 from pathlib import Path
 
 from tools import manifest
-from tools.repository import TOP, Crate, NoKit, crates, kit, kit_line
+from tools.repository import TOP, Crate, NoKit, command_line, crates, kit, kit_line
 
 # The crate whose program is the command `hdt`, and the crate of the C library.
 COMMAND = "hdt"
@@ -216,9 +215,7 @@ def link() -> None:
 
 def main() -> int:
     """Run the command line."""
-    words = argparse.ArgumentParser(
-        prog="python3 -m tools.build", description=__doc__, formatter_class=argparse.RawDescriptionHelpFormatter
-    )
+    words = command_line("build", __doc__)
     words.add_argument("--link", action="store_true", help="only link what is proved")
     given = words.parse_args()
     try:

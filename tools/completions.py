@@ -10,14 +10,13 @@ of the folder HDT_BUILT, else the one that belongs to the sources (tools/current
 
 from __future__ import annotations
 
-import argparse
 import re
 import subprocess
 import sys
 from collections.abc import Callable
 from typing import NamedTuple
 
-from tools.repository import TOP, built
+from tools.repository import TOP, built, command_line
 
 # The arguments that are paths.
 PATHS = {"FILE", "IN", "OUT", "PATHS"}
@@ -325,9 +324,7 @@ def filled(template: str, shell: str, values: dict[str, str]) -> str:
 
 def main() -> int:
     """Run the command line."""
-    parser = argparse.ArgumentParser(
-        prog="python3 -m tools.completions", description=__doc__, formatter_class=argparse.RawDescriptionHelpFormatter
-    )
+    parser = command_line("completions", __doc__)
     parser.add_argument("--check", action="store_true", help="check the files and write nothing")
     check = parser.parse_args().check
     texts = {name: make(commands()) for name, make in FILES.items()}

@@ -10,7 +10,6 @@ The last line is 'N functions, M differences', and the status is 1 if there are 
 
 from __future__ import annotations
 
-import argparse
 import re
 import subprocess
 import sys
@@ -20,7 +19,7 @@ from pathlib import Path
 
 from tools import rattle_text
 from tools.promises import DEFINITION, exported
-from tools.repository import TOP
+from tools.repository import TOP, command_line
 
 # The first words of a clause.
 CLAUSE = re.compile(r"\b(requires|ensures)(?:\s*\*)?\s+(?:(\w+)\s+)?(?=\{)")
@@ -106,9 +105,7 @@ def differences(old: dict[str, Parts], new: dict[str, Parts]) -> Iterator[str]:
 
 def main() -> int:
     """Compare; return the exit status."""
-    words = argparse.ArgumentParser(
-        prog="python3 -m tools.contracts", description=__doc__, formatter_class=argparse.RawDescriptionHelpFormatter
-    )
+    words = command_line("contracts", __doc__)
     words.add_argument("revision", metavar="REVISION", help="the earlier commit")
     words.add_argument("--names", type=Path, metavar="FILE", help="what was renamed since then")
     words.add_argument("--definitions", action="store_true", help="compare the definitions in specs/ too")

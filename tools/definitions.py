@@ -17,7 +17,6 @@ laws, in specs/Laws, and their lines. It is no part of the gate.
 
 from __future__ import annotations
 
-import argparse
 import re
 import sys
 from collections.abc import Iterator
@@ -25,7 +24,7 @@ from pathlib import Path
 from typing import NamedTuple, Optional
 
 from tools import repository
-from tools.repository import TOP
+from tools.repository import TOP, command_line
 
 # A definition: its crate, its module in specs/, and its name.
 Name = tuple[str, str, str]
@@ -207,9 +206,7 @@ def print_table(found: dict[Name, Definition], seen: set[Name], top: Path) -> No
 
 def main() -> int:
     """Run the command line."""
-    words = argparse.ArgumentParser(
-        prog="python3 -m tools.definitions", description=__doc__, formatter_class=argparse.RawDescriptionHelpFormatter
-    )
+    words = command_line("definitions", __doc__)
     words.add_argument("--list", action="store_true", help="name the definitions that are reached, with their lines")
     words.add_argument("--others", action="store_true", help="name those that are not, with their lines")
     words.add_argument("--of", default="", metavar="NAME", help="count those that the contract of a function reaches")

@@ -15,7 +15,6 @@ if one failed.
 
 from __future__ import annotations
 
-import argparse
 import os
 import re
 import subprocess
@@ -28,7 +27,7 @@ from pathlib import Path
 from typing import NamedTuple, Optional
 
 from reference import hdt as model
-from tools.repository import TOP, built
+from tools.repository import TOP, built, command_line
 
 PAGE = TOP / "docs/ERRORS.md"
 SOURCES = TOP / "crates/hdt_usage/src"
@@ -443,9 +442,7 @@ def with_examples(page: str, examples: list[str]) -> str:
 
 def main() -> int:
     """Run the command line."""
-    parser = argparse.ArgumentParser(
-        prog="python3 -m tools.errors", description=__doc__, formatter_class=argparse.RawDescriptionHelpFormatter
-    )
+    parser = command_line("errors", __doc__)
     parser.add_argument("--check", action="store_true", help="check the page and write nothing")
     parser.add_argument("--file", metavar="NAME", choices=FILES, help="print the file of an example")
     parser.add_argument("--rattle", action="store_true", help="write the texts of `hdt explain`, and no examples")

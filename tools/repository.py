@@ -1,7 +1,8 @@
-"""The repository's crates, as crates.txt lists them, and the Rattle kit that proves and compiles them."""
+"""What tools share: the crates of crates.txt, the Rattle kit, the built files, and the form of command lines."""
 
 from __future__ import annotations
 
+import argparse
 import os
 import shutil
 import subprocess
@@ -14,6 +15,12 @@ TOP = Path(__file__).resolve().parent.parent
 
 class NoKit(Exception):
     """There is no Rattle kit on this machine: no command `rt` on the path."""
+
+
+def command_line(name: str, text: str | None) -> argparse.ArgumentParser:
+    """Return the parser of the command line of a tool with this name and this documentation."""
+    form = argparse.RawDescriptionHelpFormatter
+    return argparse.ArgumentParser(prog=f"python3 -m tools.{name}", description=text, formatter_class=form)
 
 
 @lru_cache(maxsize=None)

@@ -26,7 +26,7 @@ from collections.abc import Callable, Iterable, Sequence
 from pathlib import Path
 from typing import NamedTuple, Union
 
-from tools.repository import built
+from tools.repository import built, command_line
 
 Word = Union[str, Path]
 
@@ -212,9 +212,7 @@ def number(word: str) -> int:
 
 def arguments(name: str, text: str | None) -> argparse.ArgumentParser:
     """Return the parser of the command line of a tool that measures: the program's name, and its documentation."""
-    words = argparse.ArgumentParser(
-        prog=f"python3 -m tools.{name}", description=text, formatter_class=argparse.RawDescriptionHelpFormatter
-    )
+    words = command_line(name, text)
     words.add_argument("--program", type=Path, metavar="PATH", help="the program to measure (that of this tree)")
     return words
 

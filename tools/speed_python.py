@@ -10,7 +10,6 @@ proved.
 
 from __future__ import annotations
 
-import argparse
 import sys
 import time
 from collections import deque
@@ -20,7 +19,7 @@ from pathlib import Path
 from timeit import timeit
 from typing import Any
 
-from tools.repository import TOP
+from tools.repository import TOP, command_line
 
 SECONDS = 0.04  # of a round
 THREADS = (1, 2, 4)
@@ -75,9 +74,7 @@ def rate(call: Callable[[int], object], threads: int) -> float:
 
 def main() -> int:
     """Run the command line."""
-    words = argparse.ArgumentParser(
-        prog="python3 -m tools.speed_python", description=__doc__, formatter_class=argparse.RawDescriptionHelpFormatter
-    )
+    words = command_line("speed_python", __doc__)
     words.add_argument("file", type=Path, metavar="FILE", help="an HDT file")
     words.add_argument("--times", type=int, default=20_000, metavar="N", help="make N calls on one string (20,000)")
     words.add_argument("--rounds", type=int, default=0, metavar="N", help="measure threads, in N rounds (0: none)")
