@@ -35,11 +35,7 @@ THREE = (TOP / "samples/three.hdt").read_bytes()
 # A text of the page, as `hdt explain` prints it, has at most so many lines of so many columns.
 LINES, COLUMNS = 4, 78
 # The sections of the page that have errors, and the kind of each.
-SECTIONS = {
-    "Errors of an HDT file": "file",
-    "Errors of an N-Triples text": "text",
-    "Other messages": "message",
-}
+SECTIONS = {"Errors of an HDT file": "file", "Errors of an N-Triples text": "text", "Other messages": "message"}
 ENTRY = re.compile(
     r"### (?P<title>.*)\n\n(?P<meaning>(?:.+\n)+)\n"
     r"(?:- Cause: (?P<cause>(?:.+\n)+?))?(?:- Remedy: (?P<remedy>(?:.+\n)+?))?- Example:(?P<example>.*\n(?:.+\n)*)"
@@ -278,14 +274,8 @@ FILES = {
     "SectionKind": ("the type 3 of the shared section", changed("shared", 0, 3)),
     "BlockSize": ("the block size 0 of the shared section", section(2, b"u:a\0\x82b\0", [0, 7], 0)),
     "BlockCount": ("one block offset of the shared section, 0", section(2, b"u:a\0\x82b\0", [0])),
-    "BlockPlace": (
-        "the block offsets 0 and 8 of the shared section, not 0 and 7",
-        section(2, b"u:a\0\x82b\0", [0, 8]),
-    ),
-    "PrefixTooLong": (
-        "a second shared string that shares 4 bytes with `u:a`",
-        section(2, b"u:a\0\x84b\0", [0, 7]),
-    ),
+    "BlockPlace": ("the block offsets 0 and 8 of the shared section, not 0 and 7", section(2, b"u:a\0\x82b\0", [0, 8])),
+    "PrefixTooLong": ("a second shared string that shares 4 bytes with `u:a`", section(2, b"u:a\0\x84b\0", [0, 7])),
     "PackedLength": ("an extra zero byte after the shared strings", section(2, b"u:a\0\x82b\0\0", [0, 8])),
     "NotUtf8": ("the byte `E9` at the end of the second shared string", section(2, b"u:a\0\x82\xe9\0", [0, 7])),
     "StringsNotAscending": ("the shared strings `u:a` and `u:B`", section(2, b"u:a\0\x82B\0", [0, 7])),
@@ -294,10 +284,7 @@ FILES = {
         having(objects=model.write_section([b'"x"', b"u:a"])),
     ),
     "NoTriples": ("an empty bitmap Y", having(bits_y=model.write_bits([]))),
-    "LengthsDiffer": (
-        "the predicates 1, 2 in sequence Y, not 1, 2, 1",
-        having(numbers_y=model.write_numbers([1, 2])),
-    ),
+    "LengthsDiffer": ("the predicates 1, 2 in sequence Y, not 1, 2, 1", having(numbers_y=model.write_numbers([1, 2]))),
     "LastMark": ("the bits 0, 1, 0 in bitmap Y, not 0, 1, 1", having(bits_y=model.write_bits([0, 1, 0]))),
     "MarkCount": ("the bits 0, 1, 1 in bitmap Z, not 1, 1, 1", having(bits_z=model.write_bits([0, 1, 1]))),
     "SubjectRange": ("the bits 1, 1, 1 in bitmap Y: three subjects", having(bits_y=model.write_bits([1, 1, 1]))),
