@@ -257,9 +257,7 @@ def test_definitions_of_a_function(defined: Path) -> None:
 
 # ---- contracts
 
-# Of `a` a clause is weaker, one is gone and one new; `b` has another name, and its clauses another order; `c` is not
-# exported, and `d` goes.
-OLD_LIBRARY = """\
+LIBRARY = """\
 pub use one::{a, b, d};
 
 /// What it does.
@@ -273,7 +271,6 @@ pub fn a(x: u8) -> u8
 
 pub fn b(self: &Self) -> u8
     ensures low { 1 ≤ result }
-    // why
     ensures high { result ≤ 9 }
 {
     1
@@ -283,47 +280,34 @@ fn c() {}
 
 pub fn d() {}
 """
-NEW_LIBRARY = """\
-pub use one::{a, bee};
-
-pub fn a(x: u8) -> u8
-    requires small { x < 9 }
-    ensures is { result ≤ x }
-    ensures more { x ≤ x }
-{
-    x + 0
+# What is changed in it: the last four change no contract, but for the name of `b`.
+CONTRACT_CHANGES = {
+    "is { result ≡ x }": "is { result ≤ x }",
+    "ensures { x ≡ x }": "ensures more { x ≡ x }",
+    "\npub fn d() {}\n": "",
+    "1 ≤ result }": "1 ≤\n        result } // why",
+    "    x\n}": "    x + 0\n}",
+    "{a, b, d}": "{a, bee, d}",
+    "fn b(": "fn bee(",
 }
-
-pub fn bee(self: &Self) -> u8
-    ensures high { result  ≤ 9 }
-    ensures low { 1 ≤
-        result }
-{
-    2
-}
-"""
-CONTRACTS = """\
-import sys
-from pathlib import Path
-from tools import contracts
-contracts.TOP = Path(sys.argv.pop(1))
-sys.exit(contracts.main())
-"""
+CONTRACTS = "import sys; from pathlib import Path; from tools import contracts; contracts.TOP = Path(sys.argv.pop(1))"
 
 
 def test_contracts(tmp_path: Path) -> None:
     """Each clause that is gone, new or another is reported; whitespace, comments and bodies are not."""
     library, definition = "crates/one/src/lib.rt", "abbrev pub Small : ℕ → Type 0\nSmall n = n < "
-    write(tmp_path, {library: OLD_LIBRARY, "crates/one/specs/Small.antt": f"{definition}10\n"})
+    write(tmp_path, {library: LIBRARY, "crates/one/specs/Small.antt": f"{definition}10\n", "names": "b bee\n"})
     git = ["git", "-C", str(tmp_path), "-c", "user.name=a", "-c", "user.email=a@example.org"]
     for command in (["init", "-q"], ["add", "-A"], ["commit", "-qm", "old"]):
         subprocess.run([*git, *command], check=True)
-    write(tmp_path, {library: NEW_LIBRARY, "crates/one/specs/Small.antt": f"-- why\n{definition}9\n"})
-    write(tmp_path, {"names": "b bee\n"})
-    words = [sys.executable, "-B", "-c", CONTRACTS, str(tmp_path), "HEAD"]
+    words = [sys.executable, "-B", "-c", f"{CONTRACTS}; sys.exit(contracts.main())", str(tmp_path), "HEAD"]
+    assert run(words, cwd=TOP) == (0, b"\n3 functions, 0 differences\n", b"")
+    changed = LIBRARY
+    for old, new in CONTRACT_CHANGES.items():
+        assert changed.count(old) == 1
+        changed = changed.replace(old, new)
+    write(tmp_path, {library: changed, "crates/one/specs/Small.antt": f"-- why\n{definition}9\n"})
     status, out, err = run([*words, "--definitions", "--names", tmp_path / "names"], cwd=TOP)
     found = [it for it in out.decode().splitlines() if not it.startswith("    ")]
     wanted = ["a: ensures is", "a: ensures 1", "a: ensures more", "d: gone", "Small: definition"]
     assert (status, err, found) == (1, b"", [*wanted, "2 functions, 5 differences"])
-    write(tmp_path, {library: OLD_LIBRARY})
-    assert run(words, cwd=TOP) == (0, b"\n3 functions, 0 differences\n", b"")
