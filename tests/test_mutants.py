@@ -7,10 +7,8 @@ does. The tests with the marker `kit` have the real one.
 from __future__ import annotations
 
 import collections
-import os
 import shutil
 import stat
-import subprocess
 import sys
 from collections.abc import Iterable, Mapping
 from datetime import date
@@ -21,9 +19,8 @@ from typing import NamedTuple
 import pytest
 
 from support.built import TOP
-
-sys.path.append(str(TOP))
-from tools import mutants  # noqa: E402
+from support.program import run
+from tools import mutants
 
 SOURCE = """\
 #![tactic(auto)]
@@ -101,16 +98,10 @@ def repository(top: Path, changes: Mapping[str, str], source: str = SOURCE) -> P
 
 def judge(top: Path, *words: str, commands: Path | None = None) -> Answer:
     """Run the command over a repository; `commands` is a folder that is first on the path."""
+    words = ("-B", "-m", "tools.mutants", "--top", str(top), "--jobs", "1", *words)
     path = {"PATH": f"{commands}:/usr/bin:/bin"} if commands else {}
-    ran = subprocess.run(
-        [sys.executable, "-B", "-m", "tools.mutants", "--top", top, "--jobs", "1", *words],
-        cwd=TOP,
-        env={**os.environ, **path},
-        stdout=subprocess.PIPE,
-        stderr=subprocess.STDOUT,
-        text=True,
-    )
-    return Answer(ran.stdout.splitlines(), ran.returncode)
+    ran = run([sys.executable, *words], cwd=TOP, env=path, seconds=1_000)
+    return Answer((ran.out + ran.err).decode().splitlines(), ran.status)
 
 
 # ---- with the real kit
