@@ -11,10 +11,13 @@ pub mod Order
 pub mod GraphIndices
 pub mod IndexTriples
 pub mod StringsOfIds
+pub mod FrontCoding
+pub mod RankedRuns
 mod SectionFilling
 mod FilteredSections
 pub mod EntrySorting
 pub mod Deduplication
+pub mod PrefixedLabels
 pub mod DocumentReading
 pub mod Unions
 pub mod Unique
@@ -27,3 +30,6 @@ mod RunOrder
 mod DenotedStrings
 mod RewrittenFiles
 pub mod MergedFiles
+mod MovedParts
+mod HeaderProperties
+pub mod ReplacedHeaders
