@@ -7,10 +7,10 @@ from hypothesis import example, given
 from hypothesis import strategies as st
 
 from reference import checks, hdt
-from reference.answers import REFUSED, answered, fault
 from reference.hdt import DICTIONARY, GLOBAL, HEADER, TRIPLES, Control, Reason
-from reference.strategies import AROUND, changed
+from support.answers import REFUSED, answered, fault
 from support.probe import Answer, Argument, Probe, ok
+from support.strategies import AROUND, changed
 
 KINDS = st.sampled_from([GLOBAL, HEADER, DICTIONARY, TRIPLES])
 TEXT = st.binary(max_size=40).map(lambda text: text.replace(b"\0", b"="))

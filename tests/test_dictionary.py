@@ -9,11 +9,11 @@ from hypothesis import example, given
 from hypothesis import strategies as st
 
 from reference import checks, hdt
-from reference.answers import REFUSED, answered, fault
 from reference.hdt import MAX, Dictionary, Reason, Style, write_dictionary, write_section
-from reference.strategies import AROUND, BLOCK_SIZES, PADDING, STRING, changed
 from support import prefixes
+from support.answers import REFUSED, answered, fault
 from support.probe import Answer, Argument, Probe, Request, ok
+from support.strategies import AROUND, BLOCK_SIZES, PADDING, STRING, changed
 
 Lists = tuple[list[bytes], list[bytes], list[bytes], list[bytes]]
 

@@ -56,7 +56,7 @@ def spoken(name: str) -> str:
 LISTS: dict[tuple[str, str], Callable[[], Numbered]] = {
     ("file", "docs/FORMAT.md"): lambda: counted(file_reasons()),
     ("file", "python/hdt"): lambda: counted(faults.REASONS),
-    ("file", "tests/reference"): lambda: [(it.value, it.name) for it in model.Reason],
+    ("file", "reference"): lambda: [(it.value, it.name) for it in model.Reason],
     ("file", "enum"): lambda: found(f"{WIRE}/src/fault.rt", r"^    (?P<name>\w+) = (?P<number>\d+),$"),
     ("file", "name"): lambda: found(f"{WIRE}/src/fault.rt", r" Reason::(?P<name>\w+) => \"(?P=name)\","),
     ("file", "numbers in specs"): lambda: found(
@@ -66,7 +66,7 @@ LISTS: dict[tuple[str, str], Callable[[], Numbered]] = {
     ("file", "probe"): lambda: found(f"{PROBE}/src/reason.rt", r"^ +(?P<number>\d+) => Some\(Reason::(?P<name>\w+)\)"),
     ("text", "docs/NTRIPLES.md"): lambda: counted(text_reasons()),
     ("text", "python/hdt"): lambda: counted(faults.LINE_REASONS),
-    ("text", "tests/reference"): lambda: [(it.value, it.name) for it in ntriples.Reason],
+    ("text", "reference"): lambda: [(it.value, it.name) for it in ntriples.Reason],
     ("text", "enum"): lambda: found(f"{TERMS}/src/fault.rt", r"^    (?P<name>\w+) = (?P<number>\d+),$"),
     ("text", "name"): lambda: found(f"{TERMS}/src/fault.rt", r" LineReason::(?P<name>\w+) => \"(?P=name)\","),
     ("text", "numbers in specs"): lambda: found(

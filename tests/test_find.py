@@ -17,7 +17,7 @@ from support.built import SAMPLES
 from support.probe import Probe
 from support.program import READING_FAILED, WRITING_FAILED, Result, Word, brief, done, failed, fault, hdt, hdt_into
 from support.search import THREE as THREE_TRIPLES
-from support.search import THREE_PATTERNS, Graph, Pattern, Triple, chosen, not_a_term_past_16_bits, spelled
+from support.search import THREE_PATTERNS, Graph, Pattern, Triple, chosen, not_a_term_past_16_bits, words_of
 
 V1 = (SAMPLES / "v1.hdt").read_bytes()
 THREE = SAMPLES / "three.hdt"
@@ -86,11 +86,6 @@ def graphs(tmp_path_factory: pytest.TempPathFactory) -> dict[str, tuple[Graph, P
         path.write_bytes(graph.data)
         made[name] = graph, path
     return made
-
-
-def words_of(pattern: Pattern, raw: bool) -> list[Word]:
-    """A pattern as words of a command line: as terms or as dictionary strings."""
-    return [b"?" if string is None else string if raw else spelled(string) for string in pattern]
 
 
 def asked(path: Path, graph: Graph, pattern: Pattern) -> list[tuple[list[Word], Result]]:

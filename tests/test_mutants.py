@@ -7,12 +7,10 @@ does. The tests with the marker `kit` have the real one.
 from __future__ import annotations
 
 import collections
-import os
 import shutil
 import stat
-import subprocess
 import sys
-from collections.abc import Callable, Iterable, Mapping
+from collections.abc import Iterable, Mapping
 from datetime import date
 from pathlib import Path
 from types import SimpleNamespace
@@ -21,9 +19,8 @@ from typing import NamedTuple
 import pytest
 
 from support.built import TOP
-
-sys.path.append(str(TOP))
-from tools import mutants  # noqa: E402
+from support.program import run
+from tools import mutants
 
 SOURCE = """\
 #![tactic(auto)]
@@ -101,71 +98,47 @@ def repository(top: Path, changes: Mapping[str, str], source: str = SOURCE) -> P
 
 def judge(top: Path, *words: str, commands: Path | None = None) -> Answer:
     """Run the command over a repository; `commands` is a folder that is first on the path."""
+    words = ("-B", "-m", "tools.mutants", "--top", str(top), "--jobs", "1", *words)
     path = {"PATH": f"{commands}:/usr/bin:/bin"} if commands else {}
-    ran = subprocess.run(
-        [sys.executable, "-B", "-m", "tools.mutants", "--top", top, "--jobs", "1", *words],
-        cwd=TOP,
-        env={**os.environ, **path},
-        stdout=subprocess.PIPE,
-        stderr=subprocess.STDOUT,
-        text=True,
-    )
-    return Answer(ran.stdout.splitlines(), ran.returncode)
+    ran = run([sys.executable, *words], cwd=TOP, env=path, seconds=1_000)
+    return Answer((ran.out + ran.err).decode().splitlines(), ran.status)
 
 
 # ---- with the real kit
 
-HALF_OF_NOTHING = "old:     number / 2\nnew:     let _ = number; 0"
-HALF_ROUNDED_UP = "old:     number / 2\nnew:     number / 2 + number % 2"
-HARMLESS = "old:     half(half(number))\nnew:     let first = half(number); half(first)"
-STALE = "old:     number / 3\nnew:     number / 4"
-UNCHANGED = "old:     number / 2\nnew:     number / 2"
-UNCOMPILED = "old:     half(half(number))\nnew:     half(halves(number))"
-UNSAID = "old: result ≡ number / 2 }\nnew: result ≡ number / 2 + 1 }"
-
-# Mutants that are judged together, and how the line of each begins.
+# Mutants that are judged together, and how the line of each goes on.
 TRIALS = {
-    "two of one function": {
-        "half_of_nothing": (HALF_OF_NOTHING, "toy/half_of_nothing: refused, by toy::half: "),
-        "half_rounded_up": (HALF_ROUNDED_UP, "toy/half_rounded_up: refused, by toy::half: "),
-    },
-    "a harmless one whose callee is broken": {
-        "half_of_nothing": (HALF_OF_NOTHING, "toy/half_of_nothing: refused, by toy::half: "),
-        "harmless": (HARMLESS, "toy/harmless: NOT REFUSED: the crate is still proved"),
-    },
-    "a stale one, and one that changes nothing": {
-        "half_of_nothing": (HALF_OF_NOTHING, "toy/half_of_nothing: refused, by toy::half: "),
-        "stale": (STALE, "toy/stale: BAD MUTANT: an 'old:' text is in src/lib.rt 0 times"),
-        "unchanged": (UNCHANGED, "toy/unchanged: BAD MUTANT: it changes nothing"),
-    },
-    "one that does not compile, which takes none with it": {
-        "half_of_nothing": (HALF_OF_NOTHING, "toy/half_of_nothing: refused, by toy::half: "),
-        "uncompiled": (UNCOMPILED, "toy/uncompiled: BAD MUTANT: it did not reach the prover"),
-    },
-    "one that changes a contract, which is judged alone": {
-        "unsaid": (UNSAID, "toy/unsaid: refused, by toy::half: "),
-    },
-    "none, which shows nothing": {},
+    "half_of_nothing": ("old:     number / 2\nnew:     let _ = number; 0", "refused, by toy::half: "),
+    "half_rounded_up": ("old:     number / 2\nnew:     number / 2 + number % 2", "refused, by toy::half: "),
+    "harmless": (
+        "old:     half(half(number))\nnew:     let first = half(number); half(first)",
+        "NOT REFUSED: the crate is still proved",
+    ),
+    "stale": (
+        "old:     number / 3\nnew:     number / 4",
+        "BAD MUTANT: an 'old:' text is in src/lib.rt 0 times",
+    ),
+    "uncompiled": (
+        "old:     half(half(number))\nnew:     half(halves(number))",
+        "BAD MUTANT: it did not reach the prover",
+    ),
+    "unsaid": ("old: result ≡ number / 2 }\nnew: result ≡ number / 2 + 1 }", "refused, by toy::half: "),
 }
 
 
 @pytest.mark.kit
 @pytest.mark.slow
 @pytest.mark.skipif(not shutil.which("rt"), reason="there is no Rattle kit")
-@pytest.mark.parametrize("trial", TRIALS.values(), ids=list(TRIALS))
-def test_kit(tmp_path: Path, trial: dict[str, tuple[str, str]]) -> None:
+def test_kit(tmp_path: Path) -> None:
     """Each mutant is judged as it should be, and the counts and the status are right."""
-    changes = {name: change for name, (change, _) in trial.items()}
-    top = repository(tmp_path, changes)
+    top = repository(tmp_path, {name: change for name, (change, _) in TRIALS.items()})
     (top / "crates.txt").write_text("toy:\n")
     for part in ("specs", "proofs"):
         shutil.rmtree(top / "crates/toy" / part)
     answer = judge(top, "--all")
-    begins = [begin for _, begin in trial.values()]
-    refused = sum(": refused, by " in it for it in begins)
+    begins = [f"toy/{name}: {begin}" for name, (_, begin) in TRIALS.items()]
     missing = [it for it in begins if not any(line.startswith(it) for line in answer.lines)]
-    assert (missing, answer.lines[-1]) == ([], f"{refused} refused, {len(trial) - refused} failed"), answer.lines
-    assert answer.status == (0 if refused and refused == len(trial) else 1)
+    assert (missing, answer.lines[-1], answer.status) == ([], "3 refused, 3 failed", 1), answer.lines
 
 
 # ---- with a kit of words
@@ -244,10 +217,9 @@ def kit(tmp_path: Path) -> Kit:
 
 
 class Case(NamedTuple):
-    """Mutants that are judged together; what is told of each; how many checks that takes; and the source."""
+    """Mutants that are judged together, each with what is told of it; how many checks that takes; and the source."""
 
-    changes: dict[str, str]
-    lines: list[str]
+    mutants: dict[str, tuple[str, str]]
     checks: int
     source: str = SOURCE
 
@@ -256,153 +228,102 @@ QUARTER = "old:     half(half(number))\nnew:     "
 NEXT = "old:     number.wrapping_add(1)\nnew:     "
 HALF = "old:     number / 2\nnew:     "
 OPEN = "left open: `returns`"
+BY_HALF, BY_QUARTER, BY_NEXT = (f"refused, by toy::{it}: {OPEN}" for it in ("half", "quarter", "next"))
+PROVED = "NOT REFUSED: the crate is still proved with this mutant"
+UNREAD = "src/lib.rt:16:10: error[unknown-name]: cannot find value `unknown` in this scope"
+SHAPE = "only because a proof written by hand no longer fits its body: give the mutant another form"
 
 CASES = {
     "refused together": Case(
-        {"a": HALF + "wrong", "b": QUARTER + "wrong", "c": NEXT + "wrong"},
-        [f"toy/{it}: refused, by toy::{of}: {OPEN}" for it, of in zip("abc", ("half", "quarter", "next"))],
-        2,
+        {"a": (HALF + "wrong", BY_HALF), "b": (QUARTER + "wrong", BY_QUARTER), "c": (NEXT + "wrong", BY_NEXT)}, 2
     ),
-    "of one function": Case(
-        {"a": HALF + "wrong", "b": HALF + "wrong again"},
-        [f"toy/{it}: refused, by toy::half: {OPEN}" for it in "ab"],
-        3,
-    ),
-    "of two functions": Case({"a": HALF + "wrong\n" + QUARTER + "right"}, [f"toy/a: refused, by toy::half: {OPEN}"], 2),
+    "of one function": Case({"a": (HALF + "wrong", BY_HALF), "b": (HALF + "wrong again", BY_HALF)}, 3),
+    "of two functions": Case({"a": (HALF + "wrong\n" + QUARTER + "right", BY_HALF)}, 2),
     "a written answer fails": Case(
-        {"a": HALF + "answer"}, ["toy/a: refused, by toy::half: its answer fails: the sides of the goal differ"], 2
+        {"a": (HALF + "answer", "refused, by toy::half: its answer fails: the sides of the goal differ")}, 2
     ),
-    "harmless": Case(
-        {"a": HALF + "wrong", "b": QUARTER + "half(number)"},
-        [f"toy/a: refused, by toy::half: {OPEN}", "toy/b: NOT REFUSED: the crate is still proved with this mutant"],
-        3,
-    ),
+    "harmless": Case({"a": (HALF + "wrong", BY_HALF), "b": (QUARTER + "half(number)", PROVED)}, 3),
     "shows nothing": Case(
-        {"a": HALF + "shape", "b": NEXT + "wrong"},
-        [
-            "toy/a: SHOWS NOTHING: toy::half is refused only because a proof written by hand no longer fits its body: "
-            "give the mutant another form",
-            f"toy/b: refused, by toy::next: {OPEN}",
-        ],
-        3,
+        {"a": (HALF + "shape", f"SHOWS NOTHING: toy::half is refused {SHAPE}"), "b": (NEXT + "wrong", BY_NEXT)}, 3
     ),
     "does not compile": Case(
-        {"a": HALF + "unknown", "b": NEXT + "wrong", "c": QUARTER + "wrong"},
-        [
-            "toy/a: BAD MUTANT: it did not reach the prover: src/lib.rt:16:10: error[unknown-name]: cannot find value "
-            "`unknown` in this scope",
-            f"toy/b: refused, by toy::next: {OPEN}",
-            f"toy/c: refused, by toy::quarter: {OPEN}",
-        ],
+        {
+            "a": (HALF + "unknown", f"BAD MUTANT: it did not reach the prover: {UNREAD}"),
+            "b": (NEXT + "wrong", BY_NEXT),
+            "c": (QUARTER + "wrong", BY_QUARTER),
+        },
         5,
     ),
     "another function fails": Case(
-        {"a": HALF + "strange", "b": QUARTER + "wrong"},
-        [
-            "toy/a: NOT REFUSED by toy::half: no goal of its own fails; logic=not-proved",
-            f"toy/b: refused, by toy::quarter: {OPEN}",
-        ],
+        {
+            "a": (HALF + "strange", "NOT REFUSED by toy::half: no goal of its own fails; logic=not-proved"),
+            "b": (QUARTER + "wrong", BY_QUARTER),
+        },
         4,
     ),
-    "killed once": Case({"a": HALF + "wrong killed"}, [f"toy/a: refused, by toy::half: {OPEN}"], 3),
+    "killed once": Case({"a": (HALF + "wrong killed", BY_HALF)}, 3),
     "more than bodies": Case(
         {
-            "a": "old:     ensures { result ≡ number / 2 }\nnew:     ensures { result ≡ number }\n" + HALF + "wrong",
-            "b": NEXT + "wrong",
+            "a": ("old: { result ≡ number / 2 }\nnew: { result ≡ number }\n" + HALF + "wrong", BY_HALF),
+            "b": (NEXT + "wrong", BY_NEXT),
         },
-        [f"toy/a: refused, by toy::half: {OPEN}", f"toy/b: refused, by toy::next: {OPEN}"],
         3,
     ),
     "in a cycle of calls": Case(
-        {"a": QUARTER + "right", "b": HALF + "wrong", "c": NEXT + "wrong"},
-        [
-            "toy/a: NOT REFUSED: the crate is still proved with this mutant",
-            f"toy/b: refused, by toy::half: {OPEN}",
-            f"toy/c: refused, by toy::next: {OPEN}",
-        ],
+        {"a": (QUARTER + "right", PROVED), "b": (HALF + "wrong", BY_HALF), "c": (NEXT + "wrong", BY_NEXT)},
         4,
         SOURCE.replace("pub fn next", "#[cycle(quarter)]\npub fn next"),
     ),
     "not applicable": Case(
         {
-            "a": "old: number\nnew: 1",
-            "b": STALE,
-            "c": UNCHANGED,
-            "d": "new: 1",
-            "e": "old:     number / 2",
-            "f": HALF + "{ number",
-            "g": "file: src/none.rt\n" + HALF + "wrong",
-            "h": HALF + "wrong\n" + HALF + "wrong again",
+            name: (text, f"BAD MUTANT: {why}")
+            for name, text, why in [
+                ("a", "old: pub fn\nnew: 1", "an 'old:' text is in src/lib.rt 3 times, and not once"),
+                ("b", "old: third\nnew: 1", "an 'old:' text is in src/lib.rt 0 times, and not once"),
+                ("c", HALF + "number / 2", "it changes nothing"),
+                ("d", "new: 1", "a 'new:' line comes before any 'file:' or 'old:' line"),
+                ("e", "old:     number / 2", "the last 'old:' line has no 'new:' line"),
+                ("f", HALF + "{ number", "src/lib.rt has an open bracket with it"),
+                ("g", f"file: src/none.rt\n{HALF}wrong", "there is no file src/none.rt below src/"),
+            ]
         },
-        [
-            f"toy/a: BAD MUTANT: an 'old:' text is in src/lib.rt {SOURCE.count('number')} times, and not once",
-            "toy/b: BAD MUTANT: an 'old:' text is in src/lib.rt 0 times, and not once",
-            "toy/c: BAD MUTANT: it changes nothing",
-            "toy/d: BAD MUTANT: a 'new:' line comes before any 'file:' or 'old:' line",
-            "toy/e: BAD MUTANT: the last 'old:' line has no 'new:' line",
-            "toy/f: BAD MUTANT: src/lib.rt has an open bracket with it",
-            "toy/g: BAD MUTANT: there is no file src/none.rt below src/",
-            "toy/h: BAD MUTANT: an 'old:' text is in src/lib.rt 0 times, and not once",
-        ],
         1,
     ),
-    "no mutants": Case({}, [], 0),
+    "no mutants": Case({}, 0),
 }
 
 
 @pytest.mark.parametrize("case", CASES.values(), ids=list(CASES))
 def test_judgement(tmp_path: Path, kit: Kit, case: Case) -> None:
     """Each mutant is judged by the goals of its own function, in as few checks as that takes; counts and status."""
-    answer = judge(repository(tmp_path / "top", case.changes, case.source), "--all", commands=kit.commands)
-    failed = [it.partition(":")[0] for it in case.lines if ": refused, by " not in it]
-    refused = len(case.lines) - len(failed)
-    last = [f"FAILED: {' '.join(failed)}"] if failed else []
+    changes = {name: change for name, (change, _) in case.mutants.items()}
+    answer = judge(repository(tmp_path / "top", changes, case.source), "--all", commands=kit.commands)
+    failed = [f"toy/{name}" for name, (_, said) in case.mutants.items() if not said.startswith("refused, by ")]
+    refused = len(case.mutants) - len(failed)
+    wanted = [f"toy/{name}: {said}" for name, (_, said) in case.mutants.items()]
     *lines, counts = answer.told()
-    assert sorted(lines) == sorted([*case.lines, *last])
+    assert sorted(lines) == sorted(wanted + ([f"FAILED: {' '.join(failed)}"] if failed else []))
     assert counts == f"{refused} refused, {len(failed)} failed"
     assert (answer.status, kit.checks()) == (1 if failed or not refused else 0, case.checks)
 
 
-def without_library(top: Path) -> None:
-    """Remove the library of the crate below."""
-    shutil.rmtree(top / "crates/base/out")
-
-
-def unproved(top: Path) -> None:
-    """Break a function of the crate, so that it is not proved without a mutant."""
-    (top / "crates/toy/src/lib.rt").write_text(SOURCE.replace("number.wrapping_add(1)", "wrong"))
-
-
-GROUNDS: dict[str, tuple[Callable[[Path], object], str]] = {
-    "a library that is not built": (without_library, "toy: its library base is not built: run rt ci first"),
-    "a crate that is not proved": (unproved, "toy: it is not proved without a mutant: "),
-}
-
-
-@pytest.mark.parametrize("change, begin", GROUNDS.values(), ids=list(GROUNDS))
-def test_nothing_can_be_judged(tmp_path: Path, kit: Kit, change: Callable[[Path], object], begin: str) -> None:
-    """Without its ground nothing is judged, and the record stays as it was."""
-    top = repository(tmp_path / "top", {"a": WRONG})
-    assert judge(top, "--all", commands=kit.commands).lines[-1] == "1 refused, 0 failed"
-    before = record(top)
-    change(top)
-    answer = judge(top, "--all", commands=kit.commands)
-    assert answer.told()[0].startswith(begin)
-    assert (answer.told()[1:], answer.status) == (["FAILED: toy", "0 refused, 1 failed"], 1)
-    assert record(top) == before
-
-
-def test_no_kit(tmp_path: Path) -> None:
-    """Without a kit one line says so."""
+def test_nothing_can_be_judged(tmp_path: Path, kit: Kit) -> None:
+    """Without its ground, a proved crate and built libraries, nothing is judged, and the record stays as it was."""
     top = repository(tmp_path / "top", {"a": WRONG})
     answer = judge(top, "--all", commands=tmp_path)
     assert answer.status and "there is no Rattle kit on this machine" in answer.lines[-1]
-    assert not any("Traceback" in it for it in answer.lines)
+    assert judge(top, "--all", commands=kit.commands).lines[-1] == "1 refused, 0 failed"
+    before = record(top)
+    for begin in ("toy: it is not proved without a mutant: ", "toy: its library base is not built: run rt ci first"):
+        (top / "crates/toy/src/lib.rt").write_text(SOURCE.replace("number.wrapping_add(1)", "wrong"))
+        answer = judge(top, "--all", commands=kit.commands)
+        assert answer.told()[0].startswith(begin)
+        assert (answer.told()[1:], answer.status) == (["FAILED: toy", "0 refused, 1 failed"], 1)
+        assert record(top) == before
+        shutil.rmtree(top / "crates/base/out", ignore_errors=True)
 
 
-@pytest.mark.parametrize(
-    "words", [["toy"], ["--only", "^a$"], ["--folder", "must-fail"], ["none", "toy"]], ids=" ".join
-)
+@pytest.mark.parametrize("words", [["--only", "^a$"], ["--folder", "must-fail"], ["none", "toy"]], ids=" ".join)
 def test_choice(tmp_path: Path, kit: Kit, words: list[str]) -> None:
     """Words choose crates and mutants; an unknown crate is a failure. Only judgements of wrong/ are recorded."""
     top = repository(tmp_path / "top", {"a": WRONG, "b": NEXT + "wrong"})
@@ -477,78 +398,66 @@ def test_record_of_changed_sources(tmp_path: Path, kit: Kit) -> None:
     assert (answer.lines[-1], kit.edited.read_text(), record(top)) == ("1 refused, 0 failed", "edited", {})
 
 
-def replaced(name: str, old: str, new: str) -> Callable[[Path], object]:
-    """Return what changes a file of a repository."""
-
-    def change(top: Path) -> None:
-        text = (top / name).read_text()
-        assert text.count(old) == 1
-        (top / name).write_text(text.replace(old, new))
-
-    return change
-
-
-def written(name: str, text: str = "") -> Callable[[Path], object]:
-    """Return what writes a file of a repository."""
-
-    def change(top: Path) -> None:
-        (top / name).parent.mkdir(parents=True, exist_ok=True)
-        (top / name).write_text(text)
-
-    return change
-
-
-TOY, LOW = "crates/toy/src/lib.rt", "crates/base/src/lib.rt"
-# What is changed, and the mutants whose entries no longer count.
-CHANGES: dict[str, tuple[Callable[[Path], object], str]] = {
-    "nothing": (lambda top: None, ""),
-    "a mutant's text": (written("crates/toy/wrong/a.edit", f"file: src/lib.rt\n{HALF}wrong again\n"), "a"),
-    "a remark in a mutant's file": (written("crates/toy/wrong/a.edit", f"Why.\nfile: src/lib.rt\n{WRONG}\n"), "a"),
-    "a new mutant": (written("crates/toy/wrong/c.edit", f"file: src/lib.rt\n{QUARTER}wrong\n"), "c"),
-    "a new name of a mutant": (
-        lambda top: (top / "crates/toy/wrong/a.edit").rename(top / "crates/toy/wrong/z.edit"),
-        "z",
-    ),
-    "a body": (replaced(TOY, "    half(half(number))", "    half(half(number) )"), "ab"),
-    "a clause": (replaced(TOY, "{ result ≡ number / 2 }", "{ result ≡ number/2 }"), "ab"),
-    "a comment": (replaced(TOY, "/// One more", "/// The next one"), ""),
-    "a comment of two lines": (replaced(TOY, "/// One more", "// Next\n    /// One more"), ""),
-    "a new source": (written("crates/toy/src/more.rt"), "ab"),
-    "a definition": (written("crates/toy/specs/Lib.antt", "nine : ℕ\n"), "ab"),
-    "a proof": (written("crates/toy/proofs/half/Answers.antt", "use Prim\n"), "ab"),
-    "a comment of a proof": (written("crates/toy/proofs/half/Answers.antt", "-- something\n  -- more\n"), ""),
-    "a new proof": (written("crates/toy/proofs/next/Answers.antt"), "ab"),
-    "a proof gone": (lambda top: (top / "crates/toy/proofs/half/Answers.antt").unlink(), "ab"),
-    "a proof's name": (lambda top: (top / "crates/toy/proofs/half").rename(top / "crates/toy/proofs/quarter"), "ab"),
-    "promises": (written("crates/toy/PROMISES.md", "# more\n"), ""),
-    "what is built": (written("crates/toy/out/more"), ""),
-    "the body of a crate below": (replaced(LOW, "    number\n}", "    number + 0\n}"), ""),
-    "a comment in a body of a crate below": (replaced(LOW, "    number\n}", "    // (as it is)\n    number\n}"), ""),
-    "a comment of a crate below": (replaced(LOW, "/// The number", "/// This number"), ""),
-    "a constant of a crate below": (replaced(LOW, "    8\n", "    9\n"), "ab"),
-    "a clause of a crate below": (replaced(LOW, "{ result ≡ number }", "{ number ≡ result }"), "ab"),
-    "a parameter of a crate below": (replaced(LOW, "same(number: u8)", "same(number: u16)"), "ab"),
-    "a new function of a crate below": (replaced(LOW, "/// The number", "pub fn none() {}\n\n/// The number"), "ab"),
-    "a new source of a crate below": (written("crates/base/src/more.rt"), "ab"),
-    "a definition of a crate below": (written("crates/base/specs/Lib.antt", "eight : ℕ\n"), "ab"),
-    "a proof of a crate below": (written("crates/base/proofs/same/Answers.antt", "-- something\n"), ""),
-    "a mutant of a crate below": (written("crates/base/wrong/x.edit", "file: src/lib.rt\n"), ""),
-    "a crate beside": (written("crates/other/src/lib.rt", "pub fn other() {}\n"), ""),
-    "what the crate uses": (written("crates.txt", "base:\ntoy: base other\nother:\n"), "ab"),
-    "the order of crates": (written("crates.txt", "other:\nbase:\ntoy: base\n"), ""),
-}
+TOY, LOW, A = "crates/toy/src/lib.rt", "crates/base/src/lib.rt", "crates/toy/wrong/a.edit"
+# What is changed in a file, or the text of one that is written anew, and the mutants whose entries no longer count.
+CHANGES: list[tuple[str, str, str, str]] = [
+    (TOY, "", "", ""),
+    (A, "wrong", "wrong again", "a"),
+    (A, "file:", "Why.\nfile:", "a"),
+    ("crates/toy/wrong/c.edit", "", f"file: src/lib.rt\n{QUARTER}wrong\n", "c"),
+    (TOY, "    half(half(number))", "    half(half(number) )", "ab"),
+    (TOY, "{ result ≡ number / 2 }", "{ result ≡ number/2 }", "ab"),
+    (TOY, "/// One more", "// Next\n    /// The next one", ""),
+    ("crates/toy/src/more.rt", "", "fn more() {}\n", "ab"),
+    ("crates/toy/specs/Lib.antt", "Nat", "ℕ", "ab"),
+    ("crates/toy/proofs/half/Answers.antt", "-- nothing", "use Prim", "ab"),
+    ("crates/toy/proofs/half/Answers.antt", "-- nothing", "-- something\n  -- more", ""),
+    ("crates/toy/proofs/next/Answers.antt", "", "-- new\n", "ab"),
+    ("crates/toy/PROMISES.md", "toy", "more", ""),
+    ("crates/toy/out/more", "", "more", ""),
+    (LOW, "    number\n}", "    // (as it is)\n    number + 0\n}", ""),
+    (LOW, "/// The number", "/// This number", ""),
+    (LOW, "    8\n", "    9\n", "ab"),
+    (LOW, "{ result ≡ number }", "{ number ≡ result }", "ab"),
+    (LOW, "same(number: u8)", "same(number: u16)", "ab"),
+    (LOW, "/// The number", "pub fn none() {}\n\n/// The number", "ab"),
+    ("crates/base/src/more.rt", "", "fn more() {}\n", "ab"),
+    ("crates/base/specs/Lib.antt", "Nat", "ℕ", "ab"),
+    ("crates/base/proofs/same/Answers.antt", "-- nothing", "use Prim", ""),
+    ("crates/base/wrong/x.edit", "", "file: src/lib.rt\n", ""),
+    ("crates/other/src/lib.rt", "", "pub fn other() {}\n", ""),
+    ("crates.txt", "toy: base", "toy: base other", "ab"),
+    ("crates.txt", "base:\ntoy: base\nother: base", "other:\nbase:\ntoy: base", ""),
+]
 
 
-@pytest.mark.parametrize("change, stale", CHANGES.values(), ids=list(CHANGES))
-def test_what_a_record_depends_on(tmp_path: Path, change: Callable[[Path], object], stale: str) -> None:
+def not_current(top: Path) -> str:
+    """Return the names of the mutants of `toy` whose entries do not count."""
+    crate = mutants.Crate("toy", top)
+    kept = mutants.Record(crate)
+    return "".join(it.name for it in crate.mutants("wrong", "") if not kept.has(it, crate.inputs()))
+
+
+@pytest.mark.parametrize("file, old, new, stale", CHANGES, ids=[f"{it[0]} {it[2]!r}" for it in CHANGES])
+def test_what_a_record_depends_on(tmp_path: Path, file: str, old: str, new: str, stale: str) -> None:
     """An entry counts as long as its mutant, its crate and the interfaces below are as they were."""
     top = repository(tmp_path, {"a": WRONG, "b": NEXT + "wrong"})
     keep(top, "ab")
-    change(top)
-    crate = mutants.Crate("toy", top)
-    kept = mutants.Record(crate)
-    current = {it.name: kept.has(it, crate.inputs()) for it in crate.mutants("wrong", "")}
-    assert "".join(name for name, is_current in current.items() if not is_current) == stale
+    text = (top / file).read_text() if old else ""
+    assert text.count(old) == 1
+    if old or new:
+        (top / file).parent.mkdir(parents=True, exist_ok=True)
+        (top / file).write_text(text.replace(old, new))
+    assert not_current(top) == stale
+
+
+@pytest.mark.parametrize("old, new, stale", [("wrong/a.edit", "wrong/z.edit", "z"), ("proofs/half", "proofs/b", "ab")])
+def test_names_count(tmp_path: Path, old: str, new: str, stale: str) -> None:
+    """An entry no longer counts if a mutant or a proof has another name."""
+    top = repository(tmp_path, {"a": WRONG, "b": NEXT + "wrong"})
+    keep(top, "ab")
+    (top / "crates/toy" / old).rename(top / "crates/toy" / new)
+    assert not_current(top) == stale
 
 
 def test_list(tmp_path: Path, kit: Kit) -> None:
@@ -614,25 +523,14 @@ def test_sample_size(sizes: list[int]) -> None:
 
 
 def test_sample_is_drawn_by_the_seed() -> None:
-    """The same for the same seed, whatever the order of the mutants; another one for another seed."""
-    whole = some_mutants([100, 200, 324])
-    samples = {seed: labels(mutants.drawn(whole, seed)) for seed in map(str, range(100))}
-    assert samples == {seed: labels(mutants.drawn(whole[::-1], seed)) for seed in samples}
-    assert len({tuple(it) for it in samples.values()}) == len(samples)
+    """The same for the same seed, whatever the order of the mutants, and another one for another seed.
 
-
-def test_each_mutant_is_as_likely() -> None:
-    """Of crates with more mutants than a sample has, each is drawn as often as others, in the long run."""
-    sizes, seeds = [30, 30, 60], 4_000
-    whole = some_mutants(sizes)
-    count = collections.Counter(it for seed in range(seeds) for it in labels(mutants.drawn(whole, str(seed))))
-    # (the mean is 200, and five standard deviations are 70)
-    assert len(count) == sum(sizes) and 130 < min(count.values()) <= max(count.values()) < 270
-
-
-def test_mutants_of_small_crates_are_drawn() -> None:
-    """In the long run each mutant is drawn, those of crates with fewer mutants than a sample has, too."""
-    sizes = [1, 3, 40, 156]
-    whole = some_mutants(sizes)
-    found = {it for seed in range(2_000) for it in labels(mutants.drawn(whole, str(seed)))}
-    assert found == set(labels(whole))
+    Of crates with more mutants than a sample has, each is drawn as often as others, and each of small crates at times.
+    """
+    whole = some_mutants([1, 3, 30, 30, 60])
+    samples = [labels(mutants.drawn(whole, str(seed))) for seed in range(4_000)]
+    assert samples[:100] == [labels(mutants.drawn(whole[::-1], str(seed))) for seed in range(100)]
+    assert len({tuple(it) for it in samples}) > 1_000
+    count = collections.Counter(it for sample in samples for it in sample)
+    large = [count[it] for it in labels(whole)[4:]]
+    assert len(count) == len(whole) and 0.6 * max(large) < min(large)

@@ -13,7 +13,7 @@ from reference import hdt as reference
 from support.built import SAMPLES
 from support.program import READING_FAILED, Result, Word, closed, done, failed, fault, hdt, hdt_into
 from support.search import THREE as THREE_TRIPLES
-from support.search import THREE_PATTERNS, Pattern, Triple, matches, spelled
+from support.search import THREE_PATTERNS, Pattern, Triple, matches, words_of
 
 THREE = SAMPLES / "three.hdt"
 NO_MATCH = Result(1, b"", b"")
@@ -27,20 +27,19 @@ IGNORED: list[list[Word]] = [
 
 
 def wanted(triples: list[Triple], pattern: Pattern) -> Result:
-    """The result of a search with `--quiet`."""
+    """The result that a search with `--quiet` has to have."""
     return done() if any(matches(pattern, triple) for triple in triples) else NO_MATCH
 
 
-def words_of(pattern: Pattern, raw: bool) -> list[Word]:
-    """The arguments for a pattern."""
-    terms = [b"?" if string is None else string if raw else spelled(string) for string in pattern]
-    return [*terms, "--raw"] if raw else [*terms]
+def quiet(path: Path, pattern: Pattern, raw: bool) -> Result:
+    """The result of a search with `--quiet`."""
+    return hdt("find", path, *words_of(pattern, raw), *["--raw"][: int(raw)], "--quiet")
 
 
 @pytest.mark.parametrize("raw", [False, True], ids=["terms", "raw"])
 def test_every_pattern(raw: bool) -> None:
     """Patterns of the three triples, by terms and by dictionary strings: nothing is printed."""
-    seen = [(pattern, hdt("find", "--quiet", THREE, *words_of(pattern, raw))) for pattern in THREE_PATTERNS]
+    seen = [(pattern, quiet(THREE, pattern, raw)) for pattern in THREE_PATTERNS]
     assert seen == [(pattern, wanted(THREE_TRIPLES, pattern)) for pattern in THREE_PATTERNS]
 
 
@@ -94,7 +93,7 @@ def test_any_graph(tmp_path: Path, triples: list[Triple], pattern: Pattern, raw:
     """Any small graph and any pattern."""
     path = tmp_path / "graph.hdt"
     path.write_bytes(reference.graph(triples)[0])
-    assert hdt("find", path, *words_of(pattern, raw), "--quiet") == wanted(triples, pattern)
+    assert quiet(path, pattern, raw) == wanted(triples, pattern)
 
 
 def test_large_graph(tmp_path: Path) -> None:
@@ -106,5 +105,5 @@ def test_large_graph(tmp_path: Path) -> None:
         (None, None, None), triples[0], triples[-1], (None, b"u:p", None), (None, None, b'"976"'),
         (b"u:s099999", None, b'"0"'), (b"u:s100000", None, None), (None, b"u:q", None),
     ]
-    seen = [(pattern, hdt("find", "--quiet", path, *words_of(pattern, False))) for pattern in patterns]
+    seen = [(pattern, quiet(path, pattern, False)) for pattern in patterns]
     assert seen == [(pattern, wanted(triples, pattern)) for pattern in patterns]

@@ -11,7 +11,7 @@ from hypothesis import strategies as st
 
 from reference import checks, hdt
 from reference.hdt import Reason
-from reference.strategies import DIGITS, VALUES, ascending, loose_sections
+from support.strategies import DIGITS, VALUES, ascending, loose_sections
 
 A = b"http://a/"
 

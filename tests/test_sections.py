@@ -7,11 +7,11 @@ from hypothesis import example, given
 from hypothesis import strategies as st
 
 from reference import checks, hdt
-from reference.answers import REFUSED, answered, fault
 from reference.hdt import MAX, Reason, Section, common_prefix, fold, write_packed, write_section
-from reference.strategies import AROUND, BLOCK_SIZES, STRING, ascending, changed, loose_sections, packed_sections
 from support import prefixes
+from support.answers import REFUSED, answered, fault
 from support.probe import Answer, Argument, Probe, Request, ok
+from support.strategies import AROUND, BLOCK_SIZES, STRING, ascending, changed, loose_sections, packed_sections
 
 BEFORE = b"\xff\x02\x80"
 

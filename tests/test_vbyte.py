@@ -7,10 +7,10 @@ from hypothesis import example, given
 from hypothesis import strategies as st
 
 from reference import hdt
-from reference.answers import fault
 from reference.hdt import Reason
-from reference.strategies import AROUND, DIGITS, VALUES
+from support.answers import fault
 from support.probe import Probe, ok
+from support.strategies import AROUND, DIGITS, VALUES
 
 LARGE = b"x" * (1 << 20)
 

@@ -9,7 +9,6 @@ proved, also if it is interrupted. All linking is done by the kit's own tools, s
 
 from __future__ import annotations
 
-import argparse
 import os
 import re
 import shutil
@@ -20,7 +19,7 @@ import time
 from pathlib import Path
 
 from tools import manifest
-from tools.repository import TOP, Crate, NoKit, crates, kit, kit_line
+from tools.repository import TOP, Crate, NoKit, command_line, crates, kit, kit_line
 
 # The crate whose program is the command `hdt`, and the crate of the C library.
 COMMAND = "hdt"
@@ -120,23 +119,9 @@ def archive(folder: Path) -> Path:
     made = folder / f"lib{LIBRARY}.a"
     # (a library with a stamp is one that the session's own `rt check` or `rt lib` has built, maybe of older sources)
     is_own = any((crate.library(it).parent / "stamp").exists() for it in crate.below())
-    words = (
-        ["rt", "lib"]
-        if is_own
-        else [
-            *crate.rattle("build"),
-            "--crate-type",
-            "staticlib",
-            "--toolchain",
-            f"{kit()}/toolchain",
-            "--backend",
-            "llvm",
-            "--jobs",
-            str(lanes()),
-            "-o",
-            str(made),
-        ]
-    )
+    options = ["--crate-type", "staticlib", "--toolchain", f"{kit()}/toolchain", "--backend", "llvm"]
+    build = [*crate.rattle("build"), *options, "--jobs", str(lanes()), "-o", str(made)]
+    words = ["rt", "lib"] if is_own else build
     log = TOP / "out/library.log"
     with open(log, "w") as kept:
         if subprocess.run(words, cwd=crate.folder, stdout=kept, stderr=subprocess.STDOUT).returncode:
@@ -152,43 +137,15 @@ def libraries(to: Path) -> None:
         folder = Path(name)
         whole = folder / "hdt.o"
         # (of the kit's archive comes what asks the C library for memory: malloc, realloc and free)
-        toolchain(
-            "ld.lld",
-            "-r",
-            "-o",
-            whole,
-            "--whole-archive",
-            archive(folder),
-            "--no-whole-archive",
-            kit() / "c/liblibc_c.a",
-        )
+        all_of = ("--whole-archive", archive(folder), "--no-whole-archive")
+        toolchain("ld.lld", "-r", "-o", whole, *all_of, kit() / "c/liblibc_c.a")
         toolchain("llvm-objcopy", "--wildcard", "--strip-debug", *[f"--keep-global-symbol={it}" for it in names], whole)
         toolchain("llvm-ar", "rcD", to / "libhdt.a", whole)
         from_kit = kit() / "toolchain/lib"
-        toolchain(
-            "ld.lld",
-            "-shared",
-            "-o",
-            to / "libhdt.so",
-            "-soname",
-            SONAME,
-            "--version-script",
-            exported,
-            "-z",
-            "text",
-            "-z",
-            "defs",
-            "-z",
-            "noexecstack",
-            "-z",
-            "relro",
-            "--eh-frame-hdr",
-            "--hash-style=gnu",
-            "--build-id=sha1",
-            whole,
-            from_kit / "libgcc.a",
-            from_kit / "libc.so.6",
-        )
+        given: list[str | Path] = ["-soname", SONAME, "--version-script", exported]
+        options = "-z text -z defs -z noexecstack -z relro --eh-frame-hdr --hash-style=gnu --build-id=sha1".split()
+        inputs = [whole, from_kit / "libgcc.a", from_kit / "libc.so.6"]
+        toolchain("ld.lld", "-shared", "-o", to / "libhdt.so", *given, *options, *inputs)
         toolchain("llvm-strip", "--strip-unneeded", to / "libhdt.so")
         (to / "libhdt.so").chmod(0o644)
 
@@ -216,9 +173,7 @@ def link() -> None:
 
 def main() -> int:
     """Run the command line."""
-    words = argparse.ArgumentParser(
-        prog="python3 -m tools.build", description=__doc__, formatter_class=argparse.RawDescriptionHelpFormatter
-    )
+    words = command_line("build", __doc__)
     words.add_argument("--link", action="store_true", help="only link what is proved")
     given = words.parse_args()
     try:

@@ -10,16 +10,13 @@ of the folder HDT_BUILT, else the one that belongs to the sources (tools/current
 
 from __future__ import annotations
 
-import argparse
-import os
 import re
 import subprocess
 import sys
 from collections.abc import Callable
-from pathlib import Path
 from typing import NamedTuple
 
-from tools.repository import TOP
+from tools.repository import TOP, built, command_line
 
 # The arguments that are paths.
 PATHS = {"FILE", "IN", "OUT", "PATHS"}
@@ -62,16 +59,9 @@ class Command(NamedTuple):
 # ---- the program's help
 
 
-def program() -> Path:
-    """Return the path of the program."""
-    named = os.environ.get("HDT_BUILT")
-    found = named or subprocess.run([TOP / "tools/current"], check=True, stdout=subprocess.PIPE, text=True).stdout
-    return TOP / found.strip() / "hdt"
-
-
 def printed(*words: str) -> str:
     """Return what the program prints with these words."""
-    return subprocess.run([program(), *words], check=True, stdout=subprocess.PIPE, text=True).stdout
+    return subprocess.run([built() / "hdt", *words], check=True, stdout=subprocess.PIPE, text=True).stdout
 
 
 def rows(text: str, title: str) -> list[tuple[str, str]]:
@@ -334,9 +324,7 @@ def filled(template: str, shell: str, values: dict[str, str]) -> str:
 
 def main() -> int:
     """Run the command line."""
-    parser = argparse.ArgumentParser(
-        prog="python3 -m tools.completions", description=__doc__, formatter_class=argparse.RawDescriptionHelpFormatter
-    )
+    parser = command_line("completions", __doc__)
     parser.add_argument("--check", action="store_true", help="check the files and write nothing")
     check = parser.parse_args().check
     texts = {name: make(commands()) for name, make in FILES.items()}

@@ -10,16 +10,16 @@ The last line is 'N functions, M differences', and the status is 1 if there are 
 
 from __future__ import annotations
 
-import argparse
 import re
 import subprocess
 import sys
-from collections.abc import Iterator
+import tempfile
+from collections.abc import Iterable, Iterator
 from pathlib import Path
 
 from tools import rattle_text
 from tools.promises import DEFINITION, exported
-from tools.repository import TOP
+from tools.repository import TOP, command_line
 
 # The first words of a clause.
 CLAUSE = re.compile(r"\b(requires|ensures)(?:\s*\*)?\s+(?:(\w+)\s+)?(?=\{)")
@@ -29,26 +29,9 @@ Texts = dict[str, str]
 Parts = dict[str, str]
 
 
-def git(words: list[str], given: str = "") -> bytes:
-    """Return what a command of git prints. Raises subprocess.CalledProcessError."""
-    return subprocess.run(
-        ["git", "-C", str(TOP), *words], input=given.encode(), check=True, stdout=subprocess.PIPE
-    ).stdout
-
-
-def texts_of(revision: str | None, kind: str) -> Texts:
-    """Return the files of all crates with this ending, by path: of a commit, or of the tree if there is none."""
-    if revision is None:
-        return {str(it.relative_to(TOP)): it.read_text() for it in sorted((TOP / "crates").glob(f"*/*/**/*.{kind}"))}
-    names = git(["ls-tree", "-r", "--name-only", revision, "crates"]).decode().split()
-    found = [it for it in names if it.endswith(f".{kind}") and len(it.split("/")) > 3]
-    shown = git(["cat-file", "--batch"], "".join(f"{revision}:{it}\n" for it in found))
-    texts: Texts = {}
-    for name in found:
-        head, _, shown = shown.partition(b"\n")
-        size = int(head.split()[-1])
-        texts[name], shown = shown[:size].decode(), shown[size + 1 :]
-    return texts
+def texts_of(top: Path, kind: str) -> Texts:
+    """Return the files of all crates of a tree with this ending, by path."""
+    return {str(it.relative_to(top)): it.read_text() for it in sorted(top.glob(f"crates/*/*/**/*.{kind}"))}
 
 
 def plain(text: str) -> str:
@@ -56,9 +39,13 @@ def plain(text: str) -> str:
     return " ".join(re.sub(r"^\s*(?://|--).*$", "", text, flags=re.M).split())
 
 
-def renamed(text: str, names: dict[str, str]) -> str:
-    """Return a text with each identifier that has a new name under that."""
-    return WORD.sub(lambda it: names.get(it[0], it[0]), text)
+def under(names: dict[str, str], found: Iterable[tuple[str, Parts]]) -> dict[str, Parts]:
+    """Return contracts or definitions with each identifier that has a new name under that."""
+
+    def renamed(text: str) -> str:
+        return WORD.sub(lambda it: names.get(it[0], it[0]), text)
+
+    return {renamed(name): {renamed(part): renamed(text) for part, text in parts.items()} for name, parts in found}
 
 
 def parts_of(head: str) -> Parts:
@@ -116,34 +103,26 @@ def differences(old: dict[str, Parts], new: dict[str, Parts]) -> Iterator[str]:
                 yield f"{name}: {part}\n    old: {before}\n    new: {after}"
 
 
-def versions(revision: str, names: dict[str, str], kind: str) -> tuple[dict[str, Parts], dict[str, Parts]]:
-    """Return the old and the new version of the contracts, or of the definitions if `kind` is `antt`."""
-    read = definitions if kind == "antt" else contracts
-    old = {
-        renamed(name, names): {renamed(part, names): renamed(text, names) for part, text in parts.items()}
-        for name, parts in read(texts_of(revision, kind))
-    }
-    return old, dict(read(texts_of(None, kind)))
-
-
 def main() -> int:
     """Compare; return the exit status."""
-    words = argparse.ArgumentParser(
-        prog="python3 -m tools.contracts", description=__doc__, formatter_class=argparse.RawDescriptionHelpFormatter
-    )
+    words = command_line("contracts", __doc__)
     words.add_argument("revision", metavar="REVISION", help="the earlier commit")
     words.add_argument("--names", type=Path, metavar="FILE", help="what was renamed since then")
     words.add_argument("--definitions", action="store_true", help="compare the definitions in specs/ too")
     given = words.parse_args()
     names = dict(line.split() for line in given.names.read_text().splitlines() if line) if given.names else {}
     found: list[str] = []
-    count = 0
-    for kind in ["rt", "antt"][: 1 + given.definitions]:
-        old, new = versions(given.revision, names, kind)
-        count += len(new) if kind == "rt" else 0
-        found += differences(old, new)
+    with tempfile.TemporaryDirectory() as folder:
+        archive = ["git", "-C", str(TOP), "archive", given.revision, "crates"]
+        data = subprocess.run(archive, check=True, stdout=subprocess.PIPE).stdout
+        subprocess.run(["tar", "-x", "-C", folder], input=data, check=True)
+        new = dict(contracts(texts_of(TOP, "rt")))
+        found += differences(under(names, contracts(texts_of(Path(folder), "rt"))), new)
+        if given.definitions:
+            old = under(names, definitions(texts_of(Path(folder), "antt")))
+            found += differences(old, dict(definitions(texts_of(TOP, "antt"))))
     print("\n".join(found))
-    print(f"{count} functions, {len(found)} differences")
+    print(f"{len(new)} functions, {len(found)} differences")
     return int(bool(found))
 
 

@@ -3,10 +3,12 @@
     python3 -m tools.definitions             print a table, crate by crate
     python3 -m tools.definitions --list      name each definition that is reached
     python3 -m tools.definitions --others    name each definition that is not
-    python3 -m tools.definitions --of NAME   count those of one function, as hdt_file::open or hdt_file::Graph::find
+    python3 -m tools.definitions --of NAME   count those of one function, as hdt_file::open or hdt_file::Graph::find;
+                                             with --list name them, with --others those that it doesn't reach
 
 A contract reaches the definitions that its clauses name, and all that those name, in any crate; so does the view of a
-type. A program exports the public functions of all its modules.
+type. A name is that of its file, or of what its file imports: a field or a variable of that name is no definition. A
+program exports the public functions of all its modules.
 
 The table has, for each crate: the definitions that are reached, their lines and how many of these are comments; the
 definitions that only contracts inside the crate reach, in specs/Inside and beside the others, and their lines; the
@@ -15,7 +17,6 @@ laws, in specs/Laws, and their lines. It is no part of the gate.
 
 from __future__ import annotations
 
-import argparse
 import re
 import sys
 from collections.abc import Iterator
@@ -23,20 +24,38 @@ from pathlib import Path
 from typing import NamedTuple, Optional
 
 from tools import repository
-from tools.repository import TOP
+from tools.repository import TOP, command_line
 
 # A definition: its crate, its module in specs/, and its name.
 Name = tuple[str, str, str]
 
-WORD = re.compile(r"[A-Za-z_][\w'-]*")
+# A word that is no projection, or the name of an operator.
+WORD = re.compile(r"(?<![\w.'])[A-Za-z_][\w'-]*|◌[^\s,}]+◌")
 IMPORT = re.compile(r"^\s*(?:ghost |pub )*use Rattle\.(\w+)\.specs\.([\w.]+?)\.\{([^}]*)\}", re.M)
 BEGIN = re.compile(
-    r"^(?:(?:abbrev|unfoldable|pub|mutual|ruleset|record|data) +)*([A-Za-z_][\w'-]*)(?= *[:({]| +\w+ *[:({])"
+    r"^(?:(?:abbrev|unfoldable|pub|mutual|ruleset|record|data) +)*"
+    r"([A-Za-z_][\w'-]*|◌[^\s,}]+◌)(?= *[:({]| +\w+ *[:({])"
 )
+# The names of variables: of a lambda, a binder with a type, `let`, a step of `do`, and a record's field.
+VARIABLES = re.compile(
+    r"λ ([^.]*)\.|[({]([\w' -]+) : |\blet ([^=]*)=|^ *(?:do )?([^←=]*)←|^  (?:pub )?([\w'-]+) :", re.M
+)
+# A field that a record is made with.
+FIELD = re.compile(r"[\w'-]+(?= =(?: |$))", re.M)
 IMPL = re.compile(r"impl(?:<[^>]*>)?\s+([\w:<>', ]+ for )?(\w+)")
-TYPE = re.compile(r"(pub )?(?:struct|enum) (\w+)")
-FUNCTION = re.compile(r'(\s*)(pub )?(?:\(crate\) )?(?:const )?(extern "C" )?fn (\w+)')
-CLAUSE = re.compile(r"^\s*(?:requires|ensures|ghost \w+ =)|^\s*[×∧→(]")
+FUNCTION = re.compile(r'( *)(pub )?(?:pub\(crate\) )?(?:const )?(extern "C" )?fn (\w+)')
+CLAUSE = re.compile(r"\s*(?:requires|ensures)\b")
+# Where an `impl`, a type or a function begins.
+ITEM = re.compile(r'^(?=impl\b|(?:pub )?(?:struct|enum) | *(?:pub\S* )?(?:const )?(?:extern "C" )?fn )', re.M)
+
+
+def named(text: str, variables: str = "") -> Iterator[str]:
+    """Give the words of a text that can be names of definitions; `variables` are no such names."""
+    bound = {word for found in VARIABLES.findall(text) for it in found for word in WORD.findall(it)}
+    bound.update(WORD.findall(variables))
+    yield from (it for it in WORD.findall(FIELD.sub("", text)) if it not in bound)
+    if re.search(r"\bdo\b|>>=", text):
+        yield "◌>>=◌"
 
 
 class Definition(NamedTuple):
@@ -52,11 +71,15 @@ class Definition(NamedTuple):
 
     def reaches(self, crate: str, module: str) -> Iterator[Name]:
         """Give the definitions that it names, as one of a module of a crate."""
-        for word in WORD.findall(re.sub(r"--.*", "", "\n".join(self.lines))):
-            if word in self.beside:
-                yield crate, module, word
-            elif word in self.imports:
-                yield self.imports[word]
+        text = re.sub(r"--.*", "", "\n".join(self.lines))
+        for part in re.split(r"\n(?=\S)", text):
+            # (what is before the sign of an equation are variables)
+            sign = None if BEGIN.match(part) else re.search(r" =\s", part)
+            for word in named(part[sign.end() :], part[: sign.start()]) if sign else named(part):
+                if word in self.beside:
+                    yield crate, module, word
+                elif word in self.imports:
+                    yield self.imports[word]
 
 
 def imports(text: str) -> dict[str, Name]:
@@ -115,9 +138,12 @@ def exported(crate: Path) -> Optional[set[str]]:
     return set(WORD.findall(" ".join(re.findall(r"^pub use [\w:]*?(\{[^}]*\}|\w+);", text, re.M | re.S))))
 
 
-def is_exported(name: str, names: Optional[set[str]]) -> bool:
-    """Return whether a name is one of those that `exported` returns."""
-    return names is None or name in names
+def head_and_clauses(function: str) -> tuple[str, str]:
+    """Return the text of a function before its clauses, and the clauses; its body begins with a line `{` then."""
+    lines = function.split("\n")
+    first = next((i for i, line in enumerate(lines) if CLAUSE.match(line) or line.endswith("{")), len(lines))
+    end = next((i for i, line in enumerate(lines) if line.strip() in ("{", "{}")), first)
+    return "\n".join(lines[:first]), "\n".join(lines[first:end])
 
 
 def contracts(crate: Path, only: str = "") -> Iterator[Name]:
@@ -126,26 +152,23 @@ def contracts(crate: Path, only: str = "") -> Iterator[Name]:
     for file in (crate / "src").rglob("*.rt"):
         if file.stem.endswith("tests"):
             continue
-        text = file.read_text()
-        imported, is_public, is_inside, owner = imports(text), False, False, ""
-        for line in text.split("\n"):
-            block, kind, function = IMPL.match(line), TYPE.match(line), FUNCTION.match(line)
-            if block:
+        text, owner = re.sub(r"//.*", "", file.read_text()), ""
+        imported = imports(text)
+        for part in ITEM.split(text):
+            is_shown, head, clauses = False, "", part
+            if block := IMPL.match(part):
                 owner = block[2]
-                is_public = not only and block[1] == "Model for " and is_exported(owner, names)
-            elif kind:
-                is_public = not only and bool(kind[1]) and is_exported(kind[2], names)
-            elif function:
+                is_shown = not only and block[1] == "Model for " and (names is None or owner in names)
+            elif function := FUNCTION.match(part):
                 indent, public, foreign, name = function.groups()
-                is_public = bool(foreign) or bool(public) and is_exported(owner if indent else name, names)
-                is_public = is_public or names is None and file.stem == "main"
+                is_exported = bool(public) and (names is None or (owner if indent else name) in names)
+                is_shown = bool(foreign) or is_exported or names is None and file.stem == "main"
                 if only:
-                    is_public = only == (f"{owner}::{name}" if indent else name)
-            if line.strip() == "{":
-                is_inside = False
-            if is_public and (CLAUSE.match(line) or is_inside):
-                is_inside = True
-                yield from (imported[word] for word in WORD.findall(line) if word in imported)
+                    is_shown = only == (f"{owner}::{name}" if indent else name)
+                head, clauses = head_and_clauses(part)
+            if is_shown:
+                parameters = " ".join(re.findall(r"\b(\w+): ", head))
+                yield from (imported[word] for word in named(clauses, parameters) if word in imported)
 
 
 def reached(found: dict[Name, Definition], top: Path, only: str = "") -> set[Name]:
@@ -183,9 +206,7 @@ def print_table(found: dict[Name, Definition], seen: set[Name], top: Path) -> No
 
 def main() -> int:
     """Run the command line."""
-    words = argparse.ArgumentParser(
-        prog="python3 -m tools.definitions", description=__doc__, formatter_class=argparse.RawDescriptionHelpFormatter
-    )
+    words = command_line("definitions", __doc__)
     words.add_argument("--list", action="store_true", help="name the definitions that are reached, with their lines")
     words.add_argument("--others", action="store_true", help="name those that are not, with their lines")
     words.add_argument("--of", default="", metavar="NAME", help="count those that the contract of a function reaches")
@@ -193,13 +214,13 @@ def main() -> int:
     given = words.parse_args()
     found = definitions(given.top)
     seen = reached(found, given.top, given.of)
-    if given.of:
-        lines, comments = sum(len(found[at].lines) for at in seen), sum(found[at].comments() for at in seen)
-        print(f"{len(seen)} definitions, {lines} lines, {comments} of them comments")
-    elif given.list or given.others:
+    if given.list or given.others:
         for at in sorted(found):
             if given.list and at in seen or given.others and at not in seen:
                 print(".".join(at), len(found[at].lines))
+    elif given.of:
+        lines, comments = sum(len(found[at].lines) for at in seen), sum(found[at].comments() for at in seen)
+        print(f"{len(seen)} definitions, {lines} lines, {comments} of them comments")
     else:
         print_table(found, seen, given.top)
     return 0

@@ -8,7 +8,6 @@ command and exit status, and with status 1 if there was a difference.
 
 from __future__ import annotations
 
-import argparse
 import os
 import random
 import re
@@ -21,13 +20,9 @@ from functools import partial
 from pathlib import Path
 from typing import NamedTuple
 
-from tools.repository import TOP
-
-sys.path.insert(0, str(TOP / "tests"))
-
-from reference import checks  # noqa: E402
-from reference import hdt as reference  # noqa: E402
-from reference import ntriples  # noqa: E402
+from reference import checks, ntriples
+from reference import hdt as reference
+from tools.repository import command_line
 
 SECONDS = 60
 ROLES = ["subject", "predicate", "object"]
@@ -310,9 +305,7 @@ def shown(it: Outcome) -> str:
 
 def main() -> int:
     """Compare the two programs; return the exit status."""
-    parser = argparse.ArgumentParser(
-        prog="python3 -m tools.differential", description=__doc__, formatter_class=argparse.RawDescriptionHelpFormatter
-    )
+    parser = command_line("differential", __doc__)
     parser.add_argument("old", type=Path, metavar="OLD", help="the program whose answers are right")
     parser.add_argument("new", type=Path, metavar="NEW", help="the program that is compared with it")
     parser.add_argument("--requests", type=int, default=2000, metavar="N", help="how many requests (2000)")

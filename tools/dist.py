@@ -7,19 +7,16 @@ It copies out/x86_64-linux-gnu and its manifest, if they belong to the tree's so
 
 from __future__ import annotations
 
-import argparse
 import shutil
 import sys
 
 from tools import manifest
-from tools.repository import TOP
+from tools.repository import TOP, command_line
 
 
 def main() -> int:
     """Run the command line."""
-    argparse.ArgumentParser(
-        prog="python3 -m tools.dist", description=__doc__, formatter_class=argparse.RawDescriptionHelpFormatter
-    ).parse_args()
+    command_line("dist", __doc__).parse_args()
     try:
         made = manifest.read(manifest.BUILT)
     except (OSError, ValueError) as why:

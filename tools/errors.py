@@ -15,7 +15,6 @@ if one failed.
 
 from __future__ import annotations
 
-import argparse
 import os
 import re
 import subprocess
@@ -24,15 +23,11 @@ import tempfile
 import textwrap
 from collections.abc import Iterator
 from contextlib import contextmanager
-from functools import lru_cache
 from pathlib import Path
 from typing import NamedTuple, Optional
 
-from tools.repository import TOP
-
-sys.path.insert(0, str(TOP / "tests"))
-
-from reference import hdt as model  # noqa: E402
+from reference import hdt as model
+from tools.repository import TOP, built, command_line
 
 PAGE = TOP / "docs/ERRORS.md"
 SOURCES = TOP / "crates/hdt_usage/src"
@@ -40,11 +35,7 @@ THREE = (TOP / "samples/three.hdt").read_bytes()
 # A text of the page, as `hdt explain` prints it, has at most so many lines of so many columns.
 LINES, COLUMNS = 4, 78
 # The sections of the page that have errors, and the kind of each.
-SECTIONS = {
-    "Errors of an HDT file": "file",
-    "Errors of an N-Triples text": "text",
-    "Other messages": "message",
-}
+SECTIONS = {"Errors of an HDT file": "file", "Errors of an N-Triples text": "text", "Other messages": "message"}
 ENTRY = re.compile(
     r"### (?P<title>.*)\n\n(?P<meaning>(?:.+\n)+)\n"
     r"(?:- Cause: (?P<cause>(?:.+\n)+?))?(?:- Remedy: (?P<remedy>(?:.+\n)+?))?- Example:(?P<example>.*\n(?:.+\n)*)"
@@ -283,14 +274,8 @@ FILES = {
     "SectionKind": ("the type 3 of the shared section", changed("shared", 0, 3)),
     "BlockSize": ("the block size 0 of the shared section", section(2, b"u:a\0\x82b\0", [0, 7], 0)),
     "BlockCount": ("one block offset of the shared section, 0", section(2, b"u:a\0\x82b\0", [0])),
-    "BlockPlace": (
-        "the block offsets 0 and 8 of the shared section, not 0 and 7",
-        section(2, b"u:a\0\x82b\0", [0, 8]),
-    ),
-    "PrefixTooLong": (
-        "a second shared string that shares 4 bytes with `u:a`",
-        section(2, b"u:a\0\x84b\0", [0, 7]),
-    ),
+    "BlockPlace": ("the block offsets 0 and 8 of the shared section, not 0 and 7", section(2, b"u:a\0\x82b\0", [0, 8])),
+    "PrefixTooLong": ("a second shared string that shares 4 bytes with `u:a`", section(2, b"u:a\0\x84b\0", [0, 7])),
     "PackedLength": ("an extra zero byte after the shared strings", section(2, b"u:a\0\x82b\0\0", [0, 8])),
     "NotUtf8": ("the byte `E9` at the end of the second shared string", section(2, b"u:a\0\x82\xe9\0", [0, 7])),
     "StringsNotAscending": ("the shared strings `u:a` and `u:B`", section(2, b"u:a\0\x82B\0", [0, 7])),
@@ -299,10 +284,7 @@ FILES = {
         having(objects=model.write_section([b'"x"', b"u:a"])),
     ),
     "NoTriples": ("an empty bitmap Y", having(bits_y=model.write_bits([]))),
-    "LengthsDiffer": (
-        "the predicates 1, 2 in sequence Y, not 1, 2, 1",
-        having(numbers_y=model.write_numbers([1, 2])),
-    ),
+    "LengthsDiffer": ("the predicates 1, 2 in sequence Y, not 1, 2, 1", having(numbers_y=model.write_numbers([1, 2]))),
     "LastMark": ("the bits 0, 1, 0 in bitmap Y, not 0, 1, 1", having(bits_y=model.write_bits([0, 1, 0]))),
     "MarkCount": ("the bits 0, 1, 1 in bitmap Z, not 1, 1, 1", having(bits_z=model.write_bits([0, 1, 1]))),
     "SubjectRange": ("the bits 1, 1, 1 in bitmap Y: three subjects", having(bits_y=model.write_bits([1, 1, 1]))),
@@ -379,14 +361,6 @@ def example(entry: Entry) -> Example:
 # ---- the page
 
 
-@lru_cache(maxsize=None)
-def built() -> Path:
-    """Return the folder of the program."""
-    named = os.environ.get("HDT_BUILT")
-    found = named or subprocess.run([TOP / "tools/current"], check=True, stdout=subprocess.PIPE, text=True).stdout
-    return TOP / found.strip()
-
-
 def search_path() -> str:
     """Return a PATH on which `hdt` is the program."""
     return f"{built()}:{os.environ['PATH']}"
@@ -455,9 +429,7 @@ def with_examples(page: str, examples: list[str]) -> str:
 
 def main() -> int:
     """Run the command line."""
-    parser = argparse.ArgumentParser(
-        prog="python3 -m tools.errors", description=__doc__, formatter_class=argparse.RawDescriptionHelpFormatter
-    )
+    parser = command_line("errors", __doc__)
     parser.add_argument("--check", action="store_true", help="check the page and write nothing")
     parser.add_argument("--file", metavar="NAME", choices=FILES, help="print the file of an example")
     parser.add_argument("--rattle", action="store_true", help="write the texts of `hdt explain`, and no examples")

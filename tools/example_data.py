@@ -8,7 +8,6 @@ unpacked in a temporary folder, not installed. It needs `serdi` (Debian's packag
 
 from __future__ import annotations
 
-import argparse
 import shutil
 import subprocess
 import sys
@@ -16,7 +15,7 @@ import tempfile
 from collections.abc import Iterator, Sequence
 from pathlib import Path
 
-from tools.repository import TOP
+from tools.repository import TOP, command_line
 
 PACKAGES = ("lv2-dev", "calf-plugins", "swh-lv2", "lsp-plugins-lv2", "tracker")
 BASE = "http://example.org/lv2"
@@ -54,9 +53,7 @@ def make(folder: Path, packages: Sequence[str] = PACKAGES) -> tuple[Path, Path]:
 
 def main(words: Sequence[str] | None = None) -> int:
     """Run the command line, and return the exit status."""
-    parser = argparse.ArgumentParser(
-        prog="python3 -m tools.example_data", description=__doc__, formatter_class=argparse.RawDescriptionHelpFormatter
-    )
+    parser = command_line("example_data", __doc__)
     parser.add_argument("folder", metavar="FOLDER", type=Path, nargs="?", default=TOP / "out/data")
     folder = parser.parse_args(words).folder
     missing = [name for name in ("apt-get", "dpkg-deb", "serdi") if shutil.which(name) is None]

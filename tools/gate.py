@@ -14,7 +14,6 @@ line 'N passed, M failed'. The parts:
 
 from __future__ import annotations
 
-import argparse
 import os
 import re
 import resource
@@ -24,7 +23,7 @@ import time
 from collections.abc import Callable, Mapping
 
 from tools import build, manifest
-from tools.repository import TOP, NoKit, kit, kit_line
+from tools.repository import TOP, NoKit, command_line, kit, kit_line
 
 Counts = tuple[int, int]
 
@@ -132,9 +131,7 @@ PARTS: dict[str, Callable[[], Counts]] = {
 
 def main() -> int:
     """Run the command line."""
-    words = argparse.ArgumentParser(
-        prog="python3 -m tools.gate", description=__doc__, formatter_class=argparse.RawDescriptionHelpFormatter
-    )
+    words = command_line("gate", __doc__)
     words.add_argument("parts", nargs="*", metavar="PART", help=f"only these parts, of {', '.join(PARTS)} (all)")
     given = words.parse_args()
     if unknown := [it for it in given.parts if it not in PARTS]:

@@ -13,7 +13,6 @@ to run, also on a busy machine. It is no part of the gate.
 
 from __future__ import annotations
 
-import argparse
 import datetime
 import math
 import os
@@ -27,7 +26,7 @@ from pathlib import Path
 from typing import NamedTuple
 
 from tools import speed
-from tools.repository import TOP
+from tools.repository import TOP, built
 
 NAMING = ("2000/01/rdf-schema#label", *(f"2004/02/skos/core#{it}Label" for it in ("pref", "alt", "hidden")))
 LANGUAGES = "ar de en es fr it ja nl pl pt ru sv".split()
@@ -112,7 +111,7 @@ def peak(*words: speed.Word) -> int:
 def measure(program: Path, folder: Path, kind: Kind, count: int) -> list[float]:
     """Return the cells of a document with so many triples; one that is hidden is infinite. Raises speed.Failed."""
     document, file, again = (folder / it for it in ("document.nt", "file.hdt", "again.hdt"))
-    speed.write_document(document, kind.lines, count)
+    speed.write_lines(document, kind.lines, count)
     own, hidden = floor(program), peak(program, "verify", TOP / "samples/three.hdt") * 1.05
 
     def cell(*words: speed.Word) -> float:
@@ -144,21 +143,15 @@ def print_table(program: Path, folder: Path, scale: float) -> None:
 
 def main() -> int:
     """Run the command line."""
-    words = argparse.ArgumentParser(
-        prog="python3 -m tools.memory", description=__doc__, formatter_class=argparse.RawDescriptionHelpFormatter
-    )
+    words = speed.arguments("memory", __doc__)
     words.add_argument("--scale", type=float, default=1.0, metavar="F", help="multiply the sizes of documents (1)")
-    words.add_argument("--program", type=Path, metavar="PATH", help="the program to measure (that of this tree)")
     given = words.parse_args()
     if not 0 < given.scale <= 100:
         words.error("--scale is above 0, and at most 100")
-    memory = "/dev/shm" if os.access("/dev/shm", os.W_OK) else None
     try:
-        program = given.program.resolve() if given.program else speed.current()
-        if not os.access(program, os.X_OK):
-            raise speed.Failed(f"{program} is no program")
+        program = given.program.resolve() if given.program else built() / "hdt"
         print(f"{datetime.date.today()}; bytes a triple, of dump MB\n", flush=True)
-        with tempfile.TemporaryDirectory(prefix="hdt-memory-", dir=memory) as folder:
+        with tempfile.TemporaryDirectory(prefix="hdt-memory-", dir=speed.MEMORY) as folder:
             print_table(program, Path(folder), given.scale)
     except (OSError, speed.Failed) as why:
         print(f"memory: {why}", file=sys.stderr)

@@ -51,7 +51,7 @@ from functools import lru_cache
 from pathlib import Path
 
 from tools import rattle_text, repository
-from tools.repository import TOP, NoKit, kit_line
+from tools.repository import TOP, NoKit, command_line, kit_line
 
 # The memory that one check may take, in bytes.
 CHECK_BYTES = 2_500_000_000
@@ -559,9 +559,7 @@ def most_jobs() -> int:
 
 def words_given() -> argparse.Namespace:
     """Read the command line."""
-    words = argparse.ArgumentParser(
-        prog="python3 -m tools.mutants", description=__doc__, formatter_class=argparse.RawDescriptionHelpFormatter
-    )
+    words = command_line("mutants", __doc__)
     words.add_argument("crates", nargs="*", metavar="CRATE", help="crates of crates.txt (all)")
     words.add_argument("--all", action="store_true", help="judge every mutant, also those judged for the same inputs")
     words.add_argument(

@@ -11,30 +11,26 @@ The least of three runs counts. Run it on a quiet machine. It needs matplotlib (
 
 from __future__ import annotations
 
-import argparse
-import datetime
 import json
-import os
-import shutil
 import sys
 import tempfile
 from pathlib import Path
 from typing import NamedTuple
 
 from tools import speed
-from tools.repository import TOP
+from tools.repository import TOP, built
 
 FOLDER = TOP / "docs/plots"
 SIZES = [100_000, 300_000, 1_000_000, 3_000_000]
 # The requests of `answer` that are timed, on a document of this many lines: their number, and the form of each.
 REQUEST_LINES = 300_000
 REQUESTS = {
-    "S ? ?": (20_000, "{0} ? ?"),
-    "S P ?": (20_000, "{0} {1} ?"),
-    "S ? O": (20_000, "{0} ? {2}"),
-    "? P O": (5_000, "? {1} {2}"),
-    "? ? O": (5_000, "? ? {2}"),
-    "S P O": (20_000, "{0} {1} {2}"),
+    "S ? ?": (20_000, "{s} ? ?"),
+    "S P ?": (20_000, "{s} {p} ?"),
+    "S ? O": (20_000, "{s} ? {o}"),
+    "? P O": (5_000, "? {p} {o}"),
+    "? ? O": (5_000, "? ? {o}"),
+    "S P O": (20_000, "{s} {p} {o}"),
 }
 
 
@@ -46,23 +42,14 @@ class Measured(NamedTuple):
     requests: dict[str, float]
 
 
-def commands(program: Path, source: Path, file: Path) -> dict[str, list[speed.Word]]:
-    """Return the installed commands that read a document, or the file that is built of it."""
-    found: dict[str, list[speed.Word]] = {
-        "hdt build": [program, "build", source, file],
-        "hdt verify": [program, "verify", file],
-        "hdt dump": [program, "dump", file],
-        "sort -u": ["sort", "--parallel=1", "-u", source],
-        "serdi": ["serdi", "-i", "ntriples", source],
-        "rapper -c": ["rapper", "-q", "-c", "-i", "ntriples", source],
-    }
-    return {name: words for name, words in found.items() if name.startswith("hdt") or shutil.which(str(words[0]))}
+# The commands that are timed: those that read a document, or the file that is built of it.
+COMMANDS = ("hdt build", "hdt verify", "hdt dump", "sort -u", "serdi", "rapper -c")
 
 
 def measure_requests(program: Path, folder: Path) -> dict[str, float]:
     """Return the CPU microseconds of a request by kind, without those of opening the file. Raises speed.Failed."""
     source, file, requests, out = (folder / it for it in ("document.nt", "file.hdt", "requests", "out"))
-    speed.write_document(source, speed.as_exported, REQUEST_LINES)
+    speed.write_lines(source, speed.as_exported, REQUEST_LINES)
     speed.run_once([program, "build", source, file], out)
     opening = speed.least([program, "answer", file], out).cpu
     found = {}
@@ -74,20 +61,20 @@ def measure_requests(program: Path, folder: Path) -> dict[str, float]:
 
 def measure(program: Path, sizes: list[int]) -> Measured:
     """Measure all. Raises speed.Failed."""
-    about = f"{datetime.date.today()}, {len(os.sched_getaffinity(0))} cores, load {os.getloadavg()[0]:.1f}"
     found: dict[str, list[tuple[int, float, int]]] = {}
-    memory = "/dev/shm" if os.access("/dev/shm", os.W_OK) else None
-    with tempfile.TemporaryDirectory(prefix="hdt-plots-", dir=memory) as name:
+    with tempfile.TemporaryDirectory(prefix="hdt-plots-", dir=speed.MEMORY) as name:
         folder = Path(name)
         source, file, out = (folder / it for it in ("document.nt", "file.hdt", "out"))
         for size in sizes:
-            speed.write_document(source, speed.as_exported, size)
-            for what, words in commands(program, source, file).items():
+            speed.write_lines(source, speed.as_exported, size)
+            for what in COMMANDS:
+                if not (words := speed.command(what, hdt=program, document=source, file=file)):
+                    continue
                 cost = speed.least(words, out)
                 found.setdefault(what, []).append((size, cost.cpu, cost.memory))
                 print(f"{size:,} lines, {what}: {cost.cpu:.3f} s, {cost.memory / 1e6:.0f} MB", flush=True)
         requests = measure_requests(program, folder)
-    return Measured(about, found, requests)
+    return Measured(speed.head(), found, requests)
 
 
 def draw(it: Measured, folder: Path) -> None:
@@ -126,19 +113,16 @@ def draw(it: Measured, folder: Path) -> None:
 
 def main() -> int:
     """Run the command line."""
-    words = argparse.ArgumentParser(
-        prog="python3 -m tools.plots", description=__doc__, formatter_class=argparse.RawDescriptionHelpFormatter
-    )
-    words.add_argument("--lines", nargs="+", type=speed.lines, metavar="N", default=SIZES, help="sizes of documents")
+    words = speed.arguments("plots", __doc__)
+    words.add_argument("--lines", nargs="+", type=speed.number, metavar="N", default=SIZES, help="sizes of documents")
     words.add_argument("--draw", action="store_true", help="draw what was measured before")
     words.add_argument("--folder", type=Path, default=FOLDER, help="where the files go (docs/plots)")
-    words.add_argument("--program", type=Path, metavar="PATH", help="the program to measure (that of this tree)")
     given = words.parse_args()
     data = given.folder / "measured.json"
     try:
         given.folder.mkdir(parents=True, exist_ok=True)
         if not given.draw:
-            program = given.program.resolve() if given.program else speed.current()
+            program = given.program.resolve() if given.program else built() / "hdt"
             data.write_text(json.dumps(measure(program, given.lines)._asdict(), indent=1) + "\n")
         draw(Measured(**json.loads(data.read_text())), given.folder)
     except (OSError, speed.Failed) as why:

@@ -16,14 +16,13 @@ The last line is 'N passed, M failed', and the status is 1 if one failed.
 
 from __future__ import annotations
 
-import argparse
 import re
 import sys
 from collections.abc import Iterable, Iterator
 from pathlib import Path
 
 from tools import rattle_text, repository
-from tools.repository import TOP
+from tools.repository import TOP, command_line
 
 # Clauses that traits of the library state.
 OF_TRAITS = {"output", "from_gives"}
@@ -231,9 +230,7 @@ def check(crates: list[Path], top: Path) -> tuple[int, list[str]]:
 
 def main() -> int:
     """Run the command line."""
-    words = argparse.ArgumentParser(
-        prog="python3 -m tools.promises", description=__doc__, formatter_class=argparse.RawDescriptionHelpFormatter
-    )
+    words = command_line("promises", __doc__)
     words.add_argument("--counts", action="store_true", help="print the table of lines, mutants and tests instead")
     words.add_argument("--top", type=Path, default=TOP, metavar="DIR", help="the repository (this one)")
     given = words.parse_args()

@@ -1,9 +1,12 @@
-"""The repository's crates, as crates.txt lists them, and the Rattle kit that proves and compiles them."""
+"""What tools share: the crates of crates.txt, the Rattle kit, the built files, and the form of command lines."""
 
 from __future__ import annotations
 
+import argparse
+import os
 import shutil
 import subprocess
+import sys
 from functools import lru_cache
 from pathlib import Path
 
@@ -12,6 +15,12 @@ TOP = Path(__file__).resolve().parent.parent
 
 class NoKit(Exception):
     """There is no Rattle kit on this machine: no command `rt` on the path."""
+
+
+def command_line(name: str, text: str | None) -> argparse.ArgumentParser:
+    """Return the parser of the command line of a tool with this name and this documentation."""
+    form = argparse.RawDescriptionHelpFormatter
+    return argparse.ArgumentParser(prog=f"python3 -m tools.{name}", description=text, formatter_class=form)
 
 
 @lru_cache(maxsize=None)
@@ -28,6 +37,18 @@ def kit_line() -> str:
     """Return the kit's one-line identity, as `rt version` prints it. Raises NoKit."""
     kit()
     return subprocess.run(["rt", "version"], check=True, stdout=subprocess.PIPE, text=True).stdout.strip()
+
+
+@lru_cache(maxsize=None)
+def built() -> Path:
+    """Return the folder of built files: that of HDT_BUILT, else the one that belongs to the sources.
+
+    Ends the program if there is none, with the line of `tools/current`.
+    """
+    if named := os.environ.get("HDT_BUILT"):
+        return Path(named).resolve()
+    ran = subprocess.run(TOP / "tools/current", stdout=subprocess.PIPE, text=True)
+    return TOP / ran.stdout.strip() if ran.returncode == 0 else sys.exit(2)
 
 
 def crates(top: Path = TOP) -> dict[str, list[str]]:

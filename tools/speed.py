@@ -2,21 +2,19 @@
 
     python3 -m tools.speed                 documents of 100,000, 1,000,000 and 5,000,000 lines
     python3 -m tools.speed 20,000          a document of 20,000 lines
-    python3 -m tools.speed --hostile       files made to cost time: each command at doublings of their size
 
 Each document is measured in three forms: as an exporter writes it; its lines shuffled; and one whose lines are all
 different, in the order of their subjects. A row has the CPU seconds (user and system), the seconds by the clock, the
-peak memory, the CPU seconds as a multiple of those of `sort -u` in one thread, and the CPU nanoseconds a line.
-
-It measures the program that belongs to this tree (tools/current). The least of three runs counts, and the files are in
-memory if /dev/shm can be written to. It is no part of the gate: what it prints is measured on one machine, and nothing
-of it is proved. Run it on a quiet machine.
+peak memory, the CPU seconds as a multiple of those of `sort -u` in one thread, and the CPU nanoseconds a line. The
+least of three runs counts, and the files are in memory if /dev/shm can be written to. Run it on a quiet machine. It is
+no part of the gate, and nothing of what it prints is proved.
 """
 
 from __future__ import annotations
 
 import argparse
 import datetime
+import multiprocessing
 import os
 import random
 import shutil
@@ -24,27 +22,44 @@ import subprocess
 import sys
 import tempfile
 import time
-from collections.abc import Callable, Iterable, Iterator, Sequence
+from collections.abc import Callable, Iterable, Sequence
 from pathlib import Path
 from typing import NamedTuple, Union
 
-from tools.repository import TOP
+from tools.repository import built, command_line
 
 Word = Union[str, Path]
 
 RUNS = 3
-PREDICATES = [
-    f"http://example.org/vocabulary/{name}"
-    for name in "knows name label comment type size partOf seeAlso created creator subject source".split()
-]
+NAMES = "knows name label comment type size partOf seeAlso created creator subject source".split()
+PREDICATES = [f"http://example.org/vocabulary/{name}" for name in NAMES]
 WORDS = "graph triple subject predicate object dictionary section header string number file term block node".split()
-
-
-class Failed(Exception):
-    """Why nothing can be measured."""
-
-
-# ---- documents
+MEMORY = "/dev/shm" if os.access("/dev/shm", os.W_OK) else None
+# Commands, of a document, its file, and the parts of a line; a command that is not installed is left out.
+COMMANDS = {
+    "sort -u": "sort --parallel=1 -u {document}",
+    "hdt build": "{hdt} build {document} {file}",
+    "hdt verify": "{hdt} verify {file}",
+    "hdt verify --tight": "{hdt} verify --tight {file}",
+    "hdt rewrite": "{hdt} rewrite {file} {file}.again --block-size 8",
+    "hdt dump": "{hdt} dump {file}",
+    "hdt find S ? ?": "{hdt} find {file} {s} ? ?",
+    "hdt find ? P ?": "{hdt} find {file} ? {p} ?",
+    "hdt find ? ? O": "{hdt} find {file} ? ? {o}",
+    "hdt find --count ? P ?": "{hdt} find --count {file} ? {p} ?",
+    "cat": "cat {document}",
+    "rapper -c": "rapper -q -c -i ntriples {document}",
+    "serdi": "serdi -i ntriples {document}",
+}
+# Requests to `hdt answer`, of the parts of a line: how many, and the form of each. The answers of a document with more
+# lines than MOST_LINES_TO_ANSWER would fill the memory.
+REQUESTS = {
+    "hdt answer, no requests": (0, ""),
+    "hdt answer, 100,000 times S ? ?": (100_000, "{s} ? ?"),
+    "hdt answer, 10,000 times ? ? O": (10_000, "? ? {o}"),
+    "hdt answer, 100 times ? P ?": (100, "? {p} ?"),
+}
+MOST_LINES_TO_ANSWER = 1_000_000
 
 
 def literal(source: random.Random) -> str:
@@ -77,35 +92,21 @@ def as_exported(count: int) -> list[str]:
 
 def shuffled(count: int) -> list[str]:
     """Return the same lines in another order."""
-    lines = as_exported(count)
-    random.Random(count).shuffle(lines)
-    return lines
+    return random.Random(count).sample(as_exported(count), count)
 
 
 def without_repeats(count: int) -> list[str]:
     """Return lines that all differ: a subject has eight, with objects of its own, in the order of the subjects."""
-    address = "http://example.org/resource/%09d"
-    return [
-        f'<{address % (line // 8)}> <{PREDICATES[line % 8]}> "object {line} of the subject" .\n'
-        if line % 2
-        else f"<{address % (line // 8)}> <{PREDICATES[line % 8]}> <{address % (line + count)}> .\n"
-        for line in range(count)
-    ]
+    address = "<http://example.org/resource/%09d>"
+    others = (f'"object {it} of the subject"' if it % 2 else address % (it + count) for it in range(count))
+    return [f"{address % (it // 8)} <{PREDICATES[it % 8]}> {other} .\n" for it, other in enumerate(others)]
 
 
-DOCUMENTS: dict[str, Callable[[int], list[str]]] = {
-    "as exported": as_exported,
-    "shuffled": shuffled,
-    "without repeats": without_repeats,
-}
+DOCUMENTS = {"as exported": as_exported, "shuffled": shuffled, "without repeats": without_repeats}
 
 
-def parts_of(line: str) -> list[str]:
-    """Return the subject, the predicate and the object of a line that one of the above makes."""
-    return line[: -len(" .\n")].split(" ", 2)
-
-
-# ---- measuring
+class Failed(Exception):
+    """Why nothing can be measured."""
 
 
 class Cost(NamedTuple):
@@ -116,242 +117,124 @@ class Cost(NamedTuple):
     memory: int
 
 
-def elsewhere(work: Callable[[], None]) -> None:
-    """Do some work in a process of its own.
-
-    What it leaves in memory would count as a command's, whose peak is at least that of the process that starts it.
-    """
-    child = os.fork()
-    if not child:
-        status = 1
-        try:
-            work()
-            status = 0
-        finally:
-            os._exit(status)
-    if os.waitpid(child, 0)[1]:
-        raise Failed("the input could not be written")
+def command(name: str, **given: Word) -> list[str]:
+    """Return the words of a command; none if it is not installed."""
+    words = [it.format(**given) for it in COMMANDS[name].split()]
+    return words if shutil.which(words[0]) else []
 
 
-def run_once(command: Sequence[Word], out: Path, given: Word = os.devnull) -> Cost:
+def run_once(words: Sequence[Word], out: Path, given: Word = os.devnull) -> Cost:
     """Run a command between two files. Raises Failed."""
     with open(out, "wb") as output, open(given, "rb") as source:
         began = time.perf_counter()
-        process = subprocess.Popen(
-            command, stdin=source, stdout=output, stderr=subprocess.DEVNULL, env={**os.environ, "LC_ALL": "C"}
-        )
+        environment = {**os.environ, "LC_ALL": "C"}
+        process = subprocess.Popen(words, stdin=source, stdout=output, stderr=subprocess.DEVNULL, env=environment)
         _, status, usage = os.wait4(process.pid, 0)
         clock = time.perf_counter() - began
     process.returncode = os.waitstatus_to_exitcode(status)
     if process.returncode:
-        raise Failed(f"{' '.join(map(str, command))} ended with status {process.returncode}")
+        raise Failed(f"{' '.join(map(str, words))} ended with status {process.returncode}")
     return Cost(usage.ru_utime + usage.ru_stime, clock, usage.ru_maxrss * 1024)
 
 
-def least(command: Sequence[Word], out: Path, given: Word = os.devnull) -> Cost:
+def least(words: Sequence[Word], out: Path, given: Word = os.devnull) -> Cost:
     """Return what the fastest of RUNS runs took. Raises Failed."""
-    return min(run_once(command, out, given) for _ in range(RUNS))
+    return min(run_once(words, out, given) for _ in range(RUNS))
 
 
-# ---- the table of a document
+def parts_of(line: str) -> dict[str, str]:
+    """Return the subject, the predicate and the object of a line that one of the above makes."""
+    return dict(zip("spo", line[: -len(" .\n")].split(" ", 2)))
 
 
-def commands(program: Path, source: Path, file: Path, line: str) -> Iterator[tuple[str, list[Word]]]:
-    """Give the name and the words of each command. `line` is one of the document."""
-    subject, predicate, other = parts_of(line)
-    yield "sort -u", ["sort", "--parallel=1", "-u", source]
-    yield "hdt build", [program, "build", source, file]
-    yield "hdt verify", [program, "verify", file]
-    yield "hdt verify --tight", [program, "verify", "--tight", file]
-    yield "hdt rewrite", [program, "rewrite", file, file.with_suffix(".again"), "--block-size", "8"]
-    yield "hdt dump", [program, "dump", file]
-    yield "hdt find S ? ?", [program, "find", file, subject, "?", "?"]
-    yield "hdt find ? P ?", [program, "find", file, "?", predicate, "?"]
-    yield "hdt find ? ? O", [program, "find", file, "?", "?", other]
-    yield "hdt find --count ? P ?", [program, "find", "--count", file, "?", predicate, "?"]
-    yield "cat", ["cat", source]
-    if shutil.which("rapper"):
-        yield "rapper -c", ["rapper", "-q", "-c", "-i", "ntriples", source]
-    if shutil.which("serdi"):
-        yield "serdi", ["serdi", "-i", "ntriples", source]
+def write_lines(path: Path, make: Callable[[int], Iterable[str]], count: int) -> None:
+    """Write the lines that are made. Raises Failed.
 
-
-# Requests to `hdt answer`: how many, and the form of each, of the parts of a line.
-REQUESTS = {
-    "hdt answer, no requests": (0, "? ? ?"),
-    "hdt answer, 100,000 times S ? ?": (100_000, "{0} ? ?"),
-    "hdt answer, 10,000 times ? ? O": (10_000, "? ? {2}"),
-    "hdt answer, 100 times ? P ?": (100, "? {1} ?"),
-}
-# The answers of documents with more lines would fill the memory.
-MOST_LINES_TO_ANSWER = 1_000_000
-
-
-def write_document(path: Path, lines: Callable[[int], Iterable[str]], count: int) -> str:
-    """Write a document, and return its middle line."""
+    A process of its own does that: the peak memory of a command is at least that of the process that starts it.
+    """
 
     def work() -> None:
         with open(path, "w") as file:
-            file.writelines(lines(count))
+            file.writelines(make(count))
 
-    elsewhere(work)
-    with open(path) as file:
-        for _ in range(count // 2):
-            next(file)
-        return next(file)
+    process = multiprocessing.get_context("fork").Process(target=work)
+    process.start()
+    process.join()
+    if process.exitcode:
+        raise Failed(f"{path} could not be written")
 
 
 def write_requests(path: Path, source: Path, times: int, form: str) -> None:
-    """Write requests, each of a line of the document drawn by chance."""
+    """Write requests, each of a line of the document drawn by chance. Raises Failed."""
 
-    def work() -> None:
+    def requests(times: int) -> Iterable[str]:
         with open(source) as file:
             lines = file.readlines()
-        with open(path, "w") as file:
-            for line in random.Random(times).choices(lines, k=times):
-                file.write(form.format(*parts_of(line)) + "\n")
+        return (form.format(**parts_of(it)) + "\n" for it in random.Random(times).choices(lines, k=times))
 
-    elsewhere(work)
+    write_lines(path, requests, times)
 
 
 def print_document(program: Path, folder: Path, name: str, count: int) -> None:
     """Print the table of a document with so many lines. Raises Failed."""
-    source, file, requests, out = (folder / it for it in ("document.nt", "file.hdt", "requests", "out"))
-    line = write_document(source, DOCUMENTS[name], count)
-    size = source.stat().st_size
+    document, requests, out = (folder / it for it in ("document.nt", "requests", "out"))
+    write_lines(document, DOCUMENTS[name], count)
+    write_requests(requests, document, 1, "{s} {p} {o} .")
+    file = folder / "file.hdt"
+    parts = parts_of(requests.read_text())
+    size = document.stat().st_size
     print(f"{count:,} lines, {name}: {size:,} bytes ({size / count:.0f} a line)\n")
     print("| command | CPU, s | clock, s | peak memory, MB | of `sort -u` | ns a line |\n|---|---|---|---|---|---|")
-    sorting = 0.0
+    costs: list[Cost] = []
 
     def row(what: str, cost: Cost) -> None:
-        cells = [
-            what,
-            f"{cost.cpu:.3f}",
-            f"{cost.clock:.3f}",
-            f"{cost.memory / 1e6:.0f}",
-            f"{cost.cpu / sorting:.2f}",
-            f"{cost.cpu / count * 1e9:.0f}",
-        ]
-        print(f"| {' | '.join(cells)} |", flush=True)
+        costs.append(cost)
+        measured = f"{cost.cpu:.3f} | {cost.clock:.3f} | {cost.memory / 1e6:.0f}"
+        ratio, each = cost.cpu / max(costs[0].cpu, 1e-6), cost.cpu / count * 1e9
+        print(f"| {what} | {measured} | {ratio:.2f} | {each:.0f} |", flush=True)
 
-    for what, words in commands(program, source, file, line):
-        cost = least(words, out)
-        sorting = sorting or max(cost.cpu, 1e-6)
-        row(what, cost)
+    for what in COMMANDS:
+        if words := command(what, hdt=program, document=document, file=file, **parts):
+            row(what, least(words, out))
     for what, (times, form) in REQUESTS.items() if count <= MOST_LINES_TO_ANSWER else ():
-        write_requests(requests, source, times, form)
+        write_requests(requests, document, times, form)
         row(what, least([program, "answer", file], out, requests))
     print(f"\nThe file has {file.stat().st_size:,} bytes.\n")
 
 
-# ---- files made to cost time
-
-
-class Family(NamedTuple):
-    """Files that cost time if whole strings are compared or unfolded.
-
-    `make` writes one in a size; the sizes to try; and the commands, each with its options.
-    """
-
-    make: Callable[[int], bytes]
-    sizes: Sequence[int]
-    commands: Sequence[Sequence[str]]
-
-
-REWRITE = ("rewrite", "--block-size", "65535")
-
-
-def families() -> dict[str, Family]:
-    """Return the families by their names. Their files are written by the tests' own implementation of the format."""
-    sys.path.append(str(TOP / "tests"))
-    from reference.hdt import long_prefixes, loose_prefixes
-
-    doublings = (1, 2, 4, 8, 16)
-    return {
-        "two sections with long prefixes": Family(
-            lambda size: long_prefixes(2, 40_000 * size, 1_000 * size)[0],
-            doublings,
-            [("verify",), ("verify", "--tight"), REWRITE],
-        ),
-        "three sections with long prefixes": Family(
-            lambda size: long_prefixes(3, 40_000 * size, 1_000 * size)[0], doublings, [REWRITE]
-        ),
-        "unused strings with long prefixes": Family(
-            lambda size: loose_prefixes(40_000 * size, 1_000 * size)[0], doublings, [REWRITE]
-        ),
-        "one huge block": Family(
-            lambda size: long_prefixes(2, 0, 6_250 * size)[0],
-            doublings,
-            [("verify",), ("dump",), ("find", "?", "<u:p>", "?"), ("strings", "object"), REWRITE],
-        ),
-        "long prefixes, written anew in each block": Family(
-            lambda size: long_prefixes(2, 5_000 * size, 125 * size)[0], doublings[:-1], [("rewrite",), REWRITE]
-        ),
-    }
-
-
-def print_hostile(program: Path, folder: Path) -> None:
-    """Print a table of each command at doublings of each family, and how the last two compare. Raises Failed."""
-    print("| files | command | bytes, and CPU seconds | the last to the one before | peak memory, MB |")
-    print("|---|---|---|---|---|")
-    path = folder / "hostile.hdt"
-    for name, family in families().items():
-        for command, *words in family.commands:
-            seconds: list[float] = []
-            cells: list[str] = []
-            memory = 0
-            for size in family.sizes:
-                path.write_bytes(family.make(size))
-                to = [folder / "again.hdt"] if command == "rewrite" else []
-                cost = least([program, command, path, *words, *to], folder / "out")
-                seconds.append(cost.cpu)
-                cells.append(f"{path.stat().st_size:,}: {cost.cpu:.3f}")
-                memory = max(memory, cost.memory)
-            ratio = seconds[-1] / max(seconds[-2], 0.001)
-            print(
-                f"| {name} | {' '.join([command, *words])} | {'; '.join(cells)} | {ratio:.1f} | {memory / 1e6:.0f} |",
-                flush=True,
-            )
-
-
-def current() -> Path:
-    """Return the program that belongs to this tree. Raises Failed."""
-    ran = subprocess.run(TOP / "tools/current", stdout=subprocess.PIPE, stderr=subprocess.PIPE, text=True)
-    if ran.returncode:
-        raise Failed(ran.stderr.strip().removeprefix("hdt: "))
-    return TOP / ran.stdout.strip() / "hdt"
-
-
-def lines(word: str) -> int:
-    """Read a number of lines, which may have commas."""
+def number(word: str) -> int:
+    """Read a number above zero, which may have commas."""
     count = int(word.replace(",", ""))
     if count < 1:
         raise ValueError(word)
     return count
 
 
+def arguments(name: str, text: str | None) -> argparse.ArgumentParser:
+    """Return the parser of the command line of a tool that measures: the program's name, and its documentation."""
+    words = command_line(name, text)
+    words.add_argument("--program", type=Path, metavar="PATH", help="the program to measure (that of this tree)")
+    return words
+
+
+def head() -> str:
+    """Return when and where something is measured."""
+    return f"{datetime.date.today()}, {len(os.sched_getaffinity(0))} cores, load {os.getloadavg()[0]:.1f}"
+
+
 def main() -> int:
     """Run the command line."""
-    words = argparse.ArgumentParser(
-        prog="python3 -m tools.speed", description=__doc__, formatter_class=argparse.RawDescriptionHelpFormatter
-    )
-    words.add_argument("lines", nargs="*", type=lines, metavar="LINES", help="how many lines a document has")
-    words.add_argument("--hostile", action="store_true", help="measure files made to cost time")
-    words.add_argument("--program", type=Path, metavar="PATH", help="the program to measure (that of this tree)")
+    words = arguments("speed", __doc__)
+    words.add_argument("lines", nargs="*", type=number, metavar="LINES", help="how many lines a document has")
     given = words.parse_args()
-    memory = "/dev/shm" if os.access("/dev/shm", os.W_OK) else None
     try:
-        program = given.program.resolve() if given.program else current()
-        if not os.access(program, os.X_OK):
-            raise Failed(f"{program} is no program")
-        print(f"{datetime.date.today()}, {len(os.sched_getaffinity(0))} cores, load {os.getloadavg()[0]:.1f}\n")
-        with tempfile.TemporaryDirectory(prefix="hdt-speed-", dir=memory) as folder:
-            for count in given.lines or ([] if given.hostile else [100_000, 1_000_000, 5_000_000]):
+        program = given.program.resolve() if given.program else built() / "hdt"
+        print(f"{head()}\n")
+        with tempfile.TemporaryDirectory(prefix="hdt-speed-", dir=MEMORY) as folder:
+            for count in given.lines or [100_000, 1_000_000, 5_000_000]:
                 for name in DOCUMENTS:
                     print_document(program, Path(folder), name, count)
-            if given.hostile:
-                print_hostile(program, Path(folder))
-    except Failed as why:
+    except (Failed, OSError) as why:
         print(f"speed: {why}", file=sys.stderr)
         return 2
     return 0

@@ -2,7 +2,7 @@
 
 `python_mutants.py`, `rdflib_mutants.py` and `parts_mutants.py` have the bodies, and are run as
 
-    HDT_BUILT=FOLDER PYTHONPATH=tests /usr/bin/python3 tests/support/python_mutants.py [NUMBER..]
+    HDT_BUILT=FOLDER PYTHONPATH=tests:. /usr/bin/python3 tests/support/python_mutants.py [NUMBER..]
 
 The tests of a package run over a copy of it, one body after another. The status is 1 if a body is not seen. Tests that
 take more than five CPU minutes have seen it, as those of the right body take less than one.
@@ -37,7 +37,7 @@ def first_test(module: str, old: str, new: str, tests: Sequence[str]) -> Optiona
     """The first test that fails over a copy with a text of a module replaced, or None."""
     with tempfile.TemporaryDirectory() as folder:
         top = Path(folder)
-        for name in ("python", "tests"):
+        for name in ("python", "reference", "tests"):
             shutil.copytree(TOP / name, top / name, ignore=shutil.ignore_patterns("__pycache__", ".hypothesis"))
         shutil.copy(TOP / "pytest.ini", top)
         for name in ("samples", "docs"):

@@ -9,7 +9,7 @@ from typing import Optional
 
 from reference import hdt as reference
 from reference import ntriples
-from support.program import Result, done, failed
+from support.program import Result, Word, done, failed
 
 Triple = tuple[bytes, bytes, bytes]
 Pattern = tuple[Optional[bytes], Optional[bytes], Optional[bytes]]
@@ -33,6 +33,11 @@ def escaped(string: bytes) -> bytes:
 def spelled(string: bytes) -> bytes:
     """A dictionary string as a term of N-Triples."""
     return ntriples.put_term(ntriples.string_term(string))
+
+
+def words_of(pattern: Pattern, raw: bool) -> list[Word]:
+    """A pattern as words of a command line: as terms or as dictionary strings."""
+    return [b"?" if string is None else string if raw else spelled(string) for string in pattern]
 
 
 def is_term_of(string: bytes, role: int) -> bool:
