@@ -1,7 +1,7 @@
 """The documents: programs and commands run as they are written, links lead somewhere, words are spelled as in English.
 
 The blocks of docs/JAVA.md are run by test_java, those in Rust of docs/RUST.md and docs/SERVERS.md by test_rust and
-test_servers, those of docs/RATTLE.md compared by `tools.promises`, and the servers of README and docs/GUIDE.md run by
+test_servers, those of docs/RATTLE.md compared by `tools.promises`, and the servers of README and docs/PUBLISH.md run by
 test_fragments_servers.
 """
 
@@ -28,11 +28,13 @@ from tools import contracts, promises
 BLOCKS = {
     "CONTRIBUTING.md": {"sh": 1},
     "README.md": {"c": 1, "python": 1, "sh": 3, "text": 1},
+    "docs/AUDIT.md": {"python": 1, "sh": 1},
     "docs/C.md": {"c": 1, "sh": 1},
-    "docs/GUIDE.md": {"python": 4, "sh": 6, "text": 7},
+    "docs/GUIDE.md": {"python": 4, "sh": 6, "text": 4},
     "docs/JAVA.md": {"java": 1, "text": 2, "turtle": 1},
     "docs/MIGRATE.md": {"python": 2, "sh": 1},
     "docs/PROBES.md": {"sh": 1},
+    "docs/PUBLISH.md": {"sh": 2, "text": 7},
     "docs/PYTHON.md": {"python": 8},
     "docs/RATTLE.md": {"rust": 5, "text": 3},
     "docs/RUST.md": {"rs": 2, "toml": 1},
