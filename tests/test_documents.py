@@ -39,6 +39,7 @@ BLOCKS = {
     "docs/RATTLE.md": {"rust": 5, "text": 3},
     "docs/RUST.md": {"rs": 2, "toml": 1},
     "docs/SERVERS.md": {"c": 1, "python": 1, "rs": 1},
+    "docs/SIZING.md": {"text": 1},
 }
 # At least so many commands do the documents have in their text, besides these blocks.
 COMMANDS = 54
@@ -230,6 +231,13 @@ def test_labels_of_the_guide(clone: Path) -> None:
     (clone / "labels.nt").write_text("\n".join(lines))
     found = shell("./hdt build labels.nt labels.hdt >&2; " + block_with("docs/GUIDE.md", "labels.hdt"), clone)
     assert found == (0, "".join(f"{line}\n" for line, is_german in zip(lines, tags.values()) if is_german))
+
+
+@pytest.mark.skipif(not Path("/usr/bin/time").exists(), reason="there is no time (Debian: time)")
+def test_sample_of_sizing(clone: Path) -> None:
+    """A sample is built, and its memory and time are printed."""
+    status, out = shell(f"({block_with('docs/SIZING.md', 'sample.nt')}) 2>&1", clone)
+    assert status == 0 and re.fullmatch(r"built 2 0 2 1 2 \d+\n\d+ kB, \d\.\d+ s\n", out), out
 
 
 def test_examples_of_the_man_page(clone: Path) -> None:

@@ -405,11 +405,11 @@ def test_memory() -> None:
     """A row for each kind of document; a peak below that of the measuring process is not printed as a number."""
     status, out, err = tool("memory", "--scale", "0.00001", "--program", BUILT_PROGRAM)
     assert (status, err) == (0, b"")
-    rows = re.findall(r"^\| ([a-z, ]+) \| 59 to 100 \| \d+ \| \d+ (\| \? )+\|$", out.decode(), re.M)
-    assert [name for name, _ in rows] == ["as exported", "people", "many labels", "short, distinct", "long literals"]
-    table = (TOP / "docs/PERFORMANCE.md").read_text()
+    rows = re.findall(r"^\| ([a-z, ]+) \| 59 to 100 \| \d+ \| \d+ (\| \? ){5}(\| \d+\.\d\d ){5}\|$", out.decode(), re.M)
+    assert [name for name, *_ in rows] == ["as exported", "people", "many labels", "short, distinct", "long literals"]
+    table = (TOP / "docs/SIZING.md").read_text()
     assert [line for line in out.decode().splitlines()[2:4] if line not in table] == []
-    assert [name for name, _ in rows if f"\n| {name} | " not in table] == []
+    assert [name for name, *_ in rows if f"\n| {name} | " not in table] == []
     assert tool("memory", "--scale", "0")[0] == 2
     assert tool("memory", "--program", "/nowhere/hdt") == (2, b"", b"memory: /nowhere/hdt is no program\n")
     assert tool("memory", "--scale", "0.00001", "--program", "/usr/bin/false")[0] == 2
@@ -429,9 +429,9 @@ kind = memory.Kind(memory.long_literals, 0)
 print(memory.measure(program, Path(sys.argv[2]), kind, 30_000))
 """
     ran = run([sys.executable, "-B", "-c", code, BUILT_PROGRAM, tmp_path], cwd=TOP)
-    text, file, build, opened, *others, verify, dump = eval(ran.out)
-    assert 700 < file < text < 1.2 * file and file - 20 < verify < 1.02 * file and 10 < opened < 50
-    assert all(2 * file < it < 4 * file for it in [build, *others])
+    (text, file, build, merge, opened, made_anew, dump), times = eval(ran.out)
+    assert 700 < file < text < 1.2 * file and 10 < opened < 50
+    assert all(2 * file < it < 4 * file for it in (build, merge, made_anew)) and len(times) == 5
     assert 4 < dump < 60
 
 
