@@ -30,7 +30,7 @@ BLOCKS = {
     "README.md": {"c": 1, "python": 1, "sh": 3, "text": 1},
     "docs/AUDIT.md": {"python": 1, "sh": 1},
     "docs/C.md": {"c": 1, "sh": 1},
-    "docs/GUIDE.md": {"python": 4, "sh": 6, "text": 4},
+    "docs/GUIDE.md": {"python": 3, "sh": 6, "text": 4},
     "docs/JAVA.md": {"java": 1, "text": 2, "turtle": 1},
     "docs/MIGRATE.md": {"python": 2, "sh": 1},
     "docs/PROBES.md": {"sh": 1},
