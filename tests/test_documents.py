@@ -22,7 +22,7 @@ from support.code_blocks import Block, blocks, documents, man_page_examples
 from support.program import Word, run
 from support.python_package import ENVIRONMENT
 from support.tools import tool
-from tools import contracts, promises
+from tools import anatomy, contracts, promises
 
 # The blocks that each document has, by language: a document with fewer fails, so that none is silently left untested.
 BLOCKS = {
@@ -45,7 +45,7 @@ BLOCKS = {
 COMMANDS = 54
 # Words that are not in the dictionary of British English. Names with capitals or digits are not looked up.
 WORDS = set("""
-allocator cardinalities cardinality cgroup checksums cpp Dask datatype endian enum Fuseki gcc glibc gunicorn gzip hdt
+allocator cardinalities cardinality cgroup checksums cpp cron Dask datatype endian enum Fuseki gcc glibc gunicorn gzip hdt
 inode Jena lossy mpi nginx ns nullable numpy ontologies parser prefetching prover py pytest rdflib seq serdi setgid
 setuid setuptools syntaxes Tickmarl toolchain txt umask unescaped untrusted utils xored
 """.split())
@@ -281,6 +281,12 @@ def test_commands_exist(command: str) -> None:
 def test_how_many_commands() -> None:
     """The documents have at least as many commands in their text as they had."""
     assert len(commands_in_text()) >= COMMANDS
+
+
+def test_picture_of_the_format() -> None:
+    """The picture of docs/FORMAT.md is the one that `tools.anatomy` draws."""
+    assert anatomy.PICTURE.read_text() == anatomy.picture()
+    assert "](anatomy.svg)" in (TOP / "docs/FORMAT.md").read_text()
 
 
 # ---- spelling
