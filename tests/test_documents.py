@@ -45,9 +45,9 @@ BLOCKS = {
 COMMANDS = 54
 # Words that are not in the dictionary of British English. Names with capitals or digits are not looked up.
 WORDS = set("""
-allocator cardinalities cardinality cgroup checksums cpp cron Dask datatype endian enum Fuseki gcc glibc gunicorn gzip hdt
-inode Jena lossy mpi nginx ns nullable numpy ontologies parser prefetching prover py pytest rdflib seq serdi setgid
-setuid setuptools syntaxes Tickmarl toolchain txt umask unescaped untrusted utils xored
+allocator cardinalities cardinality cgroup checksums cpp cron Dask datatype endian enum Fuseki gcc glibc gunicorn gzip
+hdt inode Jena lossy mpi nginx ns nullable numpy ontologies parser prefetching prover py pytest rdflib seq serdi
+setgid setuid setuptools syntaxes Tickmarl toolchain txt umask unescaped untrusted utils xored
 """.split())
 # At least so many examples in Rust do the comments of the sources have.
 EXAMPLES = 36
