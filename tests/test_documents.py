@@ -30,15 +30,15 @@ BLOCKS = {
     "README.md": {"c": 1, "python": 1, "sh": 3, "text": 1},
     "docs/AUDIT.md": {"python": 1, "sh": 1},
     "docs/C.md": {"c": 1, "sh": 1},
-    "docs/GUIDE.md": {"python": 3, "sh": 6, "text": 4},
+    "docs/GUIDE.md": {"python": 2, "sh": 6, "text": 4},
     "docs/JAVA.md": {"java": 1, "text": 2, "turtle": 1},
     "docs/MIGRATE.md": {"python": 2, "sh": 1},
     "docs/PROBES.md": {"sh": 1},
     "docs/PUBLISH.md": {"sh": 2, "text": 7},
     "docs/PYTHON.md": {"python": 8},
     "docs/RATTLE.md": {"rust": 5, "text": 3},
-    "docs/RUST.md": {"rs": 2, "toml": 1},
-    "docs/SERVERS.md": {"c": 1, "python": 1, "rs": 1},
+    "docs/RUST.md": {"rs": 1, "toml": 1},
+    "docs/SERVERS.md": {"python": 1, "rs": 1},
     "docs/SIZING.md": {"text": 1},
 }
 # At least so many commands do the documents have in their text, besides these blocks.
