@@ -403,6 +403,14 @@ def test_lines_of_definitions() -> None:
     assert f"counts the {total[2]} lines" in PROOFS
 
 
+def test_files_of_the_audit() -> None:
+    """Each file that AUDIT names is there, and the tests that it runs."""
+    text = (TOP / "docs/AUDIT.md").read_text()
+    named_files = set(re.findall(r"((?:crates|tests|dist)/[\w/]+\.\w+|dist/MANIFEST)", text))
+    assert [name for name in sorted(named_files) if not (TOP / name).exists()] == []
+    assert len(named_files) >= 7
+
+
 def test_files_of_the_architecture() -> None:
     """Each file of a crate that ARCHITECTURE names is in a crate."""
     named_files = set(re.findall(r"`((?:src|specs)/\w+\.\w+)`", (TOP / "docs/ARCHITECTURE.md").read_text()))
