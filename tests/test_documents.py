@@ -149,7 +149,7 @@ def test_python_programs(document: str, number: int, clone: Path) -> None:
 
 def shell(text: str, folder: Path) -> tuple[int, str]:
     """The status and the output of shell commands in a folder. A failing test shows what they print as an error."""
-    done = run(["bash", "-euo", "pipefail", "-c", text], cwd=folder, env=environment(folder))
+    done = run(["bash", "-euo", "pipefail", "-c", text], cwd=folder, env=environment(folder), seconds=300)
     print(done.err.decode())
     return done.status, done.out.decode()
 
