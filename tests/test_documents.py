@@ -91,6 +91,11 @@ def environment(folder: Path) -> dict[str, str]:
     return {**ENVIRONMENT, "HOME": str(folder.parent / "home"), "CC": CC, "MAKEFLAGS": "", "MAKELEVEL": ""}
 
 
+def test_readme_is_short() -> None:
+    """README has at most 9 KiB."""
+    assert len((TOP / "README.md").read_bytes()) <= 9 * 1024
+
+
 # ---- blocks
 
 
