@@ -111,6 +111,16 @@ def test_server_under(tool: str, server: Path) -> None:
     assert under(tool, server, SAMPLES / "three.hdt") == Result(0, b"u:a 2\nu:b 1\nu:c 0\n", b"")
 
 
+@pytest.mark.parametrize("name", ["server", "replace"])
+def test_programs_with_threads(name: str, tmp_path: Path) -> None:
+    """The programs of c/ with threads compile without a warning, answer, and say what is wrong with a file."""
+    program = compiled_server(tmp_path, (TOP / f"c/{name}.c").read_text())
+    answers = {"server": b"u:a 2\nu:b 1\nu:c 0\n", "replace": b"3 3\n"}
+    assert run([program, SAMPLES / "three.hdt"]) == (0, answers[name], b"")
+    assert run([program, "/nowhere"], env={"LC_ALL": "C"}) == (1, b"", b"FILE: No such file or directory\n")
+    assert run([program, TOP / "README.md"]) == (1, b"", b"reason 4\n")
+
+
 @needs_valgrind
 @pytest.mark.parametrize("tool", ["helgrind", "drd"])
 def test_one_handle_in_two_threads_is_seen(tool: str, tmp_path: Path) -> None:
