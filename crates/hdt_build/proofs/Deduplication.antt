@@ -13,7 +13,7 @@ use Rattle.hdt_build.specs.Inside.SortedEntries.{KeyedIndex, AreEntriesOf, AreIn
 use Rattle.hdt_build.specs.Inside.SortedEntries.{IsLessThanLast, NeverDescends, entry_index, entry_strings, last_of}
 
 -- x is the string of ys at index v
-abbrev IsAt : List (List ℕ) → List ℕ → ℕ → Type 0
+abbrev pub IsAt : List (List ℕ) → List ℕ → ℕ → Type 0
 IsAt ys x v = (v < length ys) × (get_or ys v [] ≡ x)
 
 -- the strings and the indices of the first i entries
@@ -54,6 +54,28 @@ ascends_on ys x up below = sorted_from_all_adjacent nat_list_cmp_total (ys ++ x 
           )
           (subst (λ (j : ℕ). string_cmp (get_or ys j []) x ≡ Less) last (below (omega (arith, at))))
     ])
+
+-- a string is the last one now
+pub record IsLastNow (ys : List (List ℕ)) (x : List ℕ) (zs : List (List ℕ)) : Type 0 where
+  pub ascend : IsAscending zs
+  pub kept : (n : ℕ) → n < length ys → IsAt zs (get_or ys n []) n
+  pub last : IsLast zs x
+
+pub pushed_once : (ys : List (List ℕ)) (x : List ℕ) (zs : List (List ℕ)) (v : ℕ) → IsAscending ys
+    → IsPushedOnce ys x zs → v + 1 ≡ length zs → IsLastNow ys x zs
+pushed_once ys x zs v up (inl again) at =
+    subst (λ (l : List (List ℕ)). IsLastNow ys x l) (sym again.0)
+    (record { ascend = up; kept = λ n lt. (lt, refl); last = again.1 })
+pushed_once ys x zs v up (inr new) at =
+    subst (λ (l : List (List ℕ)). IsLastNow ys x l) (sym new.0) (record {
+      ascend = ascends_on ys x up
+          (λ some. nat_list_cmp_total.antisymm (last_of ys) x ∙ ap ordering_reverse (new.1 some));
+      kept = λ n lt. (omega (arith, lt, length_push ys x), get_or_append_left ys (x ∷ []) [] n lt);
+      last = (
+        omega (arith, length_push ys x),
+        get_or_push ys x [] (length (ys ++ x ∷ []) - 1) (omega (arith, length_push ys x)),
+      );
+    })
 
 -- one more entry, whose string is the last one of zs
 module _ (xs : List (List ℕ)) (ps : List KeyedIndex) (placed : AreEntriesOf xs ps) (i : ℕ) (in' : i
@@ -104,18 +126,9 @@ module _ (xs : List (List ℕ)) (ps : List KeyedIndex) (placed : AreEntriesOf xs
 
   pub listed_more : (zs : List (List ℕ)) (v : ℕ) → IsPushedOnce ys x zs → v + 1 ≡ length zs
       → AreListed xs ps (i + 1) zs (set ns (entry_index ps i) v)
-  listed_more zs v (inl again) at =
-      subst (λ (l : List (List ℕ)). AreListed xs ps (i + 1) l (set ns (entry_index ps i) v)) (sym again.0)
-      (listed_by ys v h.ascend (λ n lt. (lt, refl)) again.1 (at ∙ ap length again.0))
-  listed_more zs v (inr new) at =
-      subst (λ (l : List (List ℕ)). AreListed xs ps (i + 1) l (set ns (entry_index ps i) v)) (sym new.0)
-      (listed_by (ys ++ x ∷ []) v
-      (ascends_on ys x h.ascend (λ some. nat_list_cmp_total.antisymm (last_of ys) x ∙ ap ordering_reverse (new.1 some)))
-      (λ n lt. (omega (arith, lt, length_push ys x), get_or_append_left ys (x ∷ []) [] n lt)) (
-        omega (arith, length_push ys x),
-        get_or_push ys x [] (length (ys ++ x ∷ []) - 1) (omega (arith, length_push ys x)),
-      )
-      (at ∙ ap length new.0))
+  listed_more zs v once at =
+      let p = pushed_once ys x zs v h.ascend once at in
+      listed_by zs v p.ascend p.kept p.last at
 
 -- after all entries, each string of the list has its index
 pub all_listed : (xs : List (List ℕ)) (ps : List KeyedIndex) → AreEntriesOf xs ps

@@ -86,16 +86,11 @@ module _ (g : GraphParts) (h : IsGraph g) (xs : List (List ℕ)) (ids : NewIds) 
         (λ k d lt. let t = all_in_range g h k d lt in (m.objects _ t.2.0 t.2.1).0);
   }
 
-  -- appended to others, with an empty queue
-  pub graph_added : (old qs : List (List ℕ)) (ids_before queued : List Triple) (graph : List StringTriple)
-      → ExtendsList old xs → AreBelow (length old) ids_before → queued ≡ []
-      → string_triples_of old ids_before ≡ graph
-      → string_triples_of xs (ids_before ++ map (with_new_ids ids) g.triples) ++ string_triples_of qs queued
-      ≡ graph ++ denoted_by g
-  graph_added old qs ids_before queued graph e below none is =
-      ap (λ (q : List Triple). string_triples_of xs (ids_before ++ map (with_new_ids ids) g.triples)
-      ++ string_triples_of qs q) none
-      ∙ append-nil (string_triples_of xs (ids_before ++ map (with_new_ids ids) g.triples))
-      ∙ joined_is old xs e ids_before below (map (with_new_ids ids) g.triples)
-      ∙ ap (λ (ts : List StringTriple). ts ++ string_triples_of xs (map (with_new_ids ids) g.triples)) is
-      ∙ ap (λ (ts : List StringTriple). graph ++ ts) mapped_is
+  -- appended to others
+  pub graph_added : (old : List (List ℕ)) (ids_before : List Triple) → ExtendsList old xs
+      → AreBelow (length old) ids_before
+      → string_triples_of xs (ids_before ++ map (with_new_ids ids) g.triples)
+      ≡ string_triples_of old ids_before ++ denoted_by g
+  graph_added old ids_before e below =
+      joined_is old xs e ids_before below (map (with_new_ids ids) g.triples)
+      ∙ ap (λ (ts : List StringTriple). string_triples_of old ids_before ++ ts) mapped_is

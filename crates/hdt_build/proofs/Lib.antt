@@ -11,6 +11,8 @@ pub mod Order
 pub mod GraphIndices
 pub mod IndexTriples
 pub mod StringsOfIds
+pub mod FrontCoding
+pub mod RankedRuns
 mod SectionFilling
 mod FilteredSections
 pub mod EntrySorting

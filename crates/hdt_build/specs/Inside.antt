@@ -2,3 +2,4 @@ pub mod Collecting
 pub mod Rewriting
 pub mod Filtering
 pub mod SortedEntries
+pub mod FrontCoding

@@ -2,15 +2,11 @@
 ghost use Rattle.std.specs.Prelude.{◌≡◌, ◌++◌, ◌∷◌, [], length, IfOk, OnOk, IsTrue, ◌↔◌};
 ghost use Rattle.hdt_build.specs.Inside.Collecting.{collected_triples, IsValidCollector, AreBelow};
 ghost use Rattle.hdt_build.specs.Graph.{string_triples_of};
-ghost use Rattle.hdt_file.specs.Graph.{graph_view};
-ghost use Rattle.hdt_build.specs.Layouts.{denoted_by};
 
-use crate::graph_strings::intern_graph;
 use crate::interner::{Interner, Lookups};
 use crate::queue::Queue;
-use crate::triples::{extend_mapped, extend_with_graph};
+use crate::triples::extend_mapped;
 use hdt_dict::Arena;
-use hdt_file::Graph;
 use std::alloc::{AllocError, Global};
 
 /// The triples of a document, as indices into one list of strings for all roles. New triples are queued, and their
@@ -52,20 +48,6 @@ impl TripleCollector {
     {
         self.flush_if_full(alloc)?;
         self.queue.add(s, p, o)
-    }
-
-    /// Adds the triples of a graph. Each string of a role is looked up once. After an error, drop the collector.
-    pub(crate) fn add_graph(&mut self, alloc: Global, graph: &Graph<'_>) -> Result<(), AllocError>
-        requires { IsValidCollector self.old }
-        ensures graph { OnOk result (collected_triples self.new
-            ≡ collected_triples self.old ++ denoted_by (graph_view graph.now)) }
-        ensures sound { OnOk result (IsValidCollector self.new) }
-    {
-        graph.is_graph();
-        self.intern_queued(alloc)?;
-        let ids = intern_graph(alloc, graph, &mut self.terms)?;
-        extend_with_graph(&mut self.ids, graph, &ids)?;
-        Ok(())
     }
 
     /// Looks up the strings of the queued triples, if the queue is full.

@@ -1,11 +1,14 @@
 //! The sections and the ID triples of a graph.
 ghost use Rattle.std.specs.Prelude.{◌≤◌, length, IfOk};
+ghost use Rattle.hdt_front.specs.Order.{IsAscending};
 ghost use Rattle.hdt_build.specs.Inside.Collecting.{AreBelow};
 ghost use Rattle.hdt_build.specs.Graph.{string_triples_of, IsEncodedGraph};
 ghost use Rattle.hdt_build.specs.Inside.Rewriting.{HaveBlockSize, lists_of_sections};
 ghost use Rattle.hdt_build.specs.Reading.{HasDictionaryStrings};
 
 use crate::dedup::dedup_strings;
+use crate::front_coded::FrontCoded;
+use crate::run_merging::merge_runs;
 use crate::section_filter::{SectionsAndIds, write_sections};
 use crate::sections::SectionWriters;
 use crate::triples::{map_ids, sort_dedup_triples};
@@ -19,9 +22,42 @@ pub(crate) struct EncodedGraph {
     pub(crate) triples: Vec<(u64, u64, u64)>,
 }
 
-/// Encodes a graph, whose triples are indices into a list of strings, as four sections and ID triples. Strings are
-/// copied only into their sections; the triples are converted in place. First their indices become ranks, so that the
-/// list of ranks is freed before the sections are written, which needs the most memory.
+/// Encodes a graph, whose triples are indices into ascending strings without duplicates, as four sections and ID triples.
+/// The triples are converted in place.
+pub(crate) fn encode_distinct(
+    alloc: Global,
+    strings: FrontCoded,
+    ids: Vec<(u64, u64, u64)>,
+    block_size: u32,
+) -> Result<EncodedGraph, AllocError>
+    requires ascend { IsAscending strings }
+    requires within { AreBelow (length strings) ids.items }
+    requires texts { HasDictionaryStrings (string_triples_of strings ids.items) }
+    requires block { 1 ≤ block_size }
+    ensures form { IfOk result
+        (λ made. IsEncodedGraph (string_triples_of strings ids.items) (lists_of_sections made.sections)
+        made.triples.items) }
+    ensures blocks { IfOk result (λ made. HaveBlockSize block_size made.sections) }
+{
+    let mut triples = ids;
+    let SectionsAndIds {
+        sections,
+        nodes,
+        predicates,
+    } = write_sections(alloc, &strings, triples.as_slice(), block_size)?;
+    drop(strings);
+    map_ids(
+        &mut triples,
+        nodes.as_slice(),
+        predicates.as_slice(),
+        nodes.as_slice(),
+    );
+    sort_dedup_triples(&mut triples);
+    Ok(EncodedGraph { sections, triples })
+}
+
+/// Encodes a graph, whose triples are indices into a list of strings, as four sections and ID triples. First the indices
+/// become ranks, so that the list is freed before the sections are written, which needs the most memory.
 pub(crate) fn encode_graph(
     alloc: Global,
     list: Arena,
@@ -38,6 +74,7 @@ pub(crate) fn encode_graph(
 {
     let mut triples = ids;
     let (strings, ranks) = dedup_strings(alloc, &list)?;
+    drop(list);
     map_ids(
         &mut triples,
         ranks.as_slice(),
@@ -45,17 +82,33 @@ pub(crate) fn encode_graph(
         ranks.as_slice(),
     );
     drop(ranks);
-    let SectionsAndIds {
-        sections,
-        nodes,
-        predicates,
-    } = write_sections(alloc, strings.as_slice(), triples.as_slice(), block_size)?;
+    encode_distinct(alloc, strings, triples, block_size)
+}
+
+/// Encodes a graph, whose triples are indices into a list of ascending runs of strings, as [`encode_graph`] does.
+pub(crate) fn encode_runs(
+    alloc: Global,
+    list: FrontCoded,
+    ids: Vec<(u64, u64, u64)>,
+    block_size: u32,
+) -> Result<EncodedGraph, AllocError>
+    requires within { AreBelow (length list) ids.items }
+    requires texts { HasDictionaryStrings (string_triples_of list ids.items) }
+    requires block { 1 ≤ block_size }
+    ensures form { IfOk result
+        (λ made. IsEncodedGraph (string_triples_of list ids.items) (lists_of_sections made.sections)
+        made.triples.items) }
+    ensures blocks { IfOk result (λ made. HaveBlockSize block_size made.sections) }
+{
+    let mut triples = ids;
+    let (strings, ranks) = merge_runs(alloc, &list)?;
+    drop(list);
     map_ids(
         &mut triples,
-        nodes.as_slice(),
-        predicates.as_slice(),
-        nodes.as_slice(),
+        ranks.as_slice(),
+        ranks.as_slice(),
+        ranks.as_slice(),
     );
-    sort_dedup_triples(&mut triples);
-    Ok(EncodedGraph { sections, triples })
+    drop(ranks);
+    encode_distinct(alloc, strings, triples, block_size)
 }

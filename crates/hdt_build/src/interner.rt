@@ -235,15 +235,6 @@ impl Interner {
         }
     }
 
-    /// Returns an index of a string. Appends the string, unless the cache finds it.
-    pub(crate) fn index_of(&mut self, alloc: Global, text: &[u8]) -> Result<usize, AllocError>
-        ensures within { IfOk result (λ i. i < length self.new) }
-        ensures is { IfOk result (λ i. slice_index_or self.new i [] ≡ text.now) }
-        ensures list { OnOk result (ExtendsList self.old self.new) }
-    {
-        self.intern(alloc, text, hash(text), usize::MAX)
-    }
-
     /// Stores an index for each of these strings. Appends those that the cache doesn't have.
     pub(crate) fn intern_all(
         &mut self,

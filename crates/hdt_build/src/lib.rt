@@ -24,12 +24,13 @@
 //! [`merge`] writes the canonical file of all triples of several graphs; [`Merger`] takes them one after another.
 //!
 //! Modules, in reading order. Building: `options` and `fault`; `interner`, the list of strings; `queue` and
-//! `collector`, triples as indices of strings; `reading`, the lines of the input; `string_sort` and `dedup`, the
-//! strings in order, each once; `prefetch`; `section_filter`, the four sections and the IDs; `triples` and `encoding`,
-//! the encoded graph; `header` and `file`, its bytes; `building`.
+//! `collector`, triples as indices of strings; `reading`, the lines of the input; `front_coded`,
+//! strings in little memory; `string_sort` and `dedup`, the strings in order, each once; `prefetch`; `section_filter`,
+//! the four sections and the IDs; `triples` and `encoding`, the encoded graph; `header` and `file`, its bytes;
+//! `building`.
 //! Rewriting: `retained`, which strings remain; `section_run`, a cursor over them; `sections` and `id_map`, the new
-//! sections and IDs; `rewriting`. Merging: `graph_strings`, the strings of a graph as indices; `merging`. `laws`:
-//! properties of all three.
+//! sections and IDs; `rewriting`. Merging: `graph_strings`, the strings of graphs as ascending runs; `run_merging`
+//! and `tournament`, the strings of all runs in order, each once; `merging`. `laws`: properties of all three.
 #![tactic(auto)]
 
 mod building;
@@ -38,6 +39,7 @@ mod dedup;
 mod encoding;
 mod fault;
 mod file;
+mod front_coded;
 mod graph_strings;
 mod header;
 mod id_map;
@@ -50,10 +52,12 @@ mod queue;
 mod reading;
 mod retained;
 mod rewriting;
+mod run_merging;
 mod section_filter;
 mod section_run;
 mod sections;
 mod string_sort;
+mod tournament;
 mod triples;
 
 pub use building::{build, build_bytes};

@@ -9,7 +9,7 @@ ghost use Rattle.hdt_build.specs.Inside.Rewriting.{HaveBlockSize, lists_of_secti
 ghost use Rattle.hdt_build.specs.Inside.Filtering.{IsInFilter, IsFilteredSection, AreSectionsOf};
 ghost use Rattle.hdt_build.specs.Reading.{HasDictionaryStrings};
 
-use crate::prefetch::prefetch_next;
+use crate::front_coded::FrontCoded;
 use crate::sections::SectionWriters;
 use hdt_dict::Role;
 use hdt_front::SectionWriter;
@@ -35,52 +35,37 @@ impl Filter<'_> {
     }
 }
 
-/// Prefetches those of the next strings that the filter selects, unless this was done; returns the index up to which
-/// strings are prefetched.
-fn prefetch_filtered(strings: &[&[u8]], filter: Filter<'_>, at: usize, seen: usize) -> usize
-    requires used { length filter.used.now ≡ length strings.now }
-    requires other { length filter.other.now ≡ length strings.now }
-{
-    prefetch_next(strings.len(), at, seen, |next| {
-        if next < strings.len() && filter.selects(next) {
-            strings[next]
-        } else {
-            &[]
-        }
-    })
-}
-
 /// Writes the section of a filter, and stores the ID of each of its strings at the index of the string. The first ID is
 /// `ids_before + 1`.
 fn write_filtered(
     alloc: Global,
-    strings: &[&[u8]],
+    strings: &FrontCoded,
     filter: Filter<'_>,
     block_size: u32,
     ids_before: u64,
     ids: &mut Vec<u64>,
 ) -> Result<SectionWriter, AllocError>
-    requires ascend { IsAscending (borrowed_texts strings.now) }
+    requires ascend { IsAscending strings.now }
     requires used { length filter.used.now ≡ length strings.now }
     requires other { length filter.other.now ≡ length strings.now }
     requires ids { length ids.old.items ≡ length strings.now }
     requires texts { (k : ℕ) → k < length strings.now → IsInFilter filter.used.now filter.other.now filter.wanted k
-        → HasNoZero (slice_index_or (borrowed_texts strings.now) k []) }
+        → HasNoZero (slice_index_or strings.now k []) }
     requires few { ids_before ≤ length strings.now }
     requires block { 1 ≤ block_size }
     ensures filled { IfOk result
-        (λ made. IsFilteredSection (borrowed_texts strings.now)
+        (λ made. IsFilteredSection strings.now
         (IsInFilter filter.entry.used.now filter.entry.other.now filter.entry.wanted) ids_before made.strings
         ids.old.items ids.new.items) }
     ensures block { IfOk result (λ made. made.block_size ≡ block_size) }
     ensures few { IfOk result (λ made. length made.strings ≤ length strings.now) }
 {
     let mut out = SectionWriter::new(alloc, block_size);
-    let mut seen = 0;
+    let mut text = Vec::new(alloc);
     for at in 0..strings.len() {
-        seen = prefetch_filtered(strings, filter, at, seen);
+        strings.decode(at, &mut text)?;
         if filter.selects(at) {
-            out.push(strings[at])?;
+            out.push(&text)?;
             ids[at] = ids_before + out.len();
         }
     }
@@ -101,16 +86,16 @@ pub(crate) struct SectionsAndIds {
 /// strings. Each section has the strings that triples use in its roles.
 pub(crate) fn write_sections(
     alloc: Global,
-    strings: &[&[u8]],
+    strings: &FrontCoded,
     triples: &[(u64, u64, u64)],
     block_size: u32,
 ) -> Result<SectionsAndIds, AllocError>
-    requires ascend { IsAscending (borrowed_texts strings.now) }
+    requires ascend { IsAscending strings.now }
     requires within { AreBelow (length strings.now) triples.now }
-    requires texts { HasDictionaryStrings (string_triples_of (borrowed_texts strings.now) triples.now) }
+    requires texts { HasDictionaryStrings (string_triples_of strings.now triples.now) }
     requires block { 1 ≤ block_size }
     ensures sections { IfOk result
-        (λ made. AreSectionsOf (borrowed_texts strings.now) triples.now
+        (λ made. AreSectionsOf strings.now triples.now
         (lists_of_sections made.sections) made.nodes.items made.predicates.items) }
     ensures blocks { IfOk result (λ made. HaveBlockSize block_size made.sections) }
 {

@@ -48,7 +48,7 @@ pub record IsValidCollector (c : TripleCollector) : Type 0 where
   pub interned : AreBelow (length c.terms) c.ids.items
   pub queued : IsValidQueue c.queue
 
--- the collector is valid, and a dictionary can have the strings of its triples
-pub record IsValidMerger (c : TripleCollector) : Type 0 where
-  pub sound : IsValidCollector c
-  pub texts : HasDictionaryStrings (collected_triples c)
+-- all indices of the triples are those of strings, and a dictionary can have the strings of the triples
+pub record IsValidMerger (xs : List (List ℕ)) (ids : List Triple) : Type 0 where
+  pub sound : AreBelow (length xs) ids
+  pub texts : HasDictionaryStrings (string_triples_of xs ids)

@@ -1,13 +1,11 @@
 use Rattle.std.proofs.Common.{arith}
-use Rattle.std.proofs.lemmas.List.{length-map}
-use Rattle.hdt_front.specs.Canonical.{borrowed_texts}
 use Rattle.hdt_build.proofs.Deduplication.{descends, none_listed, listed_more, all_listed}
 use Rattle.hdt_build.proofs.dedup.dedup_entries.Goals as goal
 
 pub loop-at-init : goal.loop-at-init
 loop-at-init c = record {
   listed =
-      rw c.in_ok-strings.ensures.items
+      rw c.in_ok-strings.ensures
       (none_listed c.args.list.now c.args.ordered.now c.in_ok-ranks.ranks.items
       (omega (arith, c.in_ok-ranks.ensures.len, c.len.ensures, c.in_ok-ranks.ranks.ok.0)));
 }
@@ -16,7 +14,7 @@ pub returns-in_default-clause-unsorted : goal.returns-in_default-clause-unsorted
 returns-in_default-clause-unsorted c = λ _.
     let l = c.loop-at in
     descends c.args.list.now c.args.ordered.now c.requires l.at c.loop-at-test.true
-    (borrowed_texts l.strings.items) l.ranks.items l.invariant.listed
+    l.strings l.ranks.items l.invariant.listed
     (rw c.get.ensures at (c.in_ok-rank.ensures.less c.in_default.is))
 
 pub loop-at-preserved : goal.loop-at-preserved
@@ -26,13 +24,13 @@ loop-at-preserved c =
     let index = rw c.in-Some.is at c.in_ok-rank.ensures.index in
     record {
       listed = listed_more c.args.list.now c.args.ordered.now c.requires l.at c.loop-at-test.true
-          (borrowed_texts l.strings.items) l.ranks.items l.invariant.listed
-          (borrowed_texts c.push_distinct.new.strings.items) c.in-Some.rank
+          l.strings l.ranks.items l.invariant.listed
+          c.push_distinct.new.self c.in-Some.rank
           (rw c.get.ensures at joined)
-          (omega (arith, index, length-map c.push_distinct.new.strings.items (λ v. v.now)));
+          index;
     }
 
 pub returns-clause-ranks : goal.returns-clause-ranks
 returns-clause-ranks c = all_listed c.args.list.now c.args.ordered.now c.requires
-    (borrowed_texts c.loop-at.strings.items) c.loop-at.ranks.items c.loop-at.at c.loop-at-test.false
+    c.loop-at.strings c.loop-at.ranks.items c.loop-at.at c.loop-at-test.false
     c.loop-at.invariant.listed

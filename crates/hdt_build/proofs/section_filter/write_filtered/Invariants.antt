@@ -1,5 +1,5 @@
 use Rattle.std.proofs.Common.{◌≡◌, ◌≤◌, [], length, get_or}
-use Rattle.hdt_front.specs.Canonical.{borrowed_texts}
+use Rattle.hdt_front.specs.Section.{before}
 use Rattle.hdt_build.specs.Inside.Filtering.{IsInFilter}
 use Rattle.hdt_build.proofs.RunMerging.{InWork, Ahead}
 use Rattle.hdt_build.proofs.section_filter.write_filtered.Given as goal
@@ -7,9 +7,10 @@ use Rattle.hdt_build.proofs.section_filter.write_filtered.Given as goal
 abbrev pub invariant-loop-at : goal.invariant-loop-at
 invariant-loop-at l = record {
   filled : InWork (IsInFilter l.fn.filter.used.now l.fn.filter.other.now l.fn.filter.wanted)
-      (λ k. get_or (borrowed_texts l.strings) k [])
-      (Ahead l.at (length (borrowed_texts l.strings)) (length (borrowed_texts l.strings))
-      (length (borrowed_texts l.strings))) l.fn.ids_before l.out.strings l.fn.ids.items l.ids.items;
+      (λ k. get_or l.strings k [])
+      (Ahead l.at (length l.strings) (length l.strings)
+      (length l.strings)) l.fn.ids_before l.out.strings l.fn.ids.items l.ids.items;
   block : l.out.block_size ≡ l.block_size;
   few : length l.out.strings ≤ l.at;
+  text : l.text.items ≡ before l.strings l.at;
 }

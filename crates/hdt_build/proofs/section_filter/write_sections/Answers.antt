@@ -1,7 +1,5 @@
 use Rattle.std.proofs.Common.{ℕ, subst, sym, arith}
-use Rattle.std.proofs.lemmas.List.{length-map}
 use Rattle.hdt_build.specs.Inside.Collecting.{AreBelow}
-use Rattle.hdt_front.specs.Canonical.{borrowed_texts}
 use Rattle.hdt_wire.specs.declared.Role.TheVariants.{Subject, Predicate, Object}
 use Rattle.hdt_build.proofs.FilteredSections.{used_text, mark_uses, are_parts}
 use Rattle.hdt_build.proofs.section_filter.write_sections.Goals as goal
@@ -28,7 +26,6 @@ write_filtered-requires-4-clause-texts c =
 
 pub returns-clause-sections : goal.returns-clause-sections
 returns-clause-sections c =
-    let long = length-map c.args.strings.now (λ v. v.now) in
     let a = rw (c.as_slice.ensures.value, c.as_slice-2.ensures.value) at c.in_ok-shared.ensures.filled in
     let b = rw (
       c.as_slice-3.ensures.value,
@@ -41,13 +38,13 @@ returns-clause-sections c =
       c.as_slice-8.ensures.value,
       c.len-count.ensures,
     ) at c.in_ok-objects.ensures.filled in
-    let xs = borrowed_texts c.args.strings.now in
-    let below = subst (λ (n : ℕ). AreBelow n c.args.triples.now) (sym long) c.requires.within in
+    let xs = c.args.strings.now in
+    let below = c.requires.within in
     let marks = mark_uses xs c.args.triples.now c.requires.ascend below in
     are_parts xs c.args.triples.now c.requires.ascend below c.in_ok-s.s.items c.in_ok-p.p.items c.in_ok-o.o.items
-    (marks Subject _ (omega (arith, long, c.in_ok-s.ensures.len)) c.in_ok-s.ensures.exact)
-    (marks Predicate _ (omega (arith, long, c.in_ok-p.ensures.len)) c.in_ok-p.ensures.exact)
-    (marks Object _ (omega (arith, long, c.in_ok-o.ensures.len)) c.in_ok-o.ensures.exact)
+    (marks Subject _ (omega (arith, c.in_ok-s.ensures.len)) c.in_ok-s.ensures.exact)
+    (marks Predicate _ (omega (arith, c.in_ok-p.ensures.len)) c.in_ok-p.ensures.exact)
+    (marks Object _ (omega (arith, c.in_ok-o.ensures.len)) c.in_ok-o.ensures.exact)
     _ _ _ _ _ _ _ _ _ _ a b p o
-    (omega (arith, long, c.in_ok-node_ids.ensures.len, c.in_ok-node_ids.node_ids.ok.0))
-    (omega (arith, long, c.in_ok-predicate_ids.ensures.len, c.in_ok-predicate_ids.predicate_ids.ok.0))
+    (omega (arith, c.in_ok-node_ids.ensures.len, c.in_ok-node_ids.node_ids.ok.0))
+    (omega (arith, c.in_ok-predicate_ids.ensures.len, c.in_ok-predicate_ids.predicate_ids.ok.0))

@@ -2,7 +2,7 @@ use Rattle.hdt_file.specs.Graph.{graph_view}
 use Rattle.hdt_wire.specs.declared.Role.TheVariants.{Subject, Predicate}
 use Rattle.hdt_build.proofs.GraphIndices.{later_indices}
 use Rattle.hdt_build.proofs.IndexTriples.{goes_on}
-use Rattle.hdt_build.proofs.graph_strings.intern_graph.Goals as goal
+use Rattle.hdt_build.proofs.graph_strings.append_graph.Goals as goal
 
 pub returns-clause-maps : goal.returns-clause-maps
 returns-clause-maps c =

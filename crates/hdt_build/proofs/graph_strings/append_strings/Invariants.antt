@@ -4,7 +4,7 @@ use Rattle.hdt_file.specs.Graph.{graph_view}
 use Rattle.hdt_build.specs.Inside.Rewriting.{IsProgressOf}
 use Rattle.hdt_build.specs.Inside.SortedEntries.{ExtendsList}
 use Rattle.hdt_build.proofs.GraphIndices.{AreFirstIndices}
-use Rattle.hdt_build.proofs.graph_strings.intern_strings.Given as goal
+use Rattle.hdt_build.proofs.graph_strings.append_strings.Given as goal
 
 abbrev pub invariant-strings : goal.invariant-strings
 invariant-strings l =
