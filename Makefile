@@ -8,6 +8,7 @@
 #   make uninstall  remove what `make install` has installed there
 #   make wheel      make a Python wheel with the library inside, in out/
 #   make deb        make a Debian package, in out/
+#   make release    make wheel, Debian package, source archive, SBOM and SHA256SUMS, in out/release/
 #   make rust       build and test the Rust crate, in rust/ (needs cargo)
 #   make jar        build the Java package, for Apache Jena, in out/java/ (needs a JDK and Debian's jars)
 PREFIX = /usr/local
@@ -16,7 +17,7 @@ PYTHON = /usr/bin/python3
 
 export PREFIX DESTDIR
 
-.PHONY: build test prove dist install uninstall wheel deb rust jar clean
+.PHONY: build test prove dist install uninstall wheel deb release rust jar clean
 
 build:
 	@$(PYTHON) -B -m tools.build
@@ -41,6 +42,9 @@ wheel:
 
 deb:
 	@tools/package deb
+
+release:
+	@$(PYTHON) -B -m tools.release
 
 rust:
 	@folder=$$(tools/current) && HDT_LIB_DIR="$(CURDIR)/$$folder" cargo test -q --offline --manifest-path rust/Cargo.toml

@@ -11,10 +11,9 @@ from hypothesis import settings
 
 from support.built import PROGRAM, SAMPLES, STATIC_LIBRARY, TOP
 from support.c_library import CC, HEADER, WARNINGS, WRAPPED, succeeds
-from support.code_blocks import blocks
 from support.program import Result, Word, run
 
-SOURCE = TOP / "tests/support/sharing.c"
+SOURCE, SERVER = TOP / "tests/support/sharing.c", TOP / "c/server.c"
 # The random threads run for so many seconds: with --hypothesis-profile long for a minute.
 SECONDS = 60 if settings.default.max_examples > 1000 else 2
 THREADS = 8
@@ -53,14 +52,8 @@ def sharing(tmp_path_factory: pytest.TempPathFactory) -> Path:
 
 @pytest.fixture(scope="module")
 def server(tmp_path_factory: pytest.TempPathFactory) -> Path:
-    """The server with threads of docs/C.md."""
-    return compiled_server(tmp_path_factory.mktemp("server"), server_text())
-
-
-def server_text() -> str:
-    """The text of the program in docs/C.md that has threads."""
-    (found,) = [block.text for block in blocks("docs/C.md", "c") if "pthread_create" in block.text]
-    return found
+    """The program c/server.c."""
+    return compiled_server(tmp_path_factory.mktemp("server"), SERVER.read_text())
 
 
 def compiled_server(folder: Path, text: str) -> Path:
@@ -114,8 +107,18 @@ def test_random_threads_under(tool: str, sharing: Path, files: list[Path]) -> No
 @needs_valgrind
 @pytest.mark.parametrize("tool", TOOLS)
 def test_server_under(tool: str, server: Path) -> None:
-    """The server of docs/C.md: no error, and its answers."""
+    """The server: no error, and its answers."""
     assert under(tool, server, SAMPLES / "three.hdt") == Result(0, b"u:a 2\nu:b 1\nu:c 0\n", b"")
+
+
+@pytest.mark.parametrize("name", ["server", "replace"])
+def test_programs_with_threads(name: str, tmp_path: Path) -> None:
+    """The programs of c/ with threads compile without a warning, answer, and say what is wrong with a file."""
+    program = compiled_server(tmp_path, (TOP / f"c/{name}.c").read_text())
+    answers = {"server": b"u:a 2\nu:b 1\nu:c 0\n", "replace": b"3 3\n"}
+    assert run([program, SAMPLES / "three.hdt"]) == (0, answers[name], b"")
+    assert run([program, "/nowhere"], env={"LC_ALL": "C"}) == (1, b"", b"FILE: No such file or directory\n")
+    assert run([program, TOP / "README.md"]) == (1, b"", b"reason 4\n")
 
 
 @needs_valgrind
@@ -123,7 +126,7 @@ def test_server_under(tool: str, server: Path) -> None:
 def test_one_handle_in_two_threads_is_seen(tool: str, tmp_path: Path) -> None:
     """These tools see a handle that several threads use at the same time, so their silence says something."""
     own, one = "serve, &handles[i].graph)", "serve, &handles[0].graph)"
-    text = server_text()
+    text = SERVER.read_text()
     assert text.count(own) == 1
     server = compiled_server(tmp_path, text.replace(own, one))
     done = under(tool, server, SAMPLES / "three.hdt")

@@ -1,7 +1,7 @@
 """The documents: programs and commands run as they are written, links lead somewhere, words are spelled as in English.
 
 The blocks of docs/JAVA.md are run by test_java, those in Rust of docs/RUST.md and docs/SERVERS.md by test_rust and
-test_servers, those of docs/RATTLE.md compared by `tools.promises`, and the servers of README and docs/GUIDE.md run by
+test_servers, those of docs/RATTLE.md compared by `tools.promises`, and the servers of README and docs/PUBLISH.md run by
 test_fragments_servers.
 """
 
@@ -22,29 +22,32 @@ from support.code_blocks import Block, blocks, documents, man_page_examples
 from support.program import Word, run
 from support.python_package import ENVIRONMENT
 from support.tools import tool
-from tools import contracts, promises
+from tools import anatomy, contracts, promises
 
 # The blocks that each document has, by language: a document with fewer fails, so that none is silently left untested.
 BLOCKS = {
     "CONTRIBUTING.md": {"sh": 1},
     "README.md": {"c": 1, "python": 1, "sh": 3, "text": 1},
-    "docs/C.md": {"c": 2, "sh": 1},
-    "docs/GUIDE.md": {"python": 4, "sh": 6, "text": 7},
+    "docs/AUDIT.md": {"python": 1, "sh": 1},
+    "docs/C.md": {"c": 1, "sh": 1},
+    "docs/GUIDE.md": {"python": 2, "sh": 6, "text": 4},
     "docs/JAVA.md": {"java": 1, "text": 2, "turtle": 1},
     "docs/MIGRATE.md": {"python": 2, "sh": 1},
     "docs/PROBES.md": {"sh": 1},
+    "docs/PUBLISH.md": {"sh": 2, "text": 7},
     "docs/PYTHON.md": {"python": 8},
     "docs/RATTLE.md": {"rust": 5, "text": 3},
-    "docs/RUST.md": {"rs": 3, "toml": 1},
-    "docs/SERVERS.md": {"c": 1, "python": 1, "rs": 1},
+    "docs/RUST.md": {"rs": 1, "toml": 1},
+    "docs/SERVERS.md": {"python": 1, "rs": 1},
+    "docs/SIZING.md": {"text": 1},
 }
 # At least so many commands do the documents have in their text, besides these blocks.
 COMMANDS = 54
 # Words that are not in the dictionary of British English. Names with capitals or digits are not looked up.
 WORDS = set("""
-allocator cardinalities cardinality cgroup checksums cpp Dask datatype endian enum Fuseki gcc glibc gunicorn gzip hdt
-inode Jena lossy mpi nginx ns nullable numpy ontologies parser prefetching prover py pytest rdflib seq serdi setgid
-setuid setuptools syntaxes Tickmarl toolchain txt umask unescaped untrusted utils xored
+allocator cardinalities cardinality cgroup checksums cpp cron Dask datatype endian enum Fuseki gcc glibc gunicorn gzip
+hdt inode Jena lossy mpi nginx ns nullable numpy ontologies parser prefetching prover py pytest rdflib seq serdi
+setgid setuid setuptools syntaxes Tickmarl toolchain txt umask unescaped untrusted utils xored
 """.split())
 # At least so many examples in Rust do the comments of the sources have.
 EXAMPLES = 36
@@ -86,6 +89,11 @@ def clone(tmp_path: Path) -> Path:
 def environment(folder: Path) -> dict[str, str]:
     """The environment of a reader who works in a folder."""
     return {**ENVIRONMENT, "HOME": str(folder.parent / "home"), "CC": CC, "MAKEFLAGS": "", "MAKELEVEL": ""}
+
+
+def test_readme_is_short() -> None:
+    """README has at most 9 KiB."""
+    assert len((TOP / "README.md").read_bytes()) <= 9 * 1024
 
 
 # ---- blocks
@@ -146,7 +154,7 @@ def test_python_programs(document: str, number: int, clone: Path) -> None:
 
 def shell(text: str, folder: Path) -> tuple[int, str]:
     """The status and the output of shell commands in a folder. A failing test shows what they print as an error."""
-    done = run(["bash", "-euo", "pipefail", "-c", text], cwd=folder, env=environment(folder))
+    done = run(["bash", "-euo", "pipefail", "-c", text], cwd=folder, env=environment(folder), seconds=300)
     print(done.err.decode())
     return done.status, done.out.decode()
 
@@ -230,6 +238,13 @@ def test_labels_of_the_guide(clone: Path) -> None:
     assert found == (0, "".join(f"{line}\n" for line, is_german in zip(lines, tags.values()) if is_german))
 
 
+@pytest.mark.skipif(not Path("/usr/bin/time").exists(), reason="there is no time (Debian: time)")
+def test_sample_of_sizing(clone: Path) -> None:
+    """A sample is built, and its memory and time are printed."""
+    status, out = shell(f"({block_with('docs/SIZING.md', 'sample.nt')}) 2>&1", clone)
+    assert status == 0 and re.fullmatch(r"built 2 0 2 1 2 \d+\n\d+ kB, \d\.\d+ s\n", out), out
+
+
 def test_examples_of_the_man_page(clone: Path) -> None:
     """The commands in the section EXAMPLES of man/hdt.1 run one after another."""
     text = man_page_examples()
@@ -271,6 +286,12 @@ def test_commands_exist(command: str) -> None:
 def test_how_many_commands() -> None:
     """The documents have at least as many commands in their text as they had."""
     assert len(commands_in_text()) >= COMMANDS
+
+
+def test_picture_of_the_format() -> None:
+    """The picture of docs/FORMAT.md is the one that `tools.anatomy` draws."""
+    assert anatomy.PICTURE.read_text() == anatomy.picture()
+    assert "](anatomy.svg)" in (TOP / "docs/FORMAT.md").read_text()
 
 
 # ---- spelling
@@ -385,6 +406,14 @@ def test_lines_of_definitions() -> None:
     total = out.decode().splitlines()[-1].split(" | ")
     assert (status, total[0]) == (0, "| together")
     assert f"counts the {total[2]} lines" in PROOFS
+
+
+def test_files_of_the_audit() -> None:
+    """Each file that AUDIT names is there, and the tests that it runs."""
+    text = (TOP / "docs/AUDIT.md").read_text()
+    named_files = set(re.findall(r"((?:crates|tests|dist)/[\w/]+\.\w+|dist/MANIFEST)", text))
+    assert [name for name in sorted(named_files) if not (TOP / name).exists()] == []
+    assert len(named_files) >= 7
 
 
 def test_files_of_the_architecture() -> None:

@@ -396,13 +396,13 @@ def test_four_lines_of_readme(tmp_path: Path) -> None:
 
 
 @pytest.mark.parametrize("server", ["trial", "gunicorn", "nginx"])
-def test_servers_of_the_guide(server: str, tmp_path: Path) -> None:
-    """The commands and configurations of the guide serve the sample, on other ports and paths."""
+def test_servers_of_the_page(server: str, tmp_path: Path) -> None:
+    """The commands and configurations of docs/PUBLISH.md serve the sample, on other ports and paths."""
     if server != "trial" and not (os.path.exists(GUNICORN) and sys.version_info >= (3, 11)):
         pytest.skip("there is no gunicorn (Debian: gunicorn), or no TOML")
     if server == "nginx" and not os.path.exists(NGINX):
         pytest.skip("there is no nginx (Debian: nginx-light)")
-    section = (TOP / "docs/GUIDE.md").read_text().partition("## Serve files on the web")[2]
+    section = (TOP / "docs/PUBLISH.md").read_text().partition("## Serve files on the web")[2]
     trial, config, gunicorn, location = re.findall(r"^```text\n(.*?)^```$", section, re.M | re.S)
     port, front = free_port(), free_port()
     url_of = f"http://127.0.0.1:{front if server == 'nginx' else port}"

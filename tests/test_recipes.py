@@ -58,6 +58,7 @@ def recipes_of(document: str, text: str) -> list[Recipe]:
     found, pipefail = [], False
     for line in re.sub(r"\\\n\s*|(?<=[|&])\s*\n\s*", " ", text).splitlines():
         command = re.sub(r"(?:^|\s+)#\s.*", "", line).strip()
+        command = re.sub(r"^/usr/bin/time (?:-f '[^']*' )?", "", command)  # (which ends with the command's status)
         pipefail = pipefail or command == "set -o pipefail"
         # (The Python package's command builds of several inputs by itself, as safely as `build`.)
         if re.match(r"tickmarl-hdt |python3 -m hdt ", command):

@@ -198,13 +198,13 @@ def test_cargo_doc(environment: Mapping[str, str]) -> None:
 # ---- a user's program
 
 
-# The programs of documents that end, by document and number.
-ENDING = {f"{document.name} {number}": program for document in (DOCUMENT, README)
-          for number, program in enumerate(programs(document)) if "TcpListener" not in program}
+# The programs of documents, by document and number.
+PROGRAMS = {f"{document.name} {number}": program
+            for document in (DOCUMENT, README) for number, program in enumerate(programs(document))}
 
 
 @needs_cargo
-@pytest.mark.parametrize("program", ENDING.values(), ids=ENDING)
+@pytest.mark.parametrize("program", PROGRAMS.values(), ids=PROGRAMS)
 def test_program_of_a_document(program: str, environment: Mapping[str, str], tmp_path: Path) -> None:
     """The program compiles in an empty folder without a warning, and prints what its comments say."""
     folder = user(tmp_path / "user", program)

@@ -1,4 +1,4 @@
-"""Graphs of the Rust crate in threads: at random, under valgrind, and the server of docs/RUST.md."""
+"""Graphs of the Rust crate in threads: at random, under valgrind, and the server of its examples."""
 
 from __future__ import annotations
 
@@ -15,7 +15,7 @@ from hypothesis import settings
 from support.built import PROGRAM, SAMPLES, TOP
 from support.c_library import succeeds
 from support.program import run
-from support.rust_crate import DOCUMENT, compiled, needs, needs_cargo, programs
+from support.rust_crate import CRATE, compiled, needs, needs_cargo
 
 SOURCE = TOP / "tests/support/rust_threads.rs"
 # The random threads run for so many seconds: with --hypothesis-profile long for a minute.
@@ -75,8 +75,8 @@ def test_at_random_under_valgrind(threads: Path, files: list[Path]) -> None:
 
 @pytest.fixture
 def address(tmp_path_factory: pytest.TempPathFactory) -> Iterator[tuple[str, int]]:
-    """Where the server of docs/RUST.md serves the sample."""
-    (text,) = (it for it in programs(DOCUMENT) if "TcpListener" in it)
+    """Where the server of rust/examples serves the sample."""
+    text = (CRATE / "examples/server.rs").read_text()
     command: list[str | Path] = [compiled(tmp_path_factory, text), SAMPLES / "three.hdt", "127.0.0.1:0"]
     with subprocess.Popen(command, stdout=subprocess.PIPE, text=True) as server:
         assert server.stdout is not None
@@ -85,7 +85,7 @@ def address(tmp_path_factory: pytest.TempPathFactory) -> Iterator[tuple[str, int
         server.kill()
 
 
-def test_server_of_the_document(address: tuple[str, int]) -> None:
+def test_server_of_the_examples(address: tuple[str, int]) -> None:
     """It answers many connections at once, also while as many as it has threads but one say nothing."""
     of_a, of_b = b'<u:a> <u:p> <u:b> .\n<u:a> <u:q> "x" .\n', b"<u:b> <u:p> <u:a> .\n"
     answers = {b"u:a": of_a, b"u:b": of_b, b"u:c": b"", b"": b""}

@@ -1,4 +1,4 @@
-"""docs/SERVERS.md: its program in Rust is run, as test_documents runs those in C and Python, and the page is short."""
+"""docs/SERVERS.md: its program in Rust is run, as test_documents runs that in Python, c/replace.c too; it is short."""
 
 from __future__ import annotations
 
@@ -8,7 +8,6 @@ from pathlib import Path
 import pytest
 
 from support.built import SAMPLES, TOP
-from support.code_blocks import blocks
 from support.program import run
 from support.rust_crate import compiled, needs_cargo, programs
 from test_c_sharing import TOOLS, compiled_server, needs_valgrind, under
@@ -25,8 +24,8 @@ def test_size() -> None:
 @pytest.mark.parametrize("tool", TOOLS)
 def test_c_program_under(tool: str, tmp_path: Path) -> None:
     """The program in C uses no memory that is freed, frees all, and has no race."""
-    (block,) = blocks(PAGE, "c")
-    assert under(tool, compiled_server(tmp_path, block.text), SAMPLES / "three.hdt") == (0, b"3 3\n", b"")
+    program = compiled_server(tmp_path, (TOP / "c/replace.c").read_text())
+    assert under(tool, program, SAMPLES / "three.hdt") == (0, b"3 3\n", b"")
 
 
 @needs_cargo

@@ -221,6 +221,8 @@ def test_measuring(tmp_path: Path) -> None:
     speed, memory = tool("speed", "200", "--program", fake), tool("memory", "--scale", "0.00001")
     assert [len(re.findall(rb"^\| hdt .*\d \|$", speed.out, re.M)), speed.err] == [3 * 13, b""]
     assert [len(re.findall(rb"^\| .* \| 59 to 100 \|", memory.out, re.M)), memory.err] == [5, b""]
+    table = (TOP / "docs/SIZING.md").read_text()
+    assert [line for line in memory.out.decode().splitlines()[2:4] if line not in table] == []
     words = ["-B", "-m", "tools.speed_python", str(SAMPLES / "three.hdt"), "--times", "10", "--rounds", "1"]
     python = run([sys.executable, *words], cwd=TOP, env={"HDT_LIBRARY": str(SHARED_LIBRARY)})
     assert [len(re.findall(rb"^\| [a-z].*\d \|$", python.out, re.M)), python.err] == [10 + 5, b""]

@@ -1,14 +1,15 @@
-"""Measure the peak memory of commands by kind of document, and print the table of docs/PERFORMANCE.md in Markdown.
+"""Measure the peak memory and the CPU time of commands by kind of document, and print the table of docs/SIZING.md.
 
     python3 -m tools.memory                  all kinds, in their sizes
     python3 -m tools.memory --scale 0.5      documents half as large
 
 A cell has bytes a triple: of a line of the document, of the HDT file, and of a command's peak memory without the
-program's own, which it has on a file of three triples. `answer` opens a file and gets no request; its cell is without
-the file. So is that of `dump`, which has MB in all, since it hardly grows with the text. Buffers grow in steps, so a
-document is made in five sizes, of which one is just above a power of two. The largest cell counts. A peak that is
-hidden by that of this process, some 16 MB, is printed as `?`: make documents larger then. Peaks hardly differ from run
-to run, also on a busy machine. It is no part of the gate.
+program's own, which it has on a file of three triples. `merge` makes one file of those of the document's two halves.
+`answer` opens a file and gets no request; its cell is without the file. So is that of `dump`, which has MB in all,
+since it hardly grows with the text. Buffers grow in steps, so a document is made in five sizes, of which one is just
+above a power of two. The largest cell counts. A peak that is hidden by that of this process, some 16 MB, is printed as
+`?`: make documents larger then. Peaks hardly differ from run to run, also on a busy machine. The last cells have CPU
+microseconds a triple, the median of the sizes, which do depend on how busy the machine is. It is no part of the gate.
 """
 
 from __future__ import annotations
@@ -18,6 +19,7 @@ import math
 import os
 import random
 import re
+import statistics
 import subprocess
 import sys
 import tempfile
@@ -87,7 +89,8 @@ KINDS = {
 }
 
 
-COLUMNS = ["text", "file", "build", "answer beyond the file", "info", "rewrite", "verify", "dump beyond the file, MB"]
+COLUMNS = ["text", "file", "build", "merge", "open beyond the file", "info, rewrite", "dump beyond the file, MB"]
+TIMES = [f"{it}, µs" for it in ("build", "merge", "open", "rewrite", "dump")]
 
 
 def floor(program: Path) -> int:
@@ -103,26 +106,35 @@ def floor(program: Path) -> int:
     return int(found[1]) * 1024
 
 
-def peak(*words: speed.Word) -> int:
-    """Return the peak in bytes of a command whose output is thrown away. Raises speed.Failed."""
-    return speed.run_once(words, Path(os.devnull)).memory
+def halves(document: Path) -> list[Path]:
+    """Write the two halves of a document beside it, and return their paths."""
+    subprocess.run(["split", "-n", "l/2", document, document.with_name("half-")], check=True)
+    return [document.with_name(it) for it in ("half-aa", "half-ab")]
 
 
-def measure(program: Path, folder: Path, kind: Kind, count: int) -> list[float]:
+def measure(program: Path, folder: Path, kind: Kind, count: int) -> tuple[list[float], list[float]]:
     """Return the cells of a document with so many triples; one that is hidden is infinite. Raises speed.Failed."""
-    document, file, again = (folder / it for it in ("document.nt", "file.hdt", "again.hdt"))
+    document, file, again, one, other = (folder / it for it in ("document.nt", "file.hdt", "again.hdt", "1", "2"))
     speed.write_lines(document, kind.lines, count)
-    own, hidden = floor(program), peak(program, "verify", TOP / "samples/three.hdt") * 1.05
+    own = floor(program)
+    hidden = speed.run_once([program, "verify", TOP / "samples/three.hdt"], Path(os.devnull)).memory * 1.05
 
-    def cell(*words: speed.Word) -> float:
-        found = peak(program, *words)
-        return found - own if found > hidden else math.inf
+    def cost(*words: speed.Word) -> tuple[float, float]:
+        """Return the peak of a command, without the program's own, and its CPU seconds."""
+        found = speed.run_once([program, *words], Path(os.devnull))
+        return found.memory - own if found.memory > hidden else math.inf, found.cpu
 
-    built = cell("build", document, file)
+    for half, path in zip(halves(document), (one, other)):
+        cost("build", half, path)
+        half.unlink()
+    text = document.stat().st_size
+    build, merge = cost("build", document, file), cost("merge", one, other, again)
     size = file.stat().st_size
-    peaks = [cell("info", file), cell("rewrite", file, again), cell("verify", file)]
-    cells = [document.stat().st_size, size, built, cell("answer", file) - size, *peaks]
-    return [*(it / count for it in cells), (cell("dump", file) - size) / 1_000_000]
+    info, rewrite = cost("info", file), cost("rewrite", file, again)
+    answer, dump = cost("answer", file), cost("dump", file)
+    cells = [text, size, build[0], merge[0], answer[0] - size, max(info[0], rewrite[0])]
+    times = [it[1] / count * 1_000_000 for it in (build, merge, answer, rewrite, dump)]
+    return [*(it / count for it in cells), (dump[0] - size) / 1_000_000], times
 
 
 def sizes(most: int) -> list[int]:
@@ -132,12 +144,14 @@ def sizes(most: int) -> list[int]:
 
 def print_table(program: Path, folder: Path, scale: float) -> None:
     """Print the table, with documents whose sizes are multiplied by `scale`. Raises speed.Failed, OSError."""
-    print(f"| document | triples | {' | '.join(COLUMNS)} |\n|{'---|' * (len(COLUMNS) + 2)}")
+    columns = ["document", "triples", *COLUMNS, *TIMES]
+    print(f"| {' | '.join(columns)} |\n|{'---|' * len(columns)}")
     for name, kind in KINDS.items():
         counts = sizes(max(int(kind.triples * scale), 100))
         rows = [measure(program, folder, kind, it) for it in counts]
-        most = [max(column) for column in zip(*rows)]
-        cells = [f"{it:,.0f}" if it < math.inf else "?" for it in most]
+        most = [max(column) for column in zip(*(cells for cells, _ in rows))]
+        times = [statistics.median(column) for column in zip(*(times for _, times in rows))]
+        cells = [*(f"{it:,.0f}" if it < math.inf else "?" for it in most), *(f"{it:.2f}" for it in times)]
         print(f"| {name} | {min(counts):,} to {max(counts):,} | {' | '.join(cells)} |", flush=True)
 
 
@@ -150,7 +164,9 @@ def main() -> int:
         words.error("--scale is above 0, and at most 100")
     try:
         program = given.program.resolve() if given.program else built() / "hdt"
-        print(f"{datetime.date.today()}; bytes a triple, of dump MB\n", flush=True)
+        if not os.access(program, os.X_OK):
+            raise speed.Failed(f"{program} is no program")
+        print(f"{datetime.date.today()}; bytes and microseconds a triple, of dump MB\n", flush=True)
         with tempfile.TemporaryDirectory(prefix="hdt-memory-", dir=speed.MEMORY) as folder:
             print_table(program, Path(folder), given.scale)
     except (OSError, speed.Failed) as why:
