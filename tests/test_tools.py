@@ -21,6 +21,7 @@ from support.parts_mutants import WRONG as PARTS_WRONG
 from support.program import Result, run
 from support.python_mutants import WRONG as PYTHON_WRONG
 from support.rdflib_mutants import WRONG as RDFLIB_WRONG
+from support.sparql_mutants import WRONG as SPARQL_WRONG
 from support.tools import tool
 
 MODULES = sorted(it.stem for it in (TOP / "tools").glob("*.py") if "argparse" in it.read_text())
@@ -116,7 +117,8 @@ def test_black() -> None:
 
 
 @pytest.mark.parametrize("package, wrong", [
-    ("", PYTHON_WRONG), ("", FORMATS_WRONG), ("/rdflib", RDFLIB_WRONG), ("/parts", PARTS_WRONG)])
+    ("", PYTHON_WRONG), ("", FORMATS_WRONG), ("/rdflib", RDFLIB_WRONG), ("/parts", PARTS_WRONG),
+    ("/sparql", SPARQL_WRONG)])
 def test_wrong_bodies_of_packages(package: str, wrong: Wrong) -> None:
     """What each wrong body of a Python package replaces is in its module."""
     sources = {name: (TOP / f"python/hdt{package}/{name}.py").read_text() for name in wrong}
