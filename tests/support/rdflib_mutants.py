@@ -146,7 +146,7 @@ WRONG = {
         ("an error is false", "        if error:\n            raise error\n        return _truth(not deciding)\n",
          "        return _truth(not deciding)\n"),
         ("IN compares terms", 'if compared("=", term, other(solution)):', "if term == other(solution):"),
-        ("an ill-typed boolean is true", "return term.value is True", "return term.value is not False"),
+        ("an ill-typed boolean is true", "return term.value is True", "return True"),
         ("NaN is true", "number and number.value == number.value and number.value", "number and number.value"),
         ("a comparison is a bool", "known[key] = is_so if is_test else _truth(is_so)", "known[key] = is_so"),
         ("ill-typed values break a query",
