@@ -236,8 +236,8 @@ def test_formats_of_solutions(site: Site) -> None:
 
 def test_literals_of_a_query(site: Site) -> None:
     """A literal of a query has the text that is written; an expression is evaluated over IDs, as the standard says."""
-    query = 'SELECT ("01"^^<%s#integer> AS ?x) (isNumeric("x"^^<%s#integer>) AS ?y) {}' % (2 * (XSD,))
-    assert site.get(query, "text/csv").text == "x,y\r\n01,false\r\n"
+    query = 'SELECT ("01"^^<%s#integer> AS ?x) (isNumeric("x"^^<%s#integer>) AS ?y) (1e0 AS ?z) {}' % (2 * (XSD,))
+    assert site.get(query, "text/csv").text == "x,y,z\r\n01,false,1e0\r\n"
 
 
 @pytest.mark.parametrize("accept, media", [

@@ -188,7 +188,6 @@ WRONG = {
          "return substituted or seen & known <= self.scope(part.p1).certain", "return True"),
         ("FILTER is pushed by what it lacks",
          "return substituted or self._sees(part.expr) & known <= self.scope(part.p).certain", "return True"),
-        ("BIND is pushed with its variable", 'if name == "Extend" and part.var in known or', "if"),
         ("MINUS is pushed by what it lacks",
          "return self.is_pushable(part.p1, known) and self.scope", "return True or self.scope"),
         ("MINUS of what may lack is NOT EXISTS",
@@ -199,7 +198,8 @@ WRONG = {
         ("a query's values are lost",
          "self.base: Row = tuple(bindings.values())", "self.base: Row = (None,) * len(bindings)"),
         ("terms are made all at once",
-         "for batch in portions(row for batch in made", "for batch in ([*row] for row in [made"),
+         "portions(row for batch in made.run([[compiler.base]]) for row in batch)",
+         "[[row for batch in made.run([[compiler.base]]) for row in batch]]"),
     ],
     "_counts": [
         ("a path is counted", "isinstance(triple[1], Path) or len(set", "len(set"),
