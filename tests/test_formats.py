@@ -9,6 +9,7 @@ import pickle
 import shutil
 import sys
 import tempfile
+import threading
 import tracemalloc
 from collections.abc import Iterator
 from pathlib import Path
@@ -153,7 +154,8 @@ class Slow(io.RawIOBase):
 def test_files_that_give_little(tmp_path: Path) -> None:
     """A file may give a byte at a time, also of a compressed one, but not nothing."""
     assert built(tmp_path, Slow(LINES.encode())) == GRAPH
-    assert built(tmp_path, Slow(gzip.compress(LINES.encode()))) == GRAPH
+    for compress in COMPRESS.values():
+        assert built(tmp_path, Slow(compress(LINES.encode()))) == GRAPH
     assert "gave nothing" in fails(tmp_path, Slow(LINES.encode(), nothing=True), TypeError)
 
 
@@ -204,8 +206,16 @@ def test_a_folder(tmp_path: Path) -> None:
     shutil.rmtree(folder)
     folder.mkdir()
     assert f"{folder}: no file in this folder has a name that ends with .nt" in fails(tmp_path, folder, ValueError)
-    os.mkfifo(folder / "pipe.nt")
-    assert fails(tmp_path, folder, ValueError) == f"{folder}/pipe.nt is no regular file"
+    for name in "fcahbgde":
+        (folder / f"{name}.nt").write_text(f'_:x <u:p> "{name}" .')
+    assert built(tmp_path, folder) == [(f"_:f{n}_x", "u:p", f'"{name}"') for n, name in enumerate("abcdefgh")]
+    pipe = folder / "pipe.nt"
+    os.mkfifo(pipe)
+    writing = threading.Thread(target=pipe.write_text, args=["<u:a> <u:p> <u:b> ."], daemon=True)
+    writing.start()  # (for whoever opens the pipe)
+    assert fails(tmp_path, folder, ValueError) == f"{pipe} is no regular file"
+    with open(os.open(pipe, os.O_RDONLY | os.O_NONBLOCK)):
+        writing.join()
 
 
 def test_blank_nodes(tmp_path: Path) -> None:
@@ -248,7 +258,8 @@ def test_labels_of_rapper(tmp_path: Path) -> None:
     """rapper gives nodes without a label those of other nodes: where that may be, it isn't used."""
     needs("rapper")
     path = tmp_path / "a.ttl"
-    for text in ("_:genid1 <u:p> [] .", "#" * 1_048_574 + "\n_:genid1 <u:p> [] ."):
+    for ahead in (0, *range(1_048_568, 1_048_575)):  # (bytes are read in pieces of 1,048,576)
+        text = "#" * ahead + "\n_:genid1 <u:p> [] ."
         path.write_text(text)
         told = fails(tmp_path, path, hdt.ConversionFault, converter="rapper")
         assert told == f'{path}: rapper: it has labels as rapper makes them, as genid1: use converter="rdflib"'
@@ -306,6 +317,8 @@ def test_quads(tmp_path: Path) -> None:
     told = f'{path}: it has 2 named graphs: graphs="merge" builds the union of all graphs'
     assert fails(tmp_path, path, ValueError) == told
     assert built(tmp_path, path, graphs="merge") == sorted(IN_GRAPHS)
+    path.write_text("_:a_:g <u:p> _:b_:g .\n_:a<u:p>_:b_:g<u:g>.")  # (a label may have colons)
+    assert built(tmp_path, path, graphs="merge") == [("_:a", "u:p", "_:b_:g"), ("_:a_:g", "u:p", "_:b_:g")]
     path.write_text('<u:a> <u:p> "x" <u:g> .\n' * 3)
     assert "1 named graph:" in fails(tmp_path, path, ValueError)
     assert "graphs is" in fails(tmp_path, path, ValueError, graphs="all")
@@ -415,6 +428,9 @@ def test_error_of_a_converted_line(tmp_path: Path) -> None:
     path.write_text("<u:a> <u:p> <u:b> .\n<u:a b> <u:p> <u:b> .")
     told = fails(tmp_path, path, hdt.ConversionFault, converter="rdflib")
     assert told == f"{path}: rdflib: 5 IriCharacter in its N-Triples: <u:a\\u0020b> <u:p> <u:b> ."
+    path.write_text('<u:a\\u0020b> <u:p> "\x9b31m\u202ey" .')  # (what a terminal obeys is left out)
+    told = fails(tmp_path, path, hdt.ConversionFault, converter="rdflib")
+    assert told.endswith(': <u:a\\u0020b> <u:p> " 31m y" .')
 
 
 def test_lines_of_several_inputs(tmp_path: Path) -> None:

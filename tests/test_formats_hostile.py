@@ -264,9 +264,10 @@ def test_converters_that_do_not_end(tmp_path: Path, monkeypatch: pytest.MonkeyPa
 
     monkeypatch.setattr(_process, "_SECONDS", 0.2)
     fake(tmp_path, monkeypatch, f"cat > /dev/null; echo '{WHOLE}'; exec sleep 100 >&- 2>&-")
-    path = tmp_path / "a.ttl"
+    path, began = tmp_path / "a.ttl", time.monotonic()
     path.write_text(TURTLE)
     assert "serdi did not end" in fails(tmp_path, path, hdt.ConversionFault)
+    assert time.monotonic() - began < 60
 
 
 def test_converter_of_zstandard_dies(tmp_path: Path, monkeypatch: pytest.MonkeyPatch) -> None:

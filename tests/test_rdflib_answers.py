@@ -12,7 +12,7 @@ import pytest
 
 from support import sparql_odd as odd
 from support import sparql_shop as shop
-from support.rdf_graphs import evaluated
+from support.rdf_graphs import blank, evaluated, iri, stored
 from support.rdflib_package import hdt, store
 
 import rdflib
@@ -100,6 +100,14 @@ def test_describe(shops: Both) -> None:
     for mode in ["rdflib", *MODES]:
         with evaluated(mode):
             assert answer(graph, shop.QUERIES["describe"]) == Counter(" ".join(map(shown, it)) for it in triples)
+
+
+def test_describe_of_a_cycle() -> None:
+    """Blank nodes that lead to each other are described once."""
+    triples = [(iri("u:a"), iri("u:p"), blank("b")), (blank("b"), iri("u:p"), blank("c")),
+               (blank("c"), iri("u:p"), blank("b")), (blank("d"), iri("u:p"), blank("b"))]
+    with stored(triples) as graph:
+        assert len(graph.query("DESCRIBE <u:a>").graph) == 3
 
 
 # ---- odd terms

@@ -130,7 +130,7 @@ NO_LENGTH = {
     "<u:a> (!<u:q>)+ ?x": 2, "<u:b> !(<u:p>|<u:q>) ?x": 0, "<u:a> (<u:p>/<u:q>)? ?x": 2,
     "<u:a> (<u:p>/(<u:q>|<u:p>))+ ?x": 2, "?a ^<u:p>/^<u:p> ?b": 1,
     '?x (<u:p>/<u:q>)? "x"': 2, '?x (<u:p>/<u:q>|<u:none>) "x"': 1, "<u:none> <u:p>* ?x . <u:none> <u:q>* ?x": 1,
-    "<u:none> <u:p>*/<u:q>* ?x": 1,
+    "<u:none> <u:p>*/<u:q>* ?x": 1, '<u:a> <u:p>+ "x"@EN': 1,
 }
 
 

@@ -220,6 +220,16 @@ def test_each_spelling_is_searched_for_at_a_value(mode: str) -> None:
 
 
 @modes
+def test_a_pattern_with_a_loop_of_many_rows(mode: str) -> None:
+    """A pattern whose new variable is there twice compares its two values for each of many rows, too."""
+    triples = [it for n in range(1, 90) for it in (
+        (iri(f"u:n{n}"), iri("u:p"), iri(f"u:n{n + 1}")), (iri(f"u:n{n}"), iri("u:q"), iri(f"u:{'qr'[n % 2]}")))]
+    with evaluated(mode), stored(triples) as graph:
+        found = graph.query("SELECT ?x ?y { ?a <u:p> ?x . ?x ?y ?y }")
+        assert sorted((str(x), str(y)) for x, y in found) == sorted((f"u:n{n}", "u:q") for n in range(2, 90, 2))
+
+
+@modes
 def test_groups_of_spellings(mode: str) -> None:
     """Literals that rdflib takes for equal are one group."""
     triples = [(iri("u:a"), iri("u:q"), tagged("x", "en")), (iri("u:a"), iri("u:q"), tagged("x", "EN")),
@@ -367,14 +377,16 @@ def calls(graph: Graph, query: str, mode: str) -> Counter[str]:
 
 def test_a_plan_takes_few_searches() -> None:
     """A rare pattern goes first wherever it is written; rdflib's order goes through the common one."""
-    triples = [(iri(f"u:s{n}"), iri("u:common"), iri(f"u:o{n}")) for n in range(300)]
-    triples += [(iri(f"u:o{n}"), iri("u:to"), iri(f"u:t{n}")) for n in range(300)]
+    triples = [(iri(f"u:s{n}"), iri("u:common"), iri(f"u:o{n}")) for n in range(1_000)]
+    triples += [(iri(f"u:o{n}"), iri("u:to"), iri(f"u:t{n}")) for n in range(1_000)]
     triples += [(iri("u:t7"), iri("u:rare"), plain("x"))]
     query = "SELECT * { ?a <u:common> ?b . ?b <u:to> ?c . ?c <u:rare> ?d }"
     with stored(triples) as graph:
         searches = {mode: calls(graph, query, mode)["searches"] for mode in rdf.MODES}
-    assert searches["rdflib"] > 300
-    assert searches["ids"] < 10
+        # (a filter comes before the pattern that doesn't need it)
+        filtered = calls(graph, "SELECT * { ?a <u:common> ?b . ?b <u:to> ?c FILTER(?b = <u:o7>) }", "ids")
+    assert searches["rdflib"] > 1_000
+    assert searches["ids"] < 10 and filtered["searches"] < 10
 
 
 def test_a_join_of_many_takes_few_searches() -> None:

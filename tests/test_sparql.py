@@ -4,6 +4,7 @@ from __future__ import annotations
 
 import io
 import json
+import logging
 import os
 import re
 import shutil
@@ -27,6 +28,8 @@ from support.rdflib_package import hdt, store
 
 import rdflib
 from hdt import sparql
+from hdt.sparql._worker import Stores
+from hdt.sparql._workers import Ended, Late, Worker
 
 assert store
 pytestmark = pytest.mark.filterwarnings("ignore")
@@ -36,7 +39,10 @@ ODD = r'''<u:a> <u:p> "a\"b\\c\nd\te, \u00E9" .
 <u:a> <u:q> _:b .
 _:b <u:p> "1"^^<http://www.w3.org/2001/XMLSchema#integer> .
 '''
+XSD = "http://www.w3.org/2001/XMLSchema"
 ALL = "SELECT * { ?s ?p ?o } ORDER BY ?p ?o"
+LARGE = 'SELECT ?x { BIND("a" AS ?x0) %s }' % "".join(
+    f"BIND(CONCAT(?x{n}, ?x{n}) AS ?x{n + 1 if n < 17 else ''}) " for n in range(18))
 SLOW = 'SELECT * { BIND(regex("aaaaaaaaaaaaaaaaaaaaaaaaaaaaaaaaaaaaaaaaaaaaa!", "^(a+)+$") AS ?x) }'
 
 
@@ -103,6 +109,31 @@ def test_ways_to_ask(site: Site) -> None:
     assert (head.status, head.body, head.headers["Content-Length"]) == (200, b"", str(len(answers[0].body)))
     options = site.ask("OPTIONS")
     assert options.status == 204 and "POST" in options.headers["Access-Control-Allow-Methods"]
+    assert "Content-Length" not in options.headers
+    no_text = site.ask("HEAD", query="query=SELECT")
+    assert (no_text.status, no_text.body) == (400, b"")
+
+
+def test_headers(site: Site) -> None:
+    """Pages of every origin may read answers and errors, which no cache keeps or gives to another client."""
+    for got in (site.get(ALL), site.get("no query"), site.ask("PUT")):
+        assert got.headers["Access-Control-Allow-Origin"] == "*"
+        assert {"X-SPARQL-MaxRows", "Retry-After"} <= set(got.headers["Access-Control-Expose-Headers"].split(", "))
+        assert (got.headers["Vary"], got.headers["Cache-Control"]) == ("Accept", "no-store")
+        assert got.headers["X-Content-Type-Options"] == "nosniff"
+    assert {"GET", "HEAD", "POST"} < set(site.ask("PUT").headers["Allow"].split(", "))
+    for media in ("application/n-triples", "application/ld+json"):
+        assert site.get("DESCRIBE <u:a>", media).headers["Content-Type"] == media
+
+
+def test_the_longest_query(site: Site) -> None:
+    """A query may have 100,000 bytes, not characters, in each way to ask."""
+    text = "ASK {} #" + "\u00e9" * 49_996
+    for query, status in ((text, 200), (text + "x", 413)):
+        form = urlencode({"query": query})
+        assert site.ask(query=form).status == status
+        assert site.ask("POST", body=form.encode(), CONTENT_TYPE=FORM).status == status
+        assert site.ask("POST", body=query.encode(), CONTENT_TYPE=QUERY).status == status
 
 
 WRONG: dict[str, tuple[int, dict[str, Any]]] = {
@@ -121,7 +152,7 @@ WRONG: dict[str, tuple[int, dict[str, Any]]] = {
     "no length": (411, {"method": "POST", "CONTENT_TYPE": QUERY, "CONTENT_LENGTH": ""}),
     "an odd length": (411, {"method": "POST", "CONTENT_TYPE": QUERY, "CONTENT_LENGTH": "-1"}),
     "a great length": (413, {"method": "POST", "CONTENT_TYPE": QUERY, "CONTENT_LENGTH": "9" * 30}),
-    "a short body": (400, {"method": "POST", "body": b"ASK", "CONTENT_TYPE": QUERY, "CONTENT_LENGTH": "9"}),
+    "a short body": (400, {"method": "POST", "body": b"ASK {}", "CONTENT_TYPE": QUERY, "CONTENT_LENGTH": "9"}),
     "a long query": (413, {"query": "query=" + "x" * 100_001}),
     "a very long query": (413, {"query": "query=" + "x" * 300_001}),
 }
@@ -148,6 +179,37 @@ def test_queries_that_cannot_be_evaluated(site: Site, query: str, reason: str) -
     assert site.get("ASK {}").status == 200
 
 
+def test_a_long_reason(site: Site) -> None:
+    """The reason of a refusal is cut."""
+    got = site.get(f"SELECT * {{ ?s {'x' * 5_000}:p ?o }}")
+    assert got.status == 400 and "prefix" in got.text and len(got.body) < 1_100
+
+
+def test_an_error_of_the_server(site: Site, monkeypatch: pytest.MonkeyPatch, caplog: pytest.LogCaptureFixture) -> None:
+    """An error of the server is logged, and not told."""
+    def fail(*_: Any) -> None:
+        raise KeyError("a secret\nof two lines")
+
+    monkeypatch.setattr(site.application.workers, "ask", fail)
+    with caplog.at_level(logging.INFO, "hdt.sparql"):
+        got = site.get("ASK {}")
+    assert got.status == 500 and "secret" not in got.text
+    assert "secret" in caplog.text and "\nof two" not in caplog.text
+
+
+def test_the_log(tmp_path: Path, caplog: pytest.LogCaptureFixture) -> None:
+    """A request is one line of the log, whatever it has, or none."""
+    for is_on in (True, False):
+        site = Site(tmp_path, log=is_on)
+        with caplog.at_level(logging.INFO, "hdt.sparql"):
+            site.ask("A\nB", path="/x\ny")
+            site.ask("PUT")
+        assert [it.getMessage().count("\n") for it in caplog.records] == ([0, 0] if is_on else [])
+        assert not is_on or "PUT '/odd' 405 " in caplog.text
+        caplog.clear()
+        site.application.close()
+
+
 # ---- formats
 
 
@@ -168,6 +230,14 @@ def test_formats_of_solutions(site: Site) -> None:
     assert all(line.count("\t") == 2 for line in lines[:-1])
     lacking = site.get("SELECT ?s ?x { ?s <u:q> ?o }", "text/tab-separated-values").text
     assert lacking == "?s\t?x\n<u:a>\t\n"
+    assert site.get("SELECT ?s ?x { ?s <u:q> ?o }", "text/csv").text == "s,x\r\nu:a,\r\n"
+    assert site.get(r'SELECT ("\uD800" AS ?x) {}', "text/csv").text == "x\r\n?\r\n"
+
+
+def test_literals_of_a_query(site: Site) -> None:
+    """A literal of a query has the text that is written; an expression is evaluated over IDs, as the standard says."""
+    query = 'SELECT ("01"^^<%s#integer> AS ?x) (isNumeric("x"^^<%s#integer>) AS ?y) (1e0 AS ?z) {}' % (2 * (XSD,))
+    assert site.get(query, "text/csv").text == "x,y,z\r\n01,false,1e0\r\n"
 
 
 @pytest.mark.parametrize("accept, media", [
@@ -213,8 +283,14 @@ def test_rows_are_limited(tmp_path: Path) -> None:
         got = site.get(ALL)
         assert (got.headers["X-SPARQL-MaxRows"], len(json.loads(got.body)["results"]["bindings"])) == ("3", 3)
         assert "X-SPARQL-MaxRows" not in site.get(ALL + " LIMIT 3").headers
+        for media in ("text/csv", "text/tab-separated-values"):
+            assert len(site.get("SELECT ?s { ?s ?p ?o }", media).text.splitlines()) == 4
         got = site.get("CONSTRUCT WHERE { ?s ?p ?o }", "application/n-triples")
         assert (got.headers["X-SPARQL-MaxRows"], got.text.count(" .\n")) == ("3", 3)
+        got = site.get("CONSTRUCT WHERE { <u:a> ?p ?o }", "application/n-triples")
+        assert "X-SPARQL-MaxRows" not in got.headers and got.text.count(" .\n") == 3
+        many = " . ".join(f"?s{n} ?p{n} ?o{n}" for n in range(30))
+        assert site.get(f"SELECT * {{ {many} }}").headers["X-SPARQL-MaxRows"] == "3"
     finally:
         site.application.close()
 
@@ -224,6 +300,7 @@ def test_time_is_limited(tmp_path: Path) -> None:
     site = Site(tmp_path, timeout=4, processes=1)
     try:
         assert site.get("ASK {}").status == 200
+        worker = site.application.workers._free.queue[-1]
         answers: list[Got] = []
         thread = threading.Thread(target=lambda: answers.append(site.get(SLOW)))
         began = time.monotonic()
@@ -234,9 +311,26 @@ def test_time_is_limited(tmp_path: Path) -> None:
         assert (busy.status, busy.headers["Retry-After"]) == (503, "1")
         assert answers[0].status == 503 and "more than 4 seconds" in answers[0].text
         assert 3 < time.monotonic() - began < 30
+        assert worker and worker._process.poll() is not None
         assert site.get("ASK {}").status == 200
     finally:
         site.application.close()
+
+
+def test_an_answer_that_stays_away(tmp_path: Path, monkeypatch: pytest.MonkeyPatch) -> None:
+    """A process that writes half an answer is late, or has ended."""
+    for then, error in (("sleep 60", Late), ("exit", Ended)):
+        script = tmp_path / "worker"
+        script.write_text('#!/bin/sh\necho ready\nread line\necho \'{"length": 9}\'\nprintf half\n' + then)
+        script.chmod(0o755)
+        monkeypatch.setattr(sys, "executable", str(script))
+        worker, began = Worker(100), time.monotonic()
+        try:
+            with pytest.raises(error):
+                worker.ask({}, 1)
+            assert time.monotonic() - began < 30
+        finally:
+            worker.end()
 
 
 def test_memory_is_limited(tmp_path: Path) -> None:
@@ -260,13 +354,17 @@ def test_a_process_that_ends(tmp_path: Path) -> None:
         assert worker is None and site.get("ASK {}").status == 200
         worker = site.application.workers._free.get()
         site.application.workers._free.put(worker)
-        assert worker
+        assert worker and worker._process.poll() is None
+        assert len(json.loads(site.get(LARGE).body)["results"]["bindings"][0]["x"]["value"]) == 1 << 18
+        assert worker is site.application.workers._free.queue[-1]
         os.kill(worker._process.pid, signal.SIGKILL)
         worker._process.wait()
         assert site.get("ASK {}").status == 503
         assert site.get("ASK {}").status == 200
+        worker = site.application.workers._free.queue[-1]
     finally:
         site.application.close()
+    assert worker and worker._process.poll() is not None
 
 
 def test_a_file_that_is_replaced(tmp_path: Path) -> None:
@@ -291,6 +389,24 @@ def test_a_file_that_is_replaced(tmp_path: Path) -> None:
     got = site.get(count)
     other.close()
     assert (got.status, got.headers["Retry-After"]) == (503, "60")
+
+
+def test_a_file_stays_open(site: Site) -> None:
+    """A file is opened once as long as it is the same."""
+    stores = Stores()
+    store = stores.store(str(site.path))
+    assert stores.store(str(site.path)) is store
+    store.close()
+
+
+@pytest.mark.parametrize("query, what", [
+    ("SELECT * FROM <u:x> { ?s ?p ?o }", "FROM"), ("ASK FROM NAMED <u:x> { ?s ?p ?o }", "FROM"),
+    ("SELECT * { SERVICE <u:x> { ?s ?p ?o } }", "SERVICE"),
+    ("SELECT * { { SELECT * { ?s ?p ?o MINUS { SERVICE SILENT <u:x> {} } } } }", "SERVICE")])
+def test_what_is_not_answered(site: Site, query: str, what: str) -> None:
+    """FROM and SERVICE are refused by name."""
+    got = site.get(query)
+    assert got.status == 400 and f"{what} is not answered" in got.text
 
 
 def test_a_query_fetches_nothing(site: Site) -> None:
@@ -318,7 +434,7 @@ def test_a_query_fetches_nothing(site: Site) -> None:
 def run(*words: str) -> tuple[int, str]:
     """The status and the standard error of the command."""
     done = subprocess.run([sys.executable, "-m", "hdt.sparql", *words], env=ENVIRONMENT, stderr=subprocess.PIPE,
-                          text=True)
+                          text=True, timeout=120)
     return done.returncode, done.stderr
 
 
@@ -329,7 +445,15 @@ def test_wrong_commands(tmp_path: Path) -> None:
                   ["--timeout", "0", "x=" + str(SAMPLES / "three.hdt")]):
         status, err = run(*words)
         assert status == 2 and re.fullmatch(r"hdt\.sparql: [^\n]+\n", err), err
+    assert "x is not NAME=FILE" in run("x")[1]
     assert run()[0] == 2
+    for name in ("a\n", "../a", "", ".a"):
+        with pytest.raises(ValueError, match="not a dataset name"):
+            sparql.Config({name: "x"})
+    for limit in ("processes", "timeout", "memory", "max_rows", "query_limit"):
+        for value in (0, 10**9 + 1):
+            with pytest.raises(ValueError, match=limit):
+                sparql.Config(**{limit: value})
 
 
 def test_as_a_command() -> None:

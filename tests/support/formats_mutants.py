@@ -97,8 +97,8 @@ WRONG = {
         ("graphs have no bound",
          "if len(self._names) < _MOST:\n                self", "if True:\n                self"),
         ("a literal ends at any quote", '"(?:[^"\\\\\\r\\n]|\\\\.)*"', '"[^"\\r\\n]*"'),
-        ("a label may end anywhere",
-         "_:[^\\s<\"]+ (?=[\\s<]) )\n            [ \\t]* <", "_:[^\\s<\"]+ )\n            [ \\t]* <"),
+        ("a label may end anywhere", "_:[^\\s<\"]+ (?=[\\s<])\n                     |",
+         "_:[^\\s<\"]+\n                     |"),
     ],
     "_sources": [
         ("a folder has hidden files", ' and not each.startswith(".")', ""),

@@ -1,11 +1,11 @@
 """Plants wrong bodies in a Python package, and says for each which test sees it first.
 
-`python_mutants.py`, `rdflib_mutants.py` and `parts_mutants.py` have the bodies, and are run as
+`python_mutants.py` and the others that are named so have the bodies, and are run as
 
     HDT_BUILT=FOLDER PYTHONPATH=tests:. /usr/bin/python3 tests/support/python_mutants.py [NUMBER..]
 
 The tests of a package run over a copy of it, one body after another. The status is 1 if a body is not seen. Tests that
-take more than five CPU minutes have seen it, as those of the right body take less than one.
+take more than five CPU minutes, or half an hour, have seen it, as those of the right body take less than one minute.
 """
 
 from __future__ import annotations
@@ -14,6 +14,7 @@ import os
 import re
 import resource
 import shutil
+import signal
 import subprocess
 import sys
 import tempfile
@@ -22,15 +23,16 @@ from pathlib import Path
 from typing import Optional
 
 TOP = Path(__file__).resolve().parents[2]
-MOST = 300  # CPU seconds of the tests of one body
+MOST, LONGEST = 300, 1_800  # CPU seconds, and seconds, of the tests of one body
 
 # The wrong bodies of a package, by their modules: a name, a text of the module, and what it is replaced by.
 Wrong = Mapping[str, Sequence[tuple[str, str, str]]]
 
 
-def limit_cpu() -> None:
-    """Limit the CPU time of this process, which says more than the clock on a busy machine."""
+def limit_time() -> None:
+    """Limit the CPU time of this process, which says more than the clock on a busy machine, and how long it waits."""
     resource.setrlimit(resource.RLIMIT_CPU, (MOST, MOST))
+    signal.alarm(LONGEST)
 
 
 def first_test(module: str, old: str, new: str, tests: Sequence[str]) -> Optional[str]:
@@ -48,9 +50,9 @@ def first_test(module: str, old: str, new: str, tests: Sequence[str]) -> Optiona
         (top / module).write_text(source.replace(old, new))
         command = [sys.executable, "-B", "-m", "pytest", "-q", "-x", "-p", "no:cacheprovider", *tests]
         done = subprocess.run(command, cwd=top, stdout=subprocess.PIPE, stderr=subprocess.STDOUT, text=True,
-                              preexec_fn=limit_cpu)
+                              preexec_fn=limit_time)
         if done.returncode < 0:
-            return f"(ended by a signal, as after {MOST} CPU seconds)"
+            return f"(ended by a signal, as after {MOST} CPU seconds or {LONGEST} seconds)"
         found = re.search(r"^(?:FAILED|ERROR) tests/(?:test_\w+\.py::)?(\S+)", done.stdout, re.MULTILINE)
         return None if not done.returncode else found[1] if found else "(no test)"
 

@@ -8,9 +8,9 @@ from typing import Any
 
 from hdt.rdflib._cells import Batch, Cell, Cells, Layout, layout_of
 from hdt.rdflib._operators import Filter, Given, Operator
-from hdt.rdflib._options import Option, Triple
+from hdt.rdflib._options import Option, Place, Triple
 from hdt.rdflib._paths import Walk, walk_of
-from hdt.rdflib._ways import Pattern, Way, patterns_of
+from hdt.rdflib._ways import Way, patterns_of
 from rdflib.paths import Path
 from rdflib.term import BNode, Identifier, Variable
 
@@ -29,7 +29,7 @@ class Step:
         """The pattern that is next for a batch."""
         self.times += 1
         if len(self.options) > 1 and not self.times & (self.times - 1):
-            rows = [batch[0], batch[len(batch) // 2]]
+            rows = [batch[0], batch[len(batch) // 2]] if len(batch) > 1 else batch
             self.taken = min(self.options, key=lambda option: sum(option.count(row) for row in rows))
         assert self.taken
         return self.taken
@@ -64,6 +64,7 @@ class Join(Operator):
         self._input = [at for at, it in enumerate(given.schema) if it in self.variables]
         self._steps: dict[tuple[bool, ...], Step] = {}
         self._walks: dict[tuple[int, bool], Walk] = {}
+        self._places: dict[int, list[Place]] = {}
         for it in self.patterns:
             if isinstance(it.p, Path):
                 self.walk(it.p, False)
@@ -107,14 +108,17 @@ class Join(Operator):
     def _step(self, left: tuple[int, ...], layout: Layout, filters: list[Filter]) -> Step:
         """The step where these patterns and filters are left."""
         now = [it for it in filters if not left or it.variables <= layout.keys()]
-        options = [self._option(self.patterns[at], tuple(it for it in left if it != at), layout) for at in left]
+        options = [self._option(at, tuple([it for it in left if it != at]), layout) for at in left]
         return Step(options, layout, now, [it for it in filters if it not in now])
 
-    def _option(self, pattern: Pattern, left: tuple[int, ...], layout: Layout) -> Option:
+    def _option(self, at: int, left: tuple[int, ...], layout: Layout) -> Option:
+        pattern = self.patterns[at]
         if isinstance(pattern.p, Path):
             return Way(self, pattern, left, layout)
-        places = [it if it in self.variables else self.file.spellings(role, it) for role, it in enumerate(pattern[:3])]
-        return Triple(self, places, left, layout)
+        if at not in self._places:  # (the terms are looked up once, not for each step)
+            self._places[at] = [it if it in self.variables else self.file.spellings(role, it)
+                                for role, it in enumerate(pattern[:3])]
+        return Triple(self, self._places[at], left, layout)
 
     def walk(self, path: Any, back: bool) -> Walk:
         """A path of the join, or back over it; what it has read stays read."""

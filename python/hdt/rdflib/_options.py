@@ -3,6 +3,7 @@
 from __future__ import annotations
 
 from collections.abc import Callable, Iterable, Iterator, Sequence
+from functools import cached_property
 from itertools import product
 from operator import itemgetter
 from typing import TYPE_CHECKING, Any, Optional, Union
@@ -53,10 +54,15 @@ class Triple(Option):
         self.join, self.file = join, join.file
         self.ids = [it if isinstance(it, tuple) else _ANY for it in places]
         self.bound = [(role, layout[it]) for role, it in enumerate(places) if it in layout]
-        self.picked = _picker(self.file, places, self.new)
+        self.places = places
         self.has_loop = len(variables) - len(self.bound) > len(self.new)
         self.searched, self.due = 0, _DUE
         self.table: Optional[Table] = None
+
+    @cached_property
+    def picked(self) -> Callable[[Page], list[Row]]:
+        """What makes the values of new variables of triples. (Most options are counted only.)"""
+        return _picker(self.file, self.places, self.new)
 
     def searches(self, row: Row) -> list[Search]:
         """The searches for a row; none if a value can't be in its place."""

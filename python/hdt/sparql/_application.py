@@ -116,6 +116,8 @@ class Application:
         if media == FORM:
             return self._of_form(body)
         self._check(parameters(environ.get("QUERY_STRING", "").encode("latin-1")))
+        if len(body) > self.config.query_limit:
+            raise self._too_long()
         try:
             return body.decode()
         except UnicodeDecodeError:

@@ -1,0 +1,102 @@
+"""Wrong bodies of hdt.sparql, which its tests must see: run by `support.package_mutants`."""
+
+from __future__ import annotations
+
+import sys
+
+from support.package_mutants import judge
+
+WRONG = {
+    "_application": [
+        ("HEAD has a body", 'return [] if method == "HEAD" else [answer.body]', "return [answer.body]"),
+        ("HEAD has no length", 'if answer.status[:3] != "204":', 'if answer.status[:3] != "204" and method != "HEAD":'),
+        ("204 has a length", 'if answer.status[:3] != "204":', "if True:"),
+        ("an error may not be read by a page of another origin", "[*COMMON, *answer.headers]",
+         '[*(COMMON if answer.status[:3] == "200" else []), *answer.headers]'),
+        ("caches mix formats", '    ("Vary", "Accept"), (', "    ("),
+        ("an answer may be cached", 'headers = [("Cache-Control", "no-store"), *reply.headers]',
+         "headers = [*reply.headers]"),
+        ("an error may be cached", ' ("Cache-Control", "no-store"), *refusal.headers]', " *refusal.headers]"),
+        ("browsers guess types", '("X-Content-Type-Options", "nosniff"), ', ""),
+        ("pages of other origins don't see that an answer is cut", '"X-SPARQL-MaxRows, Retry-After"', '"Retry-After"'),
+        ("a client isn't told when to come again", 'running.", ("Retry-After", "1")', 'running."'),
+        ("the error of a defect is told", '"This is an error of the server."', "str(error)"),
+        ("a defect isn't logged", '            log.error("an error of the server\\n%s", traced(error))\n', ""),
+        ("a path makes lines of the log", '%r %s %d %.1f ms"', '%s %s %d %.1f ms"'),
+        ("a method makes lines of the log", "escaped(method), path", "method, path"),
+        ("the log can't be turned off", "self.config.log and log.isEnabledFor", "log.isEnabledFor"),
+        ("N-Triples has a charset", "media if media in _UTF8_BY_ITSELF else media", "media"),
+        ("an answer that is cut doesn't say so", "        if reply.is_cut:\n", "        if False:\n"),
+        ("any method is GET", 'if method in ("GET", "HEAD"):', 'if method != "POST":'),
+        ("what methods there are isn't said", ', ("Allow", METHODS))', ")"),
+        ("a media type has a case", "media.strip().lower()", "media.strip()"),
+        ("any body is a query", "        if media not in (FORM, QUERY):\n", "        if False:\n"),
+        ("any charset is UTF-8", 'if "charset" in rest.lower() and', "if False and"),
+        ("a posted query may come with a graph",
+         '        self._check(parameters(environ.get("QUERY_STRING", "").encode("latin-1")))\n', ""),
+        ("a posted query has three times the limit", "        if len(body) > self.config.query_limit:\n",
+         "        if False:\n"),
+        ("any length is read", "if len(length) > 12 or int(length) > 3 * self.config.query_limit:", "if False:"),
+        ("half a body is one", "        if len(body) < int(length):\n", "        if False:\n"),
+        ("the first of two queries is taken", "if len(queries) != 1:", "if not queries:"),
+        ("the limit is one of characters", 'len(queries[0].encode("utf-8", "replace"))', "len(queries[0])"),
+        ("an update beside a query is passed over", '        if "update" in names:\n', "        if False:\n"),
+        ("a default graph is passed over", '{"default-graph-uri", "named-graph-uri"}', '{"named-graph-uri"}'),
+        ("a named graph is passed over", '{"default-graph-uri", "named-graph-uri"}', '{"default-graph-uri"}'),
+    ],
+    "_answers": [
+        ("what isn't accepted is JSON", "    if media is None:\n",
+         "    media = media or JSON\n    if media is None:\n"),
+        ("ASK has CSV", "        del offered[CSV], offered[TSV]\n", "        pass\n"),
+        ("solutions of the limit are cut", "len(rows) > most)", "len(rows) >= most)"),
+        ("one solution more than the limit", '"bindings": rows[:most]})', '"bindings": rows})'),
+        ("one line of a table more than the limit", "result.vars or []), rows[:most])", "result.vars or []), rows)"),
+        ("triples of the limit are cut", "len(triples) > most)", "len(triples) >= most)"),
+        ("all solutions are made", "islice(result._genbindings or result.bindings, most + 1)", "result.bindings"),
+        ("what RDF/XML can't have is an error of the query", "except ValueError as", "except KeyError as"),
+        ("CSV has blank nodes without their mark", 'f"_:{it}" if isinstance(it, BNode) else str(it)', "str(it)"),
+        ("CSV has None", '"" if it is None else f"_:', 'f"_:'),
+        ("TSV has short forms of literals", "    if isinstance(term, BNode) or string is None:\n", "    if True:\n"),
+        ("TSV has tabs", '.replace("\\t", "\\\\t")', ""),
+        ("half a surrogate pair is an error", '.encode("utf-8", "replace")', ".encode()"),
+    ],
+    "_config": [
+        ("a name may end with a line", '[A-Za-z0-9._-]*\\Z"', '[A-Za-z0-9._-]*$"'),
+        ("a limit has no limit", "not 1 <= value <= _MOST", "not 1 <= value"),
+    ],
+    "_worker": [
+        ("a new file isn't taken up", "if known is None or known[0] != identity:", "if known is None:"),
+        ("a file is opened for each query", "if known is None or known[0] != identity:", "if True:"),
+        ("a file that can't be opened takes the place of the one before",
+         "                opened = HDTStore(path)\n                if known:\n                    known[1].close()\n",
+         "                if known:\n                    known[1].close()\n                opened = HDTStore(path)\n"),
+        ("FROM is answered", "    if query.algebra.datasetClause:\n", "    if False:\n"),
+        ("SERVICE within another part is answered", "in parts_of(query.algebra)", "in [query.algebra.p.p]"),
+        ("literals are normalized",
+         "exact_literals.made_by(lambda: translated(text, None, {}))", "translated(text, None, {})"),
+        ("want of memory is an error of the query", "    except (Refusal, MemoryError):\n", "    except Refusal:\n"),
+        ("a reason of any length is told", "refusal.reason[:_LONGEST]", "refusal.reason"),
+        ("queries aren't planned", "    plan_sparql()\n", ""),
+    ],
+    "_workers": [
+        ("a process that is late goes on", "        except BaseException:\n            if worker:\n",
+         "        except BaseException:\n            if False:\n"),
+        ("a place is lost with a process", "            self._free.put(None)\n            raise", "            raise"),
+        ("the end of a process is an error of the server", "            except OSError:\n                raise Ended",
+         "            except KeyError:\n                raise Ended"),
+        ("half an answer is one", 'while length < head["length"]:', "while False:"),
+        ("an answer has no end", "                self._read(selector, end)\n                pieces",
+         "                self._read(selector, end + 1e6)\n                pieces"),
+        ("processes stay", "                return\n            if worker:\n",
+         "                return\n            if False:\n"),
+        ("each query has a new process", "        self._free.put(worker)\n        return",
+         "        self._free.put(None)\n        return"),
+    ],
+    "__main__": [
+        ("a dataset may lack a file", "        if not equals:\n", "        if False:\n"),
+        ("a file is opened at the first query", "        with open_any(file):  #", "        if False:  #"),
+    ],
+}
+
+if __name__ == "__main__":
+    sys.exit(judge("python/hdt/sparql", WRONG, lambda _: ["tests/test_sparql.py"]))
