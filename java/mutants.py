@@ -20,7 +20,7 @@ TOP = Path(__file__).resolve().parent.parent
 OUT = TOP / "out/java"
 SOURCES = TOP / "java/src/main/java/io/github/tickmarl/hdt"
 JUNIT = "/usr/share/java/junit-platform-console-standalone.jar"
-CLASSES = ["RandomQueriesTest", "QueriesTest", "HdtFileTest", "HdtGraphTest"]
+CLASSES = ["LongTableTest", "RandomQueriesTest", "QueriesTest", "HdtFileTest", "HdtGraphTest"]
 SECONDS = 200
 
 # The file, what is replaced, and by what.
