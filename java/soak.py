@@ -1,6 +1,6 @@
 """Asks a running endpoint by many clients while its file is replaced by rename, and checks every answer.
 
-    java/build && HDT_BUILT=dist/x86_64-linux-gnu python3 java/soak.py [--seconds 60] [--clients 8]
+    java/build && HDT_BUILT=dist/x86_64-linux-gnu python3 java/soak.py [--seconds 60] [--clients 8] [--every 2]
 
 Each version of the file has its number in it, and other values in its triples: the rows of an answer must be those of
 one version, which is one of those that had the name by then, and not older than the one that the client saw before.
@@ -32,7 +32,6 @@ NS = "http://e.example/"
 NODES = 20_000
 MOST = 10_000  # versions
 CLIENTS = 64  # at most
-EVERY = 2.0  # seconds between two files
 JSON, TSV, NT = "application/sparql-results+json", "text/tab-separated-values", "application/n-triples"
 
 
@@ -162,16 +161,16 @@ class Files:
         self.damaged = 0
 
     def replace(self) -> None:
-        """Let the next version take the name; before every fifth one a damaged file has it for a while."""
+        """Let the next version take the name, or a damaged file, which has it until then."""
         version = self.count
         (self.folder / "new.nt").write_text(text(version))
         subprocess.run([f"{os.environ['HDT_BUILT']}/hdt", "build", self.folder / "new.nt", self.folder / "new.hdt"],
                        check=True, stdout=subprocess.DEVNULL)
-        if version % 5 == 4:
+        if (version + self.damaged) % 5 == 4:
             self.damaged += 1
             (self.folder / "bad.hdt").write_bytes((self.folder / "new.hdt").read_bytes()[:-7])
             (self.folder / "bad.hdt").rename(self.folder / "data.hdt")
-            time.sleep(EVERY)
+            return
         RENAMED[version] = time.monotonic_ns()
         (self.folder / "new.hdt").rename(self.folder / "data.hdt")
         self.count += 1
@@ -181,11 +180,11 @@ def report(begin: Spent, middle: Spent, end: Spent) -> None:
     """Print the rates."""
     for name, first, last in (("all", begin, end), ("second half", middle, end)):
         clock, cpu, queries = last.clock - first.clock, last.cpu - first.cpu, last.queries - first.queries
-        print(f"{name}: {queries} queries in {clock:.0f} s, {queries / clock:.0f} a second; the server's CPU time of one:"
-              f" {1000 * cpu / queries:.2f} ms")
+        print(f"{name}: {queries} queries in {clock:.0f} s, {queries / clock:.0f} a second; CPU time of the server for "
+              f"one: {1000 * cpu / queries:.2f} ms")
 
 
-def run(jar: Path, seconds: float, count: int, folder: Path) -> bool:
+def run(jar: Path, seconds: float, count: int, every: float, folder: Path) -> bool:
     """Serve and ask. Prints what came out, and returns whether all answers were right."""
     files = Files(folder)
     files.replace()
@@ -193,18 +192,23 @@ def run(jar: Path, seconds: float, count: int, folder: Path) -> bool:
                               stderr=subprocess.PIPE, text=True, cwd=folder)
     assert server.stdout and server.stderr
     port = int(server.stdout.readline().strip("/\n").rsplit(":", 1)[1])
-    begin = middle = spent(server.pid)
-    end = begin.clock + seconds
-    with ProcessPoolExecutor(count, multiprocessing.get_context("fork")) as pool:
-        running = [pool.submit(client, port, number, end) for number in range(count)]
-        while time.monotonic() < end - EVERY:
-            time.sleep(EVERY)
-            files.replace()
-            if middle is begin and time.monotonic() > begin.clock + seconds / 2:
-                middle = spent(server.pid)
-        told = [it.result() for it in running]
-    report(begin, middle, spent(server.pid))
-    server.terminate()
+    try:
+        begin = middle = spent(server.pid)
+        end = begin.clock + seconds
+        with ProcessPoolExecutor(count, multiprocessing.get_context("fork")) as pool:
+            running = [pool.submit(client, port, number, end) for number in range(count)]
+            last = begin.clock
+            while (now := time.monotonic()) < end:
+                if now > last + every:
+                    files.replace()
+                    last = now
+                if middle is begin and now > end - seconds / 2:
+                    middle = spent(server.pid)
+                time.sleep(0.2)
+            told = [it.result() for it in running]
+        report(begin, middle, spent(server.pid))
+    finally:
+        server.terminate()
     said = server.stderr.read().splitlines()
     print(f"{files.count} versions, of which each client saw {min(it.versions for it in told)} or more, at most "
           f"{max(it.lag for it in told):.1f} s late; {files.damaged} damaged files")
@@ -223,9 +227,11 @@ def main() -> int:
     parser.add_argument("--jar", type=Path, default=TOP / "out/java/tickmarl-hdt.jar")
     parser.add_argument("--seconds", type=float, default=60)
     parser.add_argument("--clients", type=int, default=8)
+    parser.add_argument("--every", type=float, default=2, help="seconds between two files")
     options = parser.parse_args()
     with tempfile.TemporaryDirectory() as folder:
-        return 0 if run(options.jar.resolve(), options.seconds, options.clients, Path(folder)) else 1
+        done = run(options.jar.resolve(), options.seconds, options.clients, options.every, Path(folder))
+    return 0 if done else 1
 
 
 if __name__ == "__main__":

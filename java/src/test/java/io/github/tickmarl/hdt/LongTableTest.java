@@ -44,16 +44,19 @@ class LongTableTest {
         }
     }
 
-    /** However the keys of small sets fall, a set that is as full as sets become finds them, and misses others. */
+    /** Wherever the keys of small sets fall, a set that is as full as sets become finds them, and misses others. */
     @Test
     void full() {
-        for (long set = 0; set < 500_000; set++) {
+        Random random = new Random(2);
+        for (int set = 0; set < 500_000; set++) {
             LongTable table = new LongTable(1);
+            long[] key = new long[1];
             for (int i = 0; i < 17; i++) {
-                assertFalse(table.contains(new long[] {31 * set + i}));
-                assertEquals(i, table.add(new long[] {31 * set + i}));
+                key[0] = random.nextLong();
+                assertFalse(table.contains(key));
+                assertEquals(i, table.add(key));
             }
-            assertTrue(table.contains(new long[] {31 * set}));
+            assertTrue(table.contains(key));
         }
     }
 }
