@@ -255,6 +255,31 @@ def test_time_limit(busy: Server) -> None:
     assert busy.query("ASK {}", name="many").status == 200
 
 
+@pytest.mark.parametrize("text", [
+    "ASK { FILTER regex('%s', '^(a|a)*\\\\1?$') }", "ASK { FILTER(replace('%s', '(a|a)*\\\\1?b', '') = '') }",
+    "ASK { ?s ?p ?o BIND(concat('^(a|a)*\\\\1?$', ?p) AS ?r) FILTER regex('%s', ?r) }",
+    "SELECT (SUM(IF(regex('%s', concat('^(a|a)*\\\\1?$', ?p)), 1, 0)) AS ?n) { ?s ?p ?o }",
+    "SELECT * { ?s ?p ?o } ORDER BY regex('%s', concat('^(a|a)*\\\\1?$', ?p))",
+    "ASK { ?s ?p ?o FILTER NOT EXISTS { ?a ?b ?c FILTER regex(concat(?c, '%s'), '^(.)(a|a)*\\\\1?$') } }",
+])
+def test_time_limit_of_patterns(busy: Server, text: str) -> None:
+    """A regular expression that takes exponential time for a string is ended, too."""
+    answer = busy.query(text % ("a" * 60 + "c"), name="many")
+    assert (answer.status, answer.headers["retry-after"]) == (503, "2")
+
+
+def test_patterns(server: Server) -> None:
+    """Regular expressions are those of ARQ: flags, groups, tags, bad ones; the functions of XPath are not there."""
+    values = [("regex('a.B', '^A\\\\.b', 'i')", "true"), ("regex('ab', 'b$')", "true"), ("regex('ab', 'B')", "false"),
+              ("replace('abcb'@en, '(b)', '<$1>')", "a<b>c<b>"), ("replace('aB', 'b', 'x', 'i')", "ax"),
+              ("regex('a', concat('(', ''))", None), ("regex(1, 'a')", None), ("replace('a', 'a', '$7')", None),
+              ("regex('a', 'a', concat('w', ''))", None), ("<http://www.w3.org/2005/xpath-functions#matches>('a', 'a')", None)]
+    terms = " ".join(f"({text} AS ?v{number})" for number, (text, _) in enumerate(values))
+    (row,) = bindings(server.query(f"SELECT {terms} {{}}"))
+    assert [row.get(f"v{number}", {}).get("value") for number in range(len(values))] == [it for _, it in values]
+    assert row["v3"]["xml:lang"] == "en"
+
+
 def test_number_of_queries(busy: Server) -> None:
     """More queries than may run are refused at once, and pages are still served."""
 
