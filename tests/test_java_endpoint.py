@@ -273,7 +273,8 @@ def test_patterns(server: Server) -> None:
     values = [("regex('a.B', '^A\\\\.b', 'i')", "true"), ("regex('ab', 'b$')", "true"), ("regex('ab', 'B')", "false"),
               ("replace('abcb'@en, '(b)', '<$1>')", "a<b>c<b>"), ("replace('aB', 'b', 'x', 'i')", "ax"),
               ("regex('a', concat('(', ''))", None), ("regex(1, 'a')", None), ("replace('a', 'a', '$7')", None),
-              ("regex('a', 'a', concat('w', ''))", None), ("<http://www.w3.org/2005/xpath-functions#matches>('a', 'a')", None)]
+              ("regex('a', 'a', concat('w', ''))", None),
+              ("<http://www.w3.org/2005/xpath-functions#matches>('a', 'a')", None)]
     terms = " ".join(f"({text} AS ?v{number})" for number, (text, _) in enumerate(values))
     (row,) = bindings(server.query(f"SELECT {terms} {{}}"))
     assert [row.get(f"v{number}", {}).get("value") for number in range(len(values))] == [it for _, it in values]
