@@ -40,12 +40,13 @@ def test_rdflib(server: Server) -> None:  # noqa: F811
     assert len(list(graph.query("SELECT * { ?s a ?c }"))) == 1
 
 
-def test_federated(server: Server) -> None:  # noqa: F811
-    """A client joins two of the endpoints in one query."""
-    rdflib = pytest.importorskip("rdflib")
+def test_federated(server: Server, package: Path, tmp_path: Path) -> None:  # noqa: F811
+    """A client joins two of the endpoints in one query. (rdflib 6.1 asks the first one twice.)"""
     odd, three = (f"SERVICE <{server.address}{name}/sparql>" for name in ("odd", "three"))
-    rows = rdflib.Graph().query(f"SELECT * {{ {odd} {{ ?a a ?c }} {three} {{ ?x <u:p> ?b }} }}")
-    assert {(str(row.c), str(row.b)) for row in rows} == {("http://e.example/C", "u:a"), ("http://e.example/C", "u:b")}
+    (tmp_path / "empty.nt").write_text("")
+    done = java(package, tmp_path, "arq.sparql", "--data", "empty.nt", "--results", "csv",
+                f"SELECT ?c ?b {{ {odd} {{ ?a a ?c }} {three} {{ ?x <u:p> ?b }} }} ORDER BY ?b", tests=False)
+    assert (done.status, done.out.split()) == (0, [b"c,b", b"http://e.example/C,u:a", b"http://e.example/C,u:b"])
 
 
 @pytest.mark.parametrize("text, form, wanted", [

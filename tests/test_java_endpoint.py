@@ -257,9 +257,9 @@ def test_time_limit(busy: Server) -> None:
 
 @pytest.mark.parametrize("text", [
     "ASK { FILTER regex('%s', '^(a|a)*\\\\1?$') }", "ASK { FILTER(replace('%s', '(a|a)*\\\\1?b', '') = '') }",
-    "ASK { ?s ?p ?o BIND(concat('^(a|a)*\\\\1?$', ?p) AS ?r) FILTER regex('%s', ?r) }",
-    "SELECT (SUM(IF(regex('%s', concat('^(a|a)*\\\\1?$', ?p)), 1, 0)) AS ?n) { ?s ?p ?o }",
-    "SELECT * { ?s ?p ?o } ORDER BY regex('%s', concat('^(a|a)*\\\\1?$', ?p))",
+    "ASK { ?s ?p ?o BIND(concat('^(a|a)*\\\\1?$', str(?p)) AS ?r) FILTER regex('%s', ?r) }",
+    "SELECT (SUM(IF(regex('%s', concat('^(a|a)*\\\\1?$', str(?p))), 1, 0)) AS ?n) { ?s ?p ?o }",
+    "SELECT * { ?s ?p ?o } ORDER BY regex('%s', concat('^(a|a)*\\\\1?$', str(?p)))",
     "ASK { ?s ?p ?o FILTER NOT EXISTS { ?a ?b ?c FILTER regex(concat(?c, '%s'), '^(.)(a|a)*\\\\1?$') } }",
 ])
 def test_time_limit_of_patterns(busy: Server, text: str) -> None:

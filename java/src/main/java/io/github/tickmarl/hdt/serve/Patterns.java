@@ -19,6 +19,7 @@ import org.apache.jena.sparql.expr.ExprTransformCopy;
 import org.apache.jena.sparql.expr.NodeValue;
 import org.apache.jena.sparql.expr.RegexJava;
 import org.apache.jena.sparql.expr.nodevalue.NodeFunctions;
+import org.apache.jena.sparql.expr.nodevalue.XSDFuncOp;
 
 /**
  * Regular expressions that end with the time of their query. ARQ looks at that between solutions only, and a pattern,
@@ -46,44 +47,48 @@ final class Patterns extends ExprTransformCopy {
             : function instanceof E_StrReplace ? new Replace(args) : super.transform(function, args);
     }
 
-    private static Expr part(ExprList args, int index) {
-        return index < args.size() ? args.get(index) : null;
-    }
-
     private static String string(List<NodeValue> args, int index) {
         return NodeFunctions.checkAndGetStringLiteral("REGEX", args.get(index)).getLiteralLexicalForm();
     }
 
-    /** A pattern. A bad one is an error of the expression (ARQ would end the query). */
-    private static Pattern pattern(String text, String flags) {
-        try {
-            return RegexJava.makePattern("REGEX", text, flags);
-        } catch (ExprException error) {
-            throw new ExprEvalException(error.getMessage(), error);
+    /** A function whose second argument is a pattern. A bad one is an error of the expression; ARQ ends the query. */
+    private abstract class Matching extends ExprFunctionN {
+        private final int flagsAt; // the index of the argument with the flags, if it is there
+        private Pattern last;
+        private String made; // what the last one was made of
+
+        Matching(String name, ExprList args, int flagsAt) {
+            super(name, args);
+            this.flagsAt = flagsAt;
+        }
+
+        Pattern pattern(List<NodeValue> args) {
+            String flags = args.size() > flagsAt ? string(args, flagsAt) : "";
+            String key = flags + '/' + string(args, 1);
+            if (!key.equals(made)) {
+                try {
+                    last = RegexJava.makePattern("REGEX", string(args, 1), flags);
+                } catch (ExprException error) {
+                    throw new ExprEvalException(error.getMessage(), error);
+                }
+                made = key;
+            }
+            return last;
+        }
+
+        Matcher matcher(List<NodeValue> args) {
+            return pattern(args).matcher(new Timed(string(args, 0)));
         }
     }
 
-    private Matcher matcher(List<NodeValue> args, Pattern pattern) {
-        return pattern.matcher(new Timed(string(args, 0)));
-    }
-
-    private final class Regex extends E_Regex {
-        private Pattern pattern; // the last one
-        private String made;
-
+    private final class Regex extends Matching {
         Regex(ExprList args) {
-            super(args.get(0), args.get(1), part(args, 2));
+            super("regex", args, 2);
         }
 
         @Override
         public NodeValue eval(List<NodeValue> args) {
-            String flags = args.size() > 2 ? string(args, 2) : "";
-            String key = flags + '/' + string(args, 1);
-            if (!key.equals(made)) {
-                pattern = Patterns.pattern(string(args, 1), flags);
-                made = key;
-            }
-            return NodeValue.booleanReturn(matcher(args, pattern).find());
+            return NodeValue.booleanReturn(matcher(args).find());
         }
 
         @Override
@@ -92,20 +97,19 @@ final class Patterns extends ExprTransformCopy {
         }
     }
 
-    private final class Replace extends E_StrReplace {
+    private final class Replace extends Matching {
         Replace(ExprList args) {
-            super(args.get(0), args.get(1), args.get(2), part(args, 3));
+            super("replace", args, 3);
         }
 
         /** ARQ replaces what was found in time. */
         @Override
         public NodeValue eval(List<NodeValue> args) {
-            String flags = args.size() > 3 ? string(args, 3) : "";
-            Matcher matcher = matcher(args, pattern(string(args, 1), flags));
+            Matcher matcher = matcher(args);
             while (matcher.find()) {
                 continue;
             }
-            return super.eval(args);
+            return XSDFuncOp.strReplace(args.get(0), pattern(args), args.get(2));
         }
 
         @Override
