@@ -10,7 +10,9 @@ from __future__ import annotations
 
 import os
 import re
+import resource
 import shutil
+import signal
 import subprocess
 import sys
 import tempfile
@@ -20,8 +22,8 @@ TOP = Path(__file__).resolve().parent.parent
 OUT = TOP / "out/java"
 SOURCES = TOP / "java/src/main/java/io/github/tickmarl/hdt"
 JUNIT = "/usr/share/java/junit-platform-console-standalone.jar"
-CLASSES = ["RandomQueriesTest", "QueriesTest", "HdtFileTest", "HdtGraphTest"]
-SECONDS = 200
+CLASSES = ["LongTableTest", "QueriesTest", "RandomQueriesTest", "HdtFileTest", "HdtGraphTest"]
+SECONDS = 100  # of CPU time, for one class
 
 # The file, what is replaced, and by what.
 MUTANTS = [
@@ -122,9 +124,9 @@ def failed(name: str, folder: str, path: str) -> str:
                "-Dhdt.graphs=12", "-cp", f"{folder}:{OUT}/tests:{path}:{JUNIT}",
                "org.junit.platform.console.ConsoleLauncher", "--disable-banner", "--details=summary",
                "--select-class", f"io.github.tickmarl.hdt.{name}"]
-    try:
-        done = subprocess.run(command, capture_output=True, text=True, timeout=SECONDS, cwd=folder)
-    except subprocess.TimeoutExpired:
+    done = subprocess.run(command, capture_output=True, text=True, cwd=folder, preexec_fn=lambda: resource.setrlimit(
+        resource.RLIMIT_CPU, (SECONDS, SECONDS)))
+    if done.returncode == -signal.SIGKILL:
         return f"{name} doesn't end"
     found = re.findall(r"^  JUnit Jupiter:(\S+)", done.stdout, re.M)
     return " ".join(found) if found or done.returncode == 0 else f"{name} ends with status {done.returncode}"

@@ -24,7 +24,7 @@ TESTS = sorted((JAVA / "src/test/java").rglob("*Test.java"))
 PACKAGE = "io.github.tickmarl.hdt"
 SECONDS = 900
 # At least so many tests do the classes have together.
-COUNT = 35
+COUNT = 41
 
 pytestmark = [
     pytest.mark.skipif(not shutil.which("javac"), reason="there is no javac"),

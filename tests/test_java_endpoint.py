@@ -1,4 +1,4 @@
-"""The SPARQL endpoint of the Java package: the protocol, refusals, limits, new files; with curl, rdflib, Chromium.
+"""The SPARQL endpoint of the Java package: the protocol, refusals, limits, new files.
 
 They are run where the tests of the Java package are (test_java).
 """
@@ -6,9 +6,7 @@ They are run where the tests of the Java package are (test_java).
 from __future__ import annotations
 
 import json
-import os
 import re
-import shutil
 import socket
 import subprocess
 import threading
@@ -227,6 +225,9 @@ def test_fetches_nothing(server: Server) -> None:
     statuses = {text: server.query(text).status for text in refused}
     assert {status for text, status in statuses.items() if not re.search("SUM|ORDER", text)} == {403}
     assert server.query(f"SELECT * {{ GRAPH <{it.address}> {{ ?s ?p ?o }} }}").status == 200
+    load = urlencode({"update": f"LOAD <{it.address}>"}).encode()
+    assert server.ask("odd/sparql", load, content_type="application/x-www-form-urlencoded").status == 403
+    assert server.query(f"LOAD <{it.address}>").status == 400
     assert not it.has_come()
     loading = server.query("SELECT * { ?s ?p ?o FILTER(<java:java.lang.Thread>(?o)) }")
     assert loading.status != 200 or bindings(loading) == []
@@ -252,6 +253,32 @@ def test_time_limit(busy: Server) -> None:
     assert "more than 3.0 s" in answer.text
     assert time.monotonic() - begin < 60
     assert busy.query("ASK {}", name="many").status == 200
+
+
+@pytest.mark.parametrize("text", [
+    "ASK { FILTER regex('%s', '^(a|a)*\\\\1?$') }", "ASK { FILTER(replace('%s', '(a|a)*\\\\1?b', '') = '') }",
+    "ASK { ?s ?p ?o BIND(concat('^(a|a)*\\\\1?$', str(?p)) AS ?r) FILTER regex('%s', ?r) }",
+    "SELECT (SUM(IF(regex('%s', concat('^(a|a)*\\\\1?$', str(?p))), 1, 0)) AS ?n) { ?s ?p ?o }",
+    "SELECT * { ?s ?p ?o } ORDER BY regex('%s', concat('^(a|a)*\\\\1?$', str(?p)))",
+    "ASK { ?s ?p ?o FILTER NOT EXISTS { ?a ?b ?c FILTER regex(concat(?c, '%s'), '^(.)(a|a)*\\\\1?$') } }",
+])
+def test_time_limit_of_patterns(busy: Server, text: str) -> None:
+    """A regular expression that takes exponential time for a string is ended, too."""
+    answer = busy.query(text % ("a" * 60 + "c"), name="many")
+    assert (answer.status, answer.headers["retry-after"]) == (503, "2")
+
+
+def test_patterns(server: Server) -> None:
+    """Regular expressions are those of ARQ: flags, groups, tags, bad ones; the functions of XPath are not there."""
+    values = [("regex('a.B', '^A\\\\.b', 'i')", "true"), ("regex('ab', 'b$')", "true"), ("regex('ab', 'B')", "false"),
+              ("replace('abcb'@en, '(b)', '<$1>')", "a<b>c<b>"), ("replace('aB', 'b', 'x', 'i')", "ax"),
+              ("regex('a', concat('(', ''))", None), ("regex(1, 'a')", None), ("replace('a', 'a', '$7')", None),
+              ("regex('a', 'a', concat('w', ''))", None),
+              ("<http://www.w3.org/2005/xpath-functions#matches>('a', 'a')", None)]
+    terms = " ".join(f"({text} AS ?v{number})" for number, (text, _) in enumerate(values))
+    (row,) = bindings(server.query(f"SELECT {terms} {{}}"))
+    assert [row.get(f"v{number}", {}).get("value") for number in range(len(values))] == [it for _, it in values]
+    assert row["v3"]["xml:lang"] == "en"
 
 
 def test_number_of_queries(busy: Server) -> None:
@@ -357,49 +384,6 @@ def test_help(package: Path) -> None:  # noqa: F811
     """The options are explained."""
     done = run(["java", "-jar", package / "tickmarl-hdt.jar", "serve", "--help"])
     assert (done.status, done.err) == (0, b"") and b"--max-rows N" in done.out
-
-
-@pytest.mark.skipif(not shutil.which("curl"), reason="there is no curl")
-def test_curl(server: Server) -> None:
-    """As docs/JAVA.md asks it."""
-    address = f"{server.address}three/sparql"
-    done = run(["curl", "-s", "-H", "Accept: text/csv", "--data-urlencode", f"query={ALL}", address])
-    assert done.out.decode().splitlines()[0] == "s,p,o" and done.out.count(b"\n") == 4
-
-
-def test_rdflib(server: Server) -> None:
-    """The store of rdflib for endpoints asks it."""
-    rdflib = pytest.importorskip("rdflib")
-    from rdflib.plugins.stores.sparqlstore import SPARQLStore
-
-    graph = rdflib.Graph(SPARQLStore(server.address + "odd/sparql"))
-    subject, predicate = rdflib.URIRef("http://e.example/a"), rdflib.URIRef("http://e.example/p")
-    assert {str(each) for each in graph.objects(subject, predicate)} == {"<script>alert(1)</script>", 'x\ty\n,"'}
-    assert len(list(graph.query("SELECT * { ?s a ?c }"))) == 1
-
-
-def browse(folder: Path, address: str) -> tuple[str, str]:
-    """The page as Chromium has it after its scripts, and what the browser says."""
-    done = subprocess.run(
-        ["chromium", "--headless=new", "--no-sandbox", "--disable-gpu", "--no-first-run", f"--user-data-dir={folder}",
-         "--enable-logging=stderr", "--host-resolver-rules=MAP * ~NOTFOUND, EXCLUDE 127.0.0.1",
-         "--virtual-time-budget=20000", "--dump-dom", address], capture_output=True, timeout=200, env=dict(os.environ))
-    return done.stdout.decode(), done.stderr.decode()
-
-
-@pytest.mark.skipif(not shutil.which("chromium"), reason="there is no chromium (Debian: chromium)")
-@pytest.mark.parametrize("text, shown", [
-    (ALL, "4 rows."), ("ASK {}", "Yes."), ("CONSTRUCT WHERE { ?s a ?c }", "&lt;http://e.example/C&gt;"),
-    ("SELECT", "Encountered"),
-])
-def test_page(server: Server, tmp_path: Path, text: str, shown: str) -> None:
-    """The page asks, and shows the answer; what the file has is not run as a script."""
-    dom, said = browse(tmp_path, f"{server.address}odd?{urlencode({'query': text})}")
-    assert shown in dom
-    assert "<script>alert" not in dom
-    if text == ALL:
-        assert dom.count("<tr>") == 5 and "&lt;script&gt;alert(1)&lt;/script&gt; @en" in dom
-    assert "CONSOLE" not in re.sub(".*the server responded with a status of 400.*", "", said), said
 
 
 def test_pages_as_text(server: Server) -> None:

@@ -62,6 +62,7 @@ final class Answer {
                 .model(ModelFactory.createModelForGraph(graph))
                 .set(ARQ.httpServiceAllowed, options.allowsService).set(ARQ.enablePropertyFunctions, false)
                 .set(ARQConstants.registryFunctions, FUNCTIONS)
+                .set(ARQConstants.sysOptimizerFactory, Patterns.within(options.timeout))
                 .timeout((long) (1000 * options.timeout), TimeUnit.MILLISECONDS).build()) {
             if (query.isSelectType()) {
                 ResultSetFormatter.output(out, limited(execution.execSelect()), lang);
