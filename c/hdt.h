@@ -329,6 +329,14 @@ void hdt_split(const uint8_t *text, size_t len, uint32_t parts, const uint8_t *p
  * triples if the order of the IDs changes. */
 void hdt_rewrite(const uint8_t *bytes, size_t len, uint32_t block_size, hdt_bytes *out, hdt_verdict *verdict);
 
+/* Replaces the header of a file by N-Triples about the graph, as they are: a title, a licence. All other bytes stay, but the header's
+ * length and the CRC over it: nothing is encoded again. The header may be empty. With HDT_DONE in both the verdict and the report, out
+ * has the new file, and both have its counts; else out has nothing. The verdict is that of hdt_verify. If it is HDT_DONE, the report
+ * has the first error of the header, by line and column, as hdt_build reports it. HDT_OUT_OF_MEMORY is in both. Linear time; memory
+ * of the new file, and that of hdt_build for the triples of the header, which is freed. */
+void hdt_with_header(const uint8_t *bytes, size_t len, const uint8_t *header, size_t header_len, hdt_bytes *out,
+                     hdt_verdict *verdict, hdt_report *report);
+
 /* Merges the graphs of an array of `count` open handles: makes the canonical file of all their triples, each once. The
  * order of the handles makes no difference, and a blank node label in two files is one node, as in one document.
  * Strings that no triple uses are left out. The options are those of hdt_build, and the file has none of the old

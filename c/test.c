@@ -609,6 +609,44 @@ static int alike(hdt_graph *a, hdt_graph *b) {
     return same;
 }
 
+static const char title[] = "<u:a> <u:title> \"x\" .\n";
+
+static void put_header(const uint8_t *bytes, size_t len, const char *header, hdt_bytes *out, hdt_verdict *verdict, hdt_report *report) {
+    hdt_with_header(bytes, len, (const uint8_t *)header, strlen(header), out, verdict, report);
+}
+
+/* A file with a new header is a file of the same triples; with its old header again it is the same file. */
+static void describe(hdt_graph *graph, const guarded *file, const hdt_verdict *verdict) {
+    hdt_bytes out = HDT_BYTES_INIT, again = HDT_BYTES_INIT;
+    hdt_graph made = HDT_GRAPH_INIT;
+    hdt_verdict told, other;
+    hdt_report report;
+    uint8_t header[sizeof title];
+    long before = live;
+    size_t len = hdt_header(graph, header, 0);
+    uint8_t *old = malloc(len + 1);
+    put_header(file->at, file->len, title, &out, &told, &report);
+    CHECK(same_verdict(&told, verdict) && report.reason == HDT_DONE && report.line == 0 && report.column == 0);
+    CHECK(memcmp(report.counts, told.counts, sizeof told.counts) == 0 && out.state == 1);
+    hdt_open(out.at, out.len, &made, &other);
+    CHECK(same_verdict(&told, &other) && hdt_matching(graph, GIVEN(&any)) == hdt_matching(&made, GIVEN(&any)));
+    CHECK(hdt_header(&made, header, sizeof header) == sizeof title - 1 && memcmp(header, title, sizeof title - 1) == 0);
+    hdt_close(&made);
+    hdt_header(graph, old, len);
+    hdt_with_header(out.at, out.len, old, len, &again, &told, &report);
+    if (report.reason == HDT_DONE) { /* nothing checks the headers of other tools */
+        CHECK(again.len == file->len && memcmp(again.at, file->at, file->len) == 0);
+    }
+    put_header(file->at, file->len, "<u:a> <u:title>\n<u:b> .\n", &out, &told, &report);
+    CHECK(told.reason == HDT_DONE && told.counts[0] == 0 && has_nothing(&out));
+    CHECK(report.reason == HDT_TEXT_SYNTAX && report.line == 1 && report.column > 10 && report.counts[0] == 0);
+    put_header(file->at, file->len - 1, "no", &out, &told, &report);
+    CHECK(told.reason != HDT_DONE && report.reason == HDT_DONE && report.counts[0] == 0 && has_nothing(&out));
+    hdt_free(&again);
+    free(old);
+    CHECK(live == before);
+}
+
 /* A file rewritten in blocks of several sizes is a file of the same triples; so is one that is built of the graph's text. */
 static void remake(hdt_graph *graph, const guarded *file, const hdt_verdict *verdict) {
     static const uint32_t sizes[] = {1, 2, 16, 65535}, bad[] = {0, 65536, UINT32_MAX};
@@ -1030,6 +1068,20 @@ static int call_rewrite(const job *it) {
     return answer;
 }
 
+static int call_with_header(const job *it) {
+    hdt_bytes made = HDT_BYTES_INIT;
+    hdt_verdict told;
+    hdt_report report;
+    int answer;
+    put_header(it->file->at, it->file->len, title, &made, &told, &report);
+    answer = told.reason == HDT_OUT_OF_MEMORY ? (report.reason == HDT_OUT_OF_MEMORY && has_nothing(&made) ? TOLD : WRONG) : WRONG;
+    if (told.reason == HDT_DONE && report.reason == HDT_DONE) {
+        answer = same_verdict(&told, &it->ample) && made.len > sizeof title ? AMPLE : WRONG;
+    }
+    hdt_free(&made);
+    return answer;
+}
+
 static int call_merge(const job *it) {
     hdt_graph two[2] = {HDT_GRAPH_INIT, HDT_GRAPH_INIT}, was[2];
     hdt_bytes made = HDT_BYTES_INIT;
@@ -1109,6 +1161,7 @@ static void refuse(const guarded *file, const hdt_verdict *verdict) {
     }
     hdt_rewrite(file->at, file->len, 16, &it.rewritten, &told);
     refuse_each("rewrite", call_rewrite, &it);
+    refuse_each("with header", call_with_header, &it);
     merge(&graph, 1, &it.merged, &report);
     refuse_each("merge", call_merge, &it);
     hdt_free(&it.document);
@@ -1341,6 +1394,7 @@ static void all_of(const document *it, const uint8_t *name, size_t name_len, uin
         CHECK(outcome.reason == HDT_DONE && made.len == it->len && memcmp(made.at, it->at, it->len) == 0);
         hdt_free(&made);
         remake(&graph, &file, &verdict);
+        describe(&graph, &file, &verdict);
     }
     hdt_close(&graph);
     CHECK(live == before);
@@ -1533,6 +1587,7 @@ static void test(const guarded *file) {
         opened_again(&graph, file, &verdict);
         shares(&graph, file, file->len < 1000 ? 24 : 1);
         remake(&graph, file, &verdict);
+        describe(&graph, file, &verdict);
         merges(&graph, &verdict);
         threads(file);
     }

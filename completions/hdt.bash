@@ -31,7 +31,7 @@ _hdt() {
     answer) options="--verbose --no-progress --raw --numbers --count --skip-non-terms --most --longest-request --help" arguments=".hdt" ;;
     dump) options="--verbose --no-progress --skip-non-terms --help" arguments=".hdt" ;;
     count) options="--verbose --no-progress --top --raw --help" arguments=".hdt subject|predicate|object" ;;
-    build) options="--verbose --no-progress --base --block-size --longest-line --progress --help" arguments=".nt .hdt" ;;
+    build) options="--verbose --no-progress --base --block-size --blank-nodes --longest-line --progress --help" arguments=".nt .nt" ;;
     rewrite) options="--verbose --no-progress --block-size --progress --help" arguments=".hdt .hdt" ;;
     merge) options="--verbose --no-progress --base --block-size --progress --help" arguments=".hdt .hdt" ;;
     lint) options="--keep --most --longest-line --verbose --help" arguments=".nt" ;;
@@ -42,7 +42,7 @@ _hdt() {
     for i in "${words[@]:2}"; do
         case $skip$i in
         =*) skip="" ;;
-        --prefix | --most | --longest-request | --top | --base | --block-size | --longest-line | --parts | --of | --blank-nodes) skip="=" ;;
+        --prefix | --most | --longest-request | --top | --base | --block-size | --blank-nodes | --longest-line | --parts | --of) skip="=" ;;
         -?*) ;;
         *) count=$((count + 1)) ;;
         esac

@@ -10,7 +10,7 @@ function __hdt_argument --argument-names command number
         switch "$skip$word"
             case '=*'
                 set skip
-            case --prefix --most --longest-request --top --base --block-size --longest-line --parts --of --blank-nodes
+            case --prefix --most --longest-request --top --base --block-size --blank-nodes --longest-line --parts --of
                 set skip =
             case '-?*'
             case '*'
@@ -114,11 +114,12 @@ complete -c hdt -n '__hdt_command build' -l verbose -d 'Print more lines after a
 complete -c hdt -n '__hdt_command build' -l no-progress -d 'Show no progress on a terminal'
 complete -c hdt -n '__hdt_command build' -l base -x -d 'The IRI that names the graph in the header'
 complete -c hdt -n '__hdt_command build' -l block-size -x -d 'Strings per dictionary block, 1 to 65535'
+complete -c hdt -n '__hdt_command build' -l blank-nodes -x -d 'Whether a label is one node in all inputs: one or apart'
 complete -c hdt -n '__hdt_command build' -l longest-line -x -d 'Reject lines of more than N bytes'
 complete -c hdt -n '__hdt_command build' -l progress -d 'Report the bytes read in lines on standard error'
 complete -c hdt -n '__hdt_command build' -l help -s h -d 'Print help'
 complete -c hdt -n '__hdt_argument build 1' -k -a '(__fish_complete_suffix .nt)'
-complete -c hdt -n '__hdt_argument build 2' -k -a '(__fish_complete_suffix .hdt)'
+complete -c hdt -n '__hdt_argument build 2' -k -a '(__fish_complete_suffix .nt)'
 complete -c hdt -n '__hdt_command rewrite' -l verbose -d 'Print more lines after an error message'
 complete -c hdt -n '__hdt_command rewrite' -l no-progress -d 'Show no progress on a terminal'
 complete -c hdt -n '__hdt_command rewrite' -l block-size -x -d 'Strings per dictionary block, 1 to 65535'

@@ -219,6 +219,9 @@ WRONG = {
                        "RIGHT(g, n > 1 && g[n - 1].state == 1 ? n - 1 : n, b, bn, k, out, r);"),
     "hdt_rewrite": Wrong("void", "const uint8_t *b, size_t n, uint32_t k, hdt_bytes *out, hdt_verdict *v",
                          "if (k > 65535) k = 65535; RIGHT(b, n, k, out, v);"),
+    "hdt_with_header": Wrong("void", "const uint8_t *b, size_t n, const uint8_t *h, size_t hn, hdt_bytes *out, "
+                                     "hdt_verdict *v, hdt_report *r",
+                             "RIGHT(b, n, h, hn, out, v, r); if (r->line) r->line++;"),
     "hdt_free": Wrong("void", "hdt_bytes *b", "memset(b, 0, sizeof *b);"),
     "hdt_verify_tight": Wrong("void", "const uint8_t *b, size_t n, hdt_verdict *v", "hdt_verify(b, n / 2, v);"),
     "hdt_pattern_find": Wrong("uint64_t", "hdt_graph *g, const hdt_pattern *q, uint64_t skip, uint64_t (*out)[3], "

@@ -281,7 +281,8 @@ def usage(text: bytes) -> Result:
 LACKS = b"the following required arguments were not provided:\n  "
 # Command lines that are refused, and the text of each.
 USAGES: list[tuple[list[Word], bytes]] = [
-    (["build", "a.nt"], LACKS + b"<OUT>\n\nUsage: hdt build <IN> <OUT>"),
+    (["build", "a.nt"], b"OUT is missing"),
+    (["build"], LACKS + b"<IN>\n\nUsage: hdt build [OPTIONS] <IN>... <OUT>"),
     (["build", "--block-size", "4294967296", "a.nt", "b.hdt"],
      b"invalid value '4294967296' for '--block-size <N>': 4294967296 is not in 0..=4294967295"),
     (["strings", "a.hdt", "thing"],

@@ -37,6 +37,7 @@ from ._graph import Graph
 from ._ids import IdArray
 from ._library import VERSION
 from ._merging import merge
+from ._metadata import metadata
 from ._opening import open
 from ._terms import Term
 
@@ -55,6 +56,7 @@ __all__ = [
     "Term",
     "build",
     "merge",
+    "metadata",
     "open",
     "rewrite",
     "verify",

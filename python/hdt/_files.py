@@ -10,7 +10,7 @@ import operator
 import os
 import secrets
 import stat
-from typing import Any, NamedTuple, Optional
+from typing import Any, NamedTuple, Optional, Union
 
 from ._calls import Counts, Path, counts_of, encoded
 from ._library import Lent, Made, Report, Verdict, library
@@ -181,21 +181,43 @@ def longest_of(line: Optional[int], path: Path) -> Optional[LongestLine]:
     return LongestLine(number, path)
 
 
-def rewrite(in_path: Path, out_path: Path, block_size: int = 16) -> Counts:
+def rewrite(
+    in_path: Path, out_path: Path, block_size: Optional[int] = None, *, header: Union[str, bytes, None] = None
+) -> Counts:
     """Write the canonical file of a file's triples, with its header and without unused strings; return its counts.
+
+    `block_size` is 16 if it is None. With `header`, N-Triples about the graph as those of `metadata`, only the header
+    is replaced, by this text as it is: nothing is encoded again, so there can be no block size, and all other bytes
+    stay, but for the header's length and the CRC over it. It may be empty.
 
     The output is replaced atomically, as by `build`; both paths may be the same.
 
-    Errors: `Fault` as of `verify`, ValueError for the block size, TypeError if it is no integer, MemoryError, OSError.
-    The time is linear in the file, but for sorting the triples if the order of the IDs changes.
+    Errors: `Fault` as of `verify`; `LineFault`, without a path, if the header is not N-Triples; ValueError for the
+    block size; TypeError if it is no integer; MemoryError; OSError. The time is linear in the file, but for sorting the
+    triples if the order of the IDs changes.
 
     >>> hdt.rewrite("graph.hdt", "other.hdt", block_size=4) == hdt.verify("other.hdt")
     True
+    >>> counts = hdt.rewrite("graph.hdt", "other.hdt", header='<http://a/> <http://purl.org/dc/terms/title> "A" .')
     """
-    verdict = Verdict()
+    if header is not None and block_size is not None:
+        raise ValueError("a new header replaces nothing else: there can be no block size")
+    size = _block_size(16 if block_size is None else block_size)
     with Made() as made:
         with Lent(data_of(in_path)[0]) as lent:
-            library.hdt_rewrite(lent.address, lent.size, _block_size(block_size), made, verdict)
-        counts = counts_of(verdict, in_path)
+            counts = _rewritten(lent, made, size, header, in_path)
         replace(out_path, made.view())
     return counts
+
+
+def _rewritten(lent: Lent, made: Made, block_size: int, header: Union[str, bytes, None], path: Path) -> Counts:
+    """Rewrite a file, or replace only its header, and return its counts. Raises what `rewrite` does."""
+    verdict = Verdict()
+    if header is None:
+        library.hdt_rewrite(lent.address, lent.size, block_size, made, verdict)
+        return counts_of(verdict, path)
+    report = Report()
+    with Lent(encoded(header) if isinstance(header, str) else header) as text:
+        library.hdt_with_header(lent.address, lent.size, text.address, text.size, made, verdict, report)
+    counts_of(verdict, path)
+    return counts_of(report)

@@ -169,6 +169,7 @@ def _load() -> Any:
         ("hdt_merge", [*bytes_of, *bytes_of, ctypes.c_uint32, made, report], None),
         ("hdt_split", [*bytes_of, ctypes.c_uint32, *bytes_of, made, room, size, split_report], None),
         ("hdt_rewrite", [*bytes_of, ctypes.c_uint32, made, verdict], None),
+        ("hdt_with_header", [*bytes_of, *bytes_of, made, verdict, report], None),
         ("hdt_free", [made], None),
         ("hdt_version", [], ctypes.c_uint32),
     ):

@@ -48,6 +48,8 @@ extern "C" {
     fn hdt_split(text: *const u8, len: usize, parts: u32, prefix: *const u8, prefix_len: usize, out: *mut hdt_bytes,
                  ends: *mut u64, room: usize, report: *mut hdt_split_report);
     fn hdt_rewrite(bytes: *const u8, len: usize, block_size: u32, out: *mut hdt_bytes, verdict: *mut hdt_verdict);
+    fn hdt_with_header(bytes: *const u8, len: usize, header: *const u8, header_len: usize, out: *mut hdt_bytes,
+                       verdict: *mut hdt_verdict, report: *mut hdt_report);
     fn hdt_term(string: *const u8, len: usize, parts: *mut hdt_term_parts) -> u32;
     fn hdt_term_string(kind: u32, text: *const u8, len: usize, suffix: *const u8, suffix_len: usize, out: *mut u8,
                        room: usize) -> u64;
@@ -385,6 +387,14 @@ pub(crate) fn rewrite(bytes: &[u8], block_size: u16) -> (Bytes, hdt_verdict) {
     // SAFETY: there are as many bytes as it says, and it has `out` and `verdict` alone.
     unsafe { hdt_rewrite(bytes.as_ptr(), bytes.len(), block_size.into(), &mut out.made, &mut verdict) };
     (out, verdict)
+}
+
+pub(crate) fn with_header(bytes: &[u8], header: &[u8]) -> (Bytes, hdt_verdict, hdt_report) {
+    let (mut out, mut verdict, mut report) = (Bytes::new(), hdt_verdict::default(), hdt_report::default());
+    let (at, len, header_at, header_len) = (bytes.as_ptr(), bytes.len(), header.as_ptr(), header.len());
+    // SAFETY: both have as many bytes as they say, and it has all three results alone.
+    unsafe { hdt_with_header(at, len, header_at, header_len, &mut out.made, &mut verdict, &mut report) };
+    (out, verdict, report)
 }
 
 /// The call's reason, and the parts of the term.

@@ -164,6 +164,34 @@ pub fn rewrite(bytes: &[u8], block_size: u16) -> Result<(Bytes, Counts), Error> 
     Ok((file, counts_of(&verdict)?))
 }
 
+/// Replaces the header of a file by N-Triples about its graph, and returns the new file and its counts.
+///
+/// The header is written as it is, and may be empty. All other bytes stay, but the header's length and the CRC over it:
+/// nothing is encoded again. [`Graph::header`](crate::Graph::header) reads it. Time is linear.
+///
+/// # Errors
+///
+/// [`Error::File`] has the first error of the file; else [`Error::Text`] that of the header; [`Error::OutOfMemory`].
+///
+/// ```
+/// use tickmarl_hdt::{build, with_header, BLOCK_SIZE};
+///
+/// # fn main() -> Result<(), tickmarl_hdt::Error> {
+/// let (file, counts) = build(b"<u:a> <u:p> \"x\" .\n", "http://example.org/", BLOCK_SIZE)?;
+/// let (described, same) = with_header(&file, b"<http://example.org/> <http://purl.org/dc/terms/title> \"X\" .\n")?;
+/// assert_eq!(same, counts);
+/// # Ok(())
+/// # }
+/// ```
+pub fn with_header(bytes: &[u8], header: &[u8]) -> Result<(Bytes, Counts), Error> {
+    let (file, verdict, report) = ffi::with_header(bytes, header);
+    counts_of(&verdict)?;
+    match report.reason {
+        ffi::HDT_DONE => Ok((file, Counts::of(report.counts))),
+        reason => Err(Error::of_text(reason, report.line, report.column)),
+    }
+}
+
 /// The counts of a verdict that is done, else its error.
 pub(crate) fn counts_of(verdict: &ffi::hdt_verdict) -> Result<Counts, Error> {
     match verdict.reason {

@@ -1,49 +1,62 @@
 -- Reading the lines of an input, and collecting the strings of its triples.
-use Rattle.std.proofs.Common.{◌≡◌, ◌≢◌, ℕ, ◌<◌, ◌≤◌, Bool, true, false, List, [], ◌∷◌, ◌++◌, length, map, eqb, not}
-use Rattle.std.proofs.Common.{Option, Some, None, ◌⊎◌, inl, inr, refl, sym, ap, subst, ◌∙◌, arith}
+use Rattle.std.proofs.Common.{◌≡◌, ◌≢◌, ℕ, ◌<◌, ◌≤◌, Bool, true, false, List, [], ◌∷◌, ◌++◌, ◌||◌, length, map}
+use Rattle.std.proofs.Common.{Option, Some, None, ◌⊎◌, inl, inr, refl, sym, ap, subst, ◌∙◌, append_assoc, append-nil, arith}
 use Rattle.std.specs.Io.KnownBytes.{IsAtEnd, prepend_known}
 use Rattle.std.specs.List.{All}
-use Rattle.std.proofs.lemmas.Bool.{eqb-false}
 use Rattle.std.proofs.lemmas.List.{length-append, map_push}
 use Rattle.std.proofs.lemmas.List.Elements.{All-push}
-use Rattle.std.proofs.lemmas.List.Sums.{AllPass-from_list_all}
-use Rattle.hdt_wire.specs.Laws.Checks.{not-true}
+use Rattle.std.proofs.lemmas.List.Folds.{list_any-append}
 use Rattle.hdt_dict.specs.Strings.{IsDictionaryString}
 use Rattle.hdt_terms.specs.declared.fault.LineFault.{LineFault}
 use Rattle.hdt_terms.specs.declared.fault.LineReason.TheVariants.{Read}
 use Rattle.hdt_terms.specs.declared.triple.Triple.{Triple}
 use Rattle.hdt_build.specs.declared.fault.BuildFault.{BuildFault}
 use Rattle.hdt_terms.specs.Documents.{IsDocumentInput, TriplesSoFar, FaultInDocument}
-use Rattle.hdt_terms.specs.LineParsing.{AreTripleStrings}
 use Rattle.hdt_terms.specs.Lines.{EncodesTriple}
 use Rattle.hdt_terms.specs.LinesReader.{LinesState, TakesTriple, start, left}
-use Rattle.hdt_terms.specs.Terms as terms
-use Rattle.hdt_terms.specs.Terms.{dictionary_string}
 use Rattle.hdt_file.specs.Denoted.{StringTriple}
 use Rattle.hdt_build.specs.Graph.{subjects_of, predicates_of, objects_of}
-use Rattle.hdt_build.proofs.StringsOfIds.{same_strings}
+use Rattle.hdt_build.specs.Documents.{AddsDocument, have_blank_nodes, is_blank_node, prefixed_strings, prefixed_triple}
 use Rattle.hdt_build.specs.Reading.{most, term_strings, IsInputGraph, HasDictionaryStrings, IsConvertedTo, ReadFailed}
 use Rattle.hdt_build.specs.Reading.{IsBuildFaultOf}
+use Rattle.hdt_build.proofs.PrefixedLabels.{unprefixed}
 
 pub either : (b : Bool) → (b ≡ true) ⊎ (b ≡ false)
 either true = inl refl
 either false = inr refl
 
--- the triples so far, as strings
-pub record IsReadSoFar (s : LinesState) (input mid : Option (List ℕ)) (graph : List StringTriple) : Type 0 where
+-- the triples so far, as strings with the prefix, after those before
+pub record IsReadSoFar (prefix : List ℕ) (s : LinesState) (input mid : Option (List ℕ))
+    (before graph : List StringTriple) (blank : Bool) : Type 0 where
   pub triples : List Triple
-  pub strings : graph ≡ map term_strings triples
+  pub strings : graph ≡ before ++ prefixed_strings prefix triples
+  pub blank_is : blank ≡ have_blank_nodes triples
   pub going : s.ended ≡ false → TriplesSoFar most s input mid triples
   pub ended : s.ended ≡ true → IsDocumentInput most input triples
   pub end : s.ended ≡ true → (s.buffered ≡ []) × IsAtEnd mid
 
-strings_more : (graph : List StringTriple) (triples : List Triple) (triple : Triple) (s p o : List ℕ)
-    → graph ≡ map term_strings triples → AreTripleStrings triple s p o
-    → graph ++ (s, p, o) ∷ [] ≡ map term_strings (triples ++ triple ∷ [])
-strings_more graph triples triple s p o is t =
-    let one : let l : StringTriple = (s, p, o) in l ≡ term_strings triple =
-    same_strings _ _ _ _ _ _ t.s_is t.p_is t.o_is in
-    (λ i. is i ++ one i ∷ []) ∙ sym (map_push term_strings triples triple)
+strings_more : (prefix : List ℕ) (before graph : List StringTriple) (triples : List Triple) (triple : Triple)
+    (added : StringTriple) → graph ≡ before ++ prefixed_strings prefix triples
+    → added ≡ term_strings (prefixed_triple prefix triple)
+    → graph ++ added ∷ [] ≡ before ++ prefixed_strings prefix (triples ++ triple ∷ [])
+strings_more prefix before graph triples triple added is one =
+    (λ i. is i ++ one i ∷ [])
+    ∙ (append_assoc before (prefixed_strings prefix triples) (term_strings (prefixed_triple prefix triple) ∷ [])
+    ∙ ap (λ (l : List StringTriple). before ++ l)
+    (sym (map_push (λ (t : Triple). term_strings (prefixed_triple prefix t)) triples triple)))
+
+or_false : (b : Bool) → (b || false) ≡ b
+or_false true = refl
+or_false false = refl
+
+blank_more : (triples : List Triple) (triple : Triple) (old new : Bool) → old ≡ have_blank_nodes triples
+    → new ≡ (old || (is_blank_node triple.s || is_blank_node triple.o))
+    → new ≡ have_blank_nodes (triples ++ triple ∷ [])
+blank_more triples triple old new is one =
+    let test : Triple → Bool = λ t. is_blank_node t.s || is_blank_node t.o in
+    one ∙ (ap (λ (b : Bool). b || test triple) is
+    ∙ (ap (λ (b : Bool). have_blank_nodes triples || b) (sym (or_false (test triple)))
+    ∙ sym (list_any-append test triples (triple ∷ []))))
 
 -- nothing is left after a last line without a line end
 nothing_left : (old new : LinesState) (x y : Option (List ℕ)) (triple : Triple) → TakesTriple old new x y triple
@@ -58,44 +71,39 @@ at_end buffered None none e = tt
 at_end buffered (Some xs) none e = sym (ap (λ (ys : List ℕ). ys ++ xs) none) ∙ e
 
 -- one more triple
-pub run_on : (s new : LinesState) (input mid after : Option (List ℕ)) (graph : List StringTriple) (triple : Triple)
-    (a b c : List ℕ) → IsReadSoFar s input mid graph → s.ended ≡ false → AreTripleStrings triple a b c
+pub run_on : (prefix : List ℕ) (s new : LinesState) (input mid after : Option (List ℕ))
+    (before graph more : List StringTriple) (triple : Triple) (added : StringTriple) (old blank : Bool)
+    → IsReadSoFar prefix s input mid before graph old → s.ended ≡ false → more ≡ graph ++ added ∷ []
+    → added ≡ term_strings (prefixed_triple prefix triple)
+    → blank ≡ (old || (is_blank_node triple.s || is_blank_node triple.o))
     → ((triples : List Triple) → TriplesSoFar most s input mid triples → new.ended ≡ false
     → TriplesSoFar most new input after (triples ++ triple ∷ []))
     → ((triples : List Triple) → TriplesSoFar most s input mid triples → new.ended ≡ true
     → IsDocumentInput most input (triples ++ triple ∷ []))
     → TakesTriple s new mid after triple
-    → IsReadSoFar new input after (graph ++ (a, b, c) ∷ [])
-run_on s new input mid after graph triple a b c r still are on last taken = record {
-  triples = r.triples ++ triple ∷ [];
-  strings = strings_more graph r.triples triple a b c r.strings are;
-  going = λ e. on r.triples (r.going still) e;
-  ended = λ e. last r.triples (r.going still) e;
-  end = λ e. nothing_left s new mid after triple taken e;
-}
+    → IsReadSoFar prefix new input after before more blank
+run_on prefix s new input mid after before graph more triple added old blank r still grown are has on last taken =
+    record {
+      triples = r.triples ++ triple ∷ [];
+      strings = grown ∙ strings_more prefix before graph r.triples triple added r.strings are;
+      blank_is = blank_more r.triples triple old blank r.blank_is has;
+      going = λ e. on r.triples (r.going still) e;
+      ended = λ e. last r.triples (r.going still) e;
+      end = λ e. nothing_left s new mid after triple taken e;
+    }
 
 -- ---- strings
 
-text_of : (x : List ℕ) → terms.IsText x → IsDictionaryString x
-text_of x h = record {
-  utf8 = h.utf8;
-  no_zero = λ k d lt. eqb-false _ _ (not-true _ (AllPass-from_list_all (λ (c : ℕ). not (eqb c 0)) x h.no_zero k d lt));
-}
-
-pub texts_more : (graph : List StringTriple) (triple : Triple) (s p o : List ℕ) → HasDictionaryStrings graph
-    → AreTripleStrings triple s p o
-    → terms.IsText (dictionary_string triple.s) → terms.IsText (dictionary_string triple.p)
-    → terms.IsText (dictionary_string triple.o) → HasDictionaryStrings (graph ++ (s, p, o) ∷ [])
-texts_more graph triple s p o h are a b c = record {
-  subjects_are = subst (All IsDictionaryString) (sym (map_push (λ (t : StringTriple). t.0) graph (s, p, o)))
-      (All-push IsDictionaryString (subjects_of graph) s h.subjects_are
-      (subst IsDictionaryString (sym are.s_is) (text_of (dictionary_string triple.s) a)));
-  predicates_are = subst (All IsDictionaryString) (sym (map_push (λ (t : StringTriple). t.1) graph (s, p, o)))
-      (All-push IsDictionaryString (predicates_of graph) p h.predicates_are
-      (subst IsDictionaryString (sym are.p_is) (text_of (dictionary_string triple.p) b)));
-  objects_are = subst (All IsDictionaryString) (sym (map_push (λ (t : StringTriple). t.2) graph (s, p, o)))
-      (All-push IsDictionaryString (objects_of graph) o h.objects_are
-      (subst IsDictionaryString (sym are.o_is) (text_of (dictionary_string triple.o) c)));
+pub texts_more : (graph : List StringTriple) (added : StringTriple) → HasDictionaryStrings graph
+    → IsDictionaryString added.0 → IsDictionaryString added.1 → IsDictionaryString added.2
+    → HasDictionaryStrings (graph ++ added ∷ [])
+texts_more graph added h a b c = record {
+  subjects_are = subst (All IsDictionaryString) (sym (map_push (λ (t : StringTriple). t.0) graph added))
+      (All-push IsDictionaryString (subjects_of graph) added.0 h.subjects_are a);
+  predicates_are = subst (All IsDictionaryString) (sym (map_push (λ (t : StringTriple). t.1) graph added))
+      (All-push IsDictionaryString (predicates_of graph) added.1 h.predicates_are b);
+  objects_are = subst (All IsDictionaryString) (sym (map_push (λ (t : StringTriple). t.2) graph added))
+      (All-push IsDictionaryString (objects_of graph) added.2 h.objects_are c);
 }
 
 -- no triples, no strings
@@ -136,11 +144,13 @@ triple_size x y old new triple t =
 
 -- ---- the start and the end of reading
 
-pub run_begins : (s : LinesState) (input : Option (List ℕ)) (graph : List StringTriple) → s ≡ start most → graph ≡ []
-    → TriplesSoFar most (start most) input (left (start most) input) [] → IsReadSoFar s input (left s input) graph
-run_begins s input graph e none h = record {
+pub run_begins : (prefix : List ℕ) (s : LinesState) (input : Option (List ℕ)) (graph : List StringTriple)
+    → s ≡ start most → TriplesSoFar most (start most) input (left (start most) input) []
+    → IsReadSoFar prefix s input (left s input) graph graph false
+run_begins prefix s input graph e h = record {
   triples = [];
-  strings = none;
+  strings = sym (append-nil graph);
+  blank_is = refl;
   going = λ _. subst (λ (t : LinesState). TriplesSoFar most t input (left t input) []) (sym e) h;
   ended = λ end. absurd (let f : s.ended ≡ false = ap (λ (t : LinesState). t.ended) e in cc);
   end = λ end. absurd (let f : s.ended ≡ false = ap (λ (t : LinesState). t.ended) e in cc);
@@ -154,6 +164,16 @@ converted_fault before after fault converted (inr e) h = subst (IsBuildFaultOf b
 empty_map : (triples : List Triple) → map term_strings triples ≡ [] → triples ≡ []
 empty_map [] e = refl
 empty_map (t ∷ ts) e = absurd cc
+
+-- a document that was added to nothing, with no prefix
+pub input_graph : (input : Option (List ℕ)) (before graph : List StringTriple) (blank : Bool) → before ≡ []
+    → AddsDocument [] input before graph blank → IsInputGraph input graph
+input_graph input before graph blank none h = record {
+  triples = h.triples;
+  document = h.document;
+  strings = h.strings ∙ (ap (λ (l : List StringTriple). l ++ prefixed_strings [] h.triples) none
+      ∙ unprefixed h.triples);
+}
 
 -- an empty graph is that of a document without triples
 pub no_triples : (input : Option (List ℕ)) (graph : List StringTriple) → IsInputGraph input graph → graph ≡ []

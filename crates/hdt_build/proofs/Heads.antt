@@ -30,6 +30,12 @@ no_other b low (c ∷ cs) h (suc k) d lt = no_other b low cs h.1 k d (omega arit
 without : (xs : List ℕ) → list_all (λ b. not (eqb b 0)) xs ≡ true → HasNoZero xs
 without xs e = λ k d lt. eqb-false _ _ (not-true _ (AllPass-from_list_all (λ b. not (eqb b 0)) xs e k d lt))
 
+-- an item that states a length has no zero byte
+pub item_no_zero : (n : ℕ) → n < 2 ^ 64 → HasNoZero (codes "length=" ++ decimal n)
+item_no_zero n small =
+    All-append (λ (b : ℕ). b ≢ 0) (codes "length=") (decimal n) (without (codes "length=") refl)
+    (no_other 0 (omega arith) (decimal n) (decimal_is_IsNumeral n small).0.1)
+
 pub length_no_zero : (n : ℕ) → n < 2 ^ 64 → HasNoZero (length_property n)
 unfolding length_property
 length_no_zero n small =
@@ -40,7 +46,8 @@ length_no_zero n small =
 
 -- ---- the length that the text gives
 
-no_semicolon : (n : ℕ) → n < 2 ^ 64 → (k d : ℕ) → k < length (codes "length=" ++ decimal n)
+-- an item that states a length has no ';'
+pub no_semicolon : (n : ℕ) → n < 2 ^ 64 → (k d : ℕ) → k < length (codes "length=" ++ decimal n)
     → is_byte 59 (get_or (codes "length=" ++ decimal n) k d) ≡ false
 no_semicolon n small =
     All-append (λ (b : ℕ). is_byte 59 b ≡ false) (codes "length=") (decimal n)
@@ -57,7 +64,7 @@ pieces n small =
     ap (slice_split (is_byte 59)) (sym (append_assoc (codes "length=") (decimal n) (codes ";")))
     ∙ slice_split_at (is_byte 59) (codes "length=" ++ decimal n) 59 [] (no_semicolon n small) refl
 
-value : (ds : List ℕ) → item_value (codes "length") (codes "length=" ++ ds) ≡ Some ds
+pub value : (ds : List ℕ) → item_value (codes "length") (codes "length=" ++ ds) ≡ Some ds
 value ds =
     let there : ltb 6 (length (codes "length=" ++ ds)) ≡ true = lt-ltb _ _ (omega arith) in
     rw there refl

@@ -17,6 +17,7 @@ mod SectionFilling
 mod FilteredSections
 pub mod EntrySorting
 pub mod Deduplication
+pub mod PrefixedLabels
 pub mod DocumentReading
 pub mod Unions
 pub mod Unique
@@ -29,3 +30,6 @@ mod RunOrder
 mod DenotedStrings
 mod RewrittenFiles
 pub mod MergedFiles
+mod MovedParts
+mod HeaderProperties
+pub mod ReplacedHeaders

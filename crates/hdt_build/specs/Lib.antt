@@ -1,8 +1,10 @@
 pub mod Built
 pub mod Canonical
+pub mod Documents
 pub mod Graph
 pub mod Header
 pub mod Layouts
+pub mod NewHeader
 pub mod Options
 pub mod Reading
 pub mod Inside

@@ -77,7 +77,8 @@ pub fn build_bytes<R: Read>(
     if !are_valid_options(options) {
         return Err(BuildFault::BadOptions);
     }
-    let collector = read_triples(alloc, input)?;
+    let empty = TripleCollector::new(alloc)?;
+    let (collector, _) = read_triples(alloc, &[], input, empty)?;
     if collector.is_empty() {
         return Err(BuildFault::NoTriples);
     }

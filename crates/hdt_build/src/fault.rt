@@ -1,9 +1,11 @@
-//! The errors of building, merging and rewriting.
+//! The errors of building, merging, rewriting, and replacing a header.
 ghost use Rattle.std.specs.Prelude.{◌≡◌};
 ghost use Rattle.hdt_build.specs.declared.fault.BuildFault.TheVariants as faults;
+ghost use Rattle.hdt_build.specs.declared.fault.HeaderFault.TheVariants as headers;
 ghost use Rattle.hdt_build.specs.declared.fault.MergeFault.TheVariants as merges;
 ghost use Rattle.hdt_build.specs.declared.fault.RewriteFault.TheVariants as rewrites;
 
+use hdt_file::OpenFault;
 use hdt_terms::LineFault;
 use std::alloc::{AllocError, AllocFailed};
 use thiserror::Error;
@@ -101,5 +103,48 @@ impl<T: Drop> From<AllocFailed<T>> for RewriteFault {
 
     fn from(_error: AllocFailed<T>) -> RewriteFault {
         RewriteFault::OutOfMemory
+    }
+}
+
+/// Why a header was not replaced.
+#[derive(Clone, Copy, Debug, PartialEq, Eq, Error)]
+pub enum HeaderFault {
+    /// The file is not valid; this is its first error.
+    #[error("the file has a fault: {0}")]
+    File(hdt_wire::Fault),
+    /// The file is valid, but a line of the new header is not. The reason is never `OutOfMemory`.
+    #[error("the header has a fault: {0}")]
+    Line(LineFault),
+    /// Memory ran out.
+    #[error("out of memory")]
+    OutOfMemory,
+}
+
+impl From<hdt_wire::Fault> for HeaderFault {
+    ghost from_gives = { λ fault e. e ≡ headers.File fault };
+
+    fn from(fault: hdt_wire::Fault) -> HeaderFault {
+        HeaderFault::File(fault)
+    }
+}
+
+impl From<OpenFault> for HeaderFault {
+    ghost use Rattle.hdt_build.specs.NewHeader.{header_fault_of};
+
+    ghost from_gives = { λ fault e. e ≡ header_fault_of fault };
+
+    fn from(fault: OpenFault) -> HeaderFault {
+        match fault {
+            OpenFault::Fault(fault) => HeaderFault::File(fault),
+            OpenFault::OutOfMemory => HeaderFault::OutOfMemory,
+        }
+    }
+}
+
+impl From<AllocError> for HeaderFault {
+    ghost from_gives = { λ _ e. e ≡ headers.OutOfMemory };
+
+    fn from(_error: AllocError) -> HeaderFault {
+        HeaderFault::OutOfMemory
     }
 }

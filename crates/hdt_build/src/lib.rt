@@ -21,21 +21,26 @@
 //! let (canonical, report) = rewrite_bytes(alloc, &graph, &options)?; // without unused strings
 //! ```
 //!
-//! [`merge`] writes the canonical file of all triples of several graphs; [`Merger`] takes them one after another.
+//! [`DocumentBuilder`] builds one file of several documents. [`merge`] writes the canonical file of all triples of
+//! several graphs; [`Merger`] takes them one after another.
+//!
+//! [`with_header`] replaces the header of a file and nothing else.
 //!
 //! Modules, in reading order. Building: `options` and `fault`; `interner`, the list of strings; `queue` and
-//! `collector`, triples as indices of strings; `reading`, the lines of the input; `front_coded`,
+//! `collector`, triples as indices of strings; `labels`, blank nodes; `reading`, the lines of the input; `front_coded`,
 //! strings in little memory; `string_sort` and `dedup`, the strings in order, each once; `prefetch`; `section_filter`,
 //! the four sections and the IDs; `triples` and `encoding`, the encoded graph; `header` and `file`, its bytes;
-//! `building`.
+//! `building`; `documents`, a build from several documents.
 //! Rewriting: `retained`, which strings remain; `section_run`, a cursor over them; `sections` and `id_map`, the new
 //! sections and IDs; `rewriting`. Merging: `graph_strings`, the strings of graphs as ascending runs; `run_merging`
-//! and `tournament`, the strings of all runs in order, each once; `merging`. `laws`: properties of all three.
+//! and `tournament`, the strings of all runs in order, each once; `merging`. `new_header`: replacing a header. `laws`:
+//! properties of building, rewriting and merging.
 #![tactic(auto)]
 
 mod building;
 mod collector;
 mod dedup;
+mod documents;
 mod encoding;
 mod fault;
 mod file;
@@ -44,8 +49,10 @@ mod graph_strings;
 mod header;
 mod id_map;
 mod interner;
+mod labels;
 mod laws;
 mod merging;
+mod new_header;
 mod options;
 mod prefetch;
 mod queue;
@@ -61,12 +68,14 @@ mod tournament;
 mod triples;
 
 pub use building::{build, build_bytes};
-pub use fault::{BuildFault, MergeFault, RewriteFault};
+pub use documents::DocumentBuilder;
+pub use fault::{BuildFault, HeaderFault, MergeFault, RewriteFault};
 pub use laws::{
     canonical_files_are_layouts, equal_graphs_equal_files, merging_is_a_union, merging_is_building,
     no_triples_is_reported, one_canonical_file, one_document, reports_are_verified,
     rewriting_again_changes_nothing, rewriting_keeps_the_graph,
 };
 pub use merging::{Merger, merge, merge_bytes};
-pub use options::{Options, Report};
+pub use new_header::{new_headers_keep_the_graph, with_header};
+pub use options::{Options, Report, are_valid_options};
 pub use rewriting::{rewrite, rewrite_bytes};

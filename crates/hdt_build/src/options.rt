@@ -23,8 +23,8 @@ pub(crate) fn is_block_size(block_size: u32) -> bool
     1 <= block_size && block_size <= MAX_BLOCK_SIZE
 }
 
-/// Whether options are valid. Linear time in the base.
-pub(crate) fn are_valid_options(options: &Options) -> bool
+/// Returns whether the block size and the base are valid. Linear time in the base.
+pub fn are_valid_options(options: &Options) -> bool
     ensures { IsTrue result ↔ AreValidOptions options.now }
 {
     is_block_size(options.block_size) && is_iri(options.base.as_slice())

@@ -2,6 +2,7 @@ pub mod Counts
 pub mod LookUps
 pub mod Merging
 pub mod Names
+pub mod NewHeader
 pub mod Building
 pub mod Bytes
 pub mod GivenPatterns

@@ -17,6 +17,7 @@ mod handle;
 mod look_ups;
 mod merging;
 mod names;
+mod new_header;
 mod opening;
 mod paging;
 mod pattern;

@@ -8,8 +8,8 @@ use hdt_build::{Options, Report, RewriteFault, rewrite_bytes};
 use hdt_file::open;
 use std::alloc::Global;
 
-/// The verdict of a file that was rewritten_verdict.
-fn rewritten_verdict(report: Report) -> HdtVerdict
+/// The verdict of a file that was rewritten.
+pub(crate) fn rewritten_verdict(report: Report) -> HdtVerdict
     ensures { result ≡ rewritten_verdict report }
 {
     HdtVerdict {

@@ -165,6 +165,27 @@ pub begins : (g : GraphParts) (all : List Triple) (p : PendingText) (w : Option 
     → ContinuesStream g all all p p w w i i
 begins g all p w i = record { ok = λ new after k h. h; stop = λ e after k h. h }
 
+-- after room was made for the text
+pub begins_with : (g : GraphParts) (all : List Triple) (p q : PendingText) (w : Option (List ℕ)) (i : ℕ)
+    → q.bytes.items ≡ p.bytes.items → q.written ≡ p.written → ContinuesStream g all all p q w w i i
+begins_with g all p q w i same at = record {
+  ok = λ new after k h. record {
+    text = h.text;
+    is = h.is;
+    part = h.part;
+    all = ap (λ (l : List ℕ). l ++ h.text) (sym same) ∙ h.all;
+    count = omega (arith, h.count, at);
+    written = h.written;
+    well = h.well;
+  };
+  stop = λ e after k h. record {
+    text = h.text;
+    is = h.is;
+    stops = subst (λ (n : ℕ). StopsAt e n (p.bytes.items ++ h.text) w after i k) at
+        (subst (λ (l : List ℕ). StopsAt e q.written (l ++ h.text) w after i k) same h.stops);
+  };
+}
+
 pub goes_on : (g : GraphParts) (all xs ys : List Triple) (a b c : PendingText) (s t u : Option (List ℕ)) (i j k : ℕ)
     → ContinuesStream g all (xs ++ ys) a b s t i j → Streams g xs b c t u j k → ContinuesStream g all ys a c s u i k
 goes_on g all xs ys a b c s t u i j k h first = record {

@@ -6,7 +6,7 @@ ghost use Rattle.hdt_file.specs.TextStreaming.{StopsAt};
 
 use crate::fault::DumpFault;
 use hdt_wire::Counted;
-use std::alloc::Global;
+use std::alloc::{AllocError, Global};
 use std::io::Write;
 
 /// Text is written once there are this many bytes of it, or more.
@@ -32,6 +32,13 @@ impl PendingText {
             bytes: Vec::new(alloc),
             written: 0,
         }
+    }
+
+    /// Makes room for this number of bytes, or for a piece if that is less.
+    pub(crate) fn reserve(&mut self, bytes: usize) -> Result<(), AllocError>
+        ensures same { (self.new.bytes.items ≡ self.old.bytes.items) × (self.new.written ≡ self.old.written) }
+    {
+        self.bytes.reserve(bytes.min(PIECE_BYTES))
     }
 
     /// Writes the text. If its end would be at more than 2^64 bytes, fails with `OutOfMemory`.

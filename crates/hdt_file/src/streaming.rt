@@ -108,8 +108,8 @@ fn stream_matches<W: Write>(
 /// makes it. Of a longer text, the terms are checked before the first byte is written; then windows of at most 131,072
 /// triples follow one another, each with its terms, decoded once, and pieces of 64 KiB are written.
 ///
-/// Memory, whatever the matches: one byte for each string of the dictionary, at most some 40 MB for a window and a
-/// piece, and the longest string and line. Time is linear in the dictionary, the matches and the text, except that each
+/// Memory, whatever the matches: one byte for each string of the dictionary, at most some 60 MB for a window, a short
+/// text and a piece, and the longest string and line. Time is linear in the dictionary, the matches and the text, except that each
 /// window may decode the dictionary's blocks of its strings anew.
 ///
 /// # Errors

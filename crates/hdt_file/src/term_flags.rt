@@ -1,7 +1,7 @@
 //! Which strings of a graph are terms that their roles allow, and so which triples have a line of N-Triples.
 ghost use Rattle.std.specs.Prelude.{◌≡◌, IfOk};
 ghost use Rattle.hdt_file.specs.Graph.{layout_view};
-ghost use Rattle.hdt_file.specs.TermFlags.{AreRoleFlags, AreTermFlags, IsTermFlag, term_flag};
+ghost use Rattle.hdt_file.specs.TermFlags.{AreRoleFlags, AreTermFlags, IsTermFlag, flag_list, term_flag};
 
 use crate::layout::Layout;
 use crate::term_writing::render_term;
@@ -9,12 +9,22 @@ use hdt_dict::Role;
 use hdt_terms::StringFault;
 use std::alloc::{AllocError, Global};
 
-/// For each string of each role, in the order of the IDs, whether it is a term that the role allows. One byte for each.
+/// For each string of a role, in the order of the IDs, whether it is a term that the role allows.
+#[derive(Drop)]
+enum RoleFlags {
+    /// All of the role's strings are; this is their number. A look-up reads no memory.
+    AllTerms(usize),
+    /// One byte for each string.
+    Each(Vec<bool>),
+}
+
+/// For each string of each role, in the order of the IDs, whether it is a term that the role allows. Memory: nothing
+/// for a role whose strings all are, one byte for each string of another.
 #[derive(Drop)]
 pub struct TermFlags {
-    subjects: Vec<bool>,
-    predicates: Vec<bool>,
-    objects: Vec<bool>,
+    subjects: RoleFlags,
+    predicates: RoleFlags,
+    objects: RoleFlags,
 }
 
 /// Whether a string is a term that the role allows. `text` is a buffer.
@@ -30,9 +40,19 @@ pub(crate) fn is_term(role: Role, string: &[u8], text: &mut Vec<u8>) -> Result<b
     }
 }
 
+/// Keeps only the number of flags if all of them are true.
+fn shortened(flags: Vec<bool>) -> RoleFlags
+    ensures { flag_list result ≡ flags.items }
+{
+    if flags.contains(&false) {
+        return RoleFlags::Each(flags);
+    }
+    RoleFlags::AllTerms(flags.len())
+}
+
 /// The flags of the strings of a role. Each string is decoded once.
-fn role_flags(alloc: Global, layout: &Layout<'_>, role: Role) -> Result<Vec<bool>, AllocError>
-    ensures { IfOk result (λ flags. AreRoleFlags (layout_view layout.now) role flags.items) }
+fn role_flags(alloc: Global, layout: &Layout<'_>, role: Role) -> Result<RoleFlags, AllocError>
+    ensures { IfOk result (λ flags. AreRoleFlags (layout_view layout.now) role (flag_list flags)) }
 {
     let mut flags = Vec::new(alloc);
     let mut text = Vec::new(alloc);
@@ -40,19 +60,23 @@ fn role_flags(alloc: Global, layout: &Layout<'_>, role: Role) -> Result<Vec<bool
     'strings: while let Some(_number) = strings.next()? {
         flags.push(is_term(role, strings.string(), &mut text)?)?;
     }
-    Ok(flags)
+    Ok(shortened(flags))
 }
 
 /// The flag of string n, from 1; false if there is none.
-fn term_flag(flags: &[bool], n: u64) -> bool
-    ensures { result ≡ term_flag flags.now n }
+fn term_flag(flags: &RoleFlags, n: u64) -> bool
+    ensures { result ≡ term_flag (flag_list flags.now) n }
 {
     if n == 0 {
         return false;
     }
-    match flags.get((n - 1) as usize) {
-        Some(flag) => *flag,
-        None => false,
+    let index = (n - 1) as usize;
+    match flags {
+        RoleFlags::AllTerms(count) => index < *count,
+        RoleFlags::Each(flags) => match flags.get(index) {
+            Some(flag) => *flag,
+            None => false,
+        },
     }
 }
 
@@ -66,7 +90,8 @@ impl TermFlags {
     ghost use Rattle.hdt_file.specs.Writable.{IsWritable};
 
     /// Returns the flags of a file. Time linear in the dictionary, however it is front-coded: each string of each role
-    /// is decoded once. Memory: one byte for each, while the flags are kept, and the longest string and its term.
+    /// is decoded once. Memory: one byte for each string of a role while its flags are collected, and afterwards unless all
+    /// of the role's strings are terms; the longest string and its term.
     pub fn of(alloc: Global, layout: &Layout<'_>) -> Result<TermFlags, AllocError>
         ensures { IfOk result (AreTermFlags (layout_view layout.now)) }
     {

@@ -24,6 +24,9 @@ use hdt_wire::Counted;
 use std::alloc::{AllocError, Global};
 use std::io::Write;
 
+/// The number of lines whose terms are prefetched together.
+const LINES_PER_BATCH: usize = 64;
+
 /// Puts the line of the triple at an index of a window into the pending text, and writes this if it is long.
 fn stream_line<W: Write>(
     layout: &Layout<'_>,
@@ -47,6 +50,42 @@ fn stream_line<W: Write>(
     pending.flush_if_long(out)
 }
 
+/// Puts the lines of the triples of a window from index `start` on into the pending text, and writes this when it is
+/// long. It first makes room for the lines and prefetches their objects.
+fn stream_batch<W: Write>(
+    layout: &Layout<'_>,
+    triples: &[(u64, u64, u64)],
+    start: usize,
+    window: &WindowTerms,
+    term_writer: &mut TermWriter,
+    pending: &mut PendingText,
+    out: &mut Counted<W>,
+) -> Result<(), DumpFault>
+    requires cached { CachesTerms (layout_view layout.now) term_writer.old }
+    requires window { HasWindowTerms (layout_view layout.now) window.now }
+    requires lines { AreWritableTriples (layout_view layout.now) triples.now }
+    ensures kept { CachesTerms (layout_view layout.now) term_writer.new }
+    ensures ok { OnOk result (Streams (layout_view layout.now) triples.now pending.old pending.new
+        (W.contents (inner out.old)) (W.contents (inner out.new)) (failures out.old) (failures out.new)) }
+    ensures err { IfErr result (λ e. StopsShort (layout_view layout.now) triples.now e pending.old
+        (W.contents (inner out.old)) (W.contents (inner out.new)) (failures out.old) (failures out.new)) }
+{
+    pending.reserve(window.prefetch_objects(start, triples.len()))?;
+    'triples: for at in 0..triples.len() {
+        let place = start.saturating_add(at);
+        stream_line(
+            layout,
+            triples[at],
+            place,
+            window,
+            term_writer,
+            pending,
+            out,
+        )?;
+    }
+    Ok(())
+}
+
 /// Puts the lines of the triples of a window into the pending text, and writes this when it is long.
 fn stream_lines<W: Write>(
     layout: &Layout<'_>,
@@ -65,8 +104,12 @@ fn stream_lines<W: Write>(
     ensures err { IfErr result (λ e. StopsShort (layout_view layout.now) triples.now e pending.old
         (W.contents (inner out.old)) (W.contents (inner out.new)) (failures out.old) (failures out.new)) }
 {
-    'triples: for at in 0..triples.len() {
-        stream_line(layout, triples[at], at, window, term_writer, pending, out)?;
+    let mut unwritten = triples;
+    'batches: while !unwritten.is_empty() {
+        let start = triples.len().saturating_sub(unwritten.len());
+        let (batch, later) = unwritten.split_at(unwritten.len().min(LINES_PER_BATCH));
+        stream_batch(layout, batch, start, window, term_writer, pending, out)?;
+        unwritten = later;
     }
     Ok(())
 }

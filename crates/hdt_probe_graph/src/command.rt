@@ -144,6 +144,7 @@ fn reply_search(action: &Action, reply: &mut Reply) {
 fn reply_action(action: &Action, reply: &mut Reply) {
     match action {
         Action::Head => reply.word("head"),
+        Action::HeadBody => reply.word("head_body"),
         Action::Verify => reply.word("verify"),
         Action::VerifyTight => reply.word("verify_tight"),
         Action::VerifyTerms { tight } => {

@@ -62,7 +62,6 @@ find_is rows given format most skip a h words is_format is_most loud skips = abs
 -- The words of `find` have a pattern.
 find_words : (rows : List Row) (a : Action) → IsQueryAction (codes "find") rows a → (given : GivenStrings)
     × ParsesAsPattern rows given
-find_words rows action.Head h = differ (codes "find") _ _ refl h refl
 find_words rows (action.Find given numbers) (inl h) = (given, h.words)
 find_words rows (action.Find given numbers) (inr h) = differ (codes "find") _ _ refl h.0 refl
 find_words rows (action.Search given format most) h = (given, h.words)

@@ -1,6 +1,7 @@
 mod Refusals
 mod OutPaths
 mod SplitRuns
+mod DocumentRuns
 mod ParsedArguments
 mod StringLines
 mod CountLines

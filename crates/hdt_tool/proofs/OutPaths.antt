@@ -8,7 +8,8 @@ use Rattle.hdt_tool.specs.declared.request.Action.{Action}
 use Rattle.hdt_tool.specs.declared.request.Action.TheVariants.{Build, Rewrite}
 use Rattle.hdt_tool.specs.declared.request.Request.{Request}
 use Rattle.hdt_tool.specs.Outcomes.{HasOut, MakesFile, IsReadOnly}
-use Rattle.hdt_tool.specs.CommandLine.{IsRequestOfCommand, IsQueryAction, IsRequestOf, IsOutputAction, ParsesToRequest}
+use Rattle.hdt_tool.specs.CommandLine.{IsRequestOfCommand, IsBuildAction, IsQueryAction, IsRequestOf}
+use Rattle.hdt_tool.specs.CommandLine.{IsOutputAction, ParsesToRequest}
 
 reads : (name : Text) (rows : List Row) (action : Action) → IsQueryAction name rows action → IsReadOnly action
 reads name rows (Build options) h = h
@@ -16,9 +17,12 @@ reads name rows (Rewrite b) h = h
 reads name rows action h = tt
 
 makes : (name : Text) (rows : List Row) (action : Action) → IsOutputAction name rows action → MakesFile action
-makes name rows (Build options) h = tt
 makes name rows (Rewrite b) h = tt
 makes name rows action h = h
+
+builds : (rows : List Row) (action : Action) → IsBuildAction rows action → MakesFile action
+builds rows (Build options) h = tt
+builds rows action h = h
 
 without : (A B : Type 0) (out : Option (String Global)) → option_map string_bytes out ≡ None → A
     → MatchOption out A (λ path. B)
@@ -32,7 +36,8 @@ with A B P (Some path) some h = h
 
 asked : (name : Text) (rows : List Row) (request : Request) → IsRequestOf name rows request → HasOut request
 asked name rows request (inl h) = without _ _ request.out h.out (reads name rows request.action h.action)
-asked name rows request (inr h) = with _ _ _ request.out h.out (makes name rows request.action h.action)
+asked name rows request (inr (inl h)) = with _ _ _ request.out h.out (makes name rows request.action h.action)
+asked name rows request (inr (inr h)) = with _ _ _ request.out h.out (builds rows request.action h.action)
 
 entered : (command : Option (Text × List Row)) (request : Request) → IsRequestOfCommand command request → HasOut request
 entered None request h = absurd h

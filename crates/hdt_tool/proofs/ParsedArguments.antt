@@ -1,6 +1,8 @@
 -- What valid arguments give, and which usage errors are possible if they are not valid.
 use Rattle.std.proofs.Common.{◌≡◌, ℕ, Bool, true, false, List, Option, Some, codes, refl, sym, ap, subst, inl, inr, ◌⊎◌}
-use Rattle.std.proofs.Common.{⊎_elim, ◌∙◌}
+use Rattle.std.proofs.Common.{◌++◌, ◌∷◌, [], None, ◌∙◌, map, string_bytes}
+use Rattle.std.specs.declared.alloc.Global.{Global}
+use Rattle.std.specs.declared.string.String.{String}
 use Rattle.std.specs.Prelude.{◌≢◌, IsSome, IsSomeAnd}
 use Rattle.std.specs.Str.{bytes_eq}
 use Rattle.std.proofs.lemmas.Slice.Eq.{bytes_eq-Decides}
@@ -21,7 +23,9 @@ use Rattle.hdt_tool.specs.CommandLine.{IsQueryAction, ParsesAsMergeOptions, Pars
 use Rattle.hdt_tool.specs.CommandLine.{IsQueryRequest}
 use Rattle.hdt_tool.specs.CommandLine.{IsOutputRequest, IsOutputAction, Refutes, RefutesOrInvalidTerm}
 use Rattle.hdt_tool.specs.CommandLine.{IsFaultOfArgument, IsInvalidTerm, IsInvalidPatternTerm, IsUsed, HasInvalidTerm}
-use Rattle.hdt_tool.specs.CommandLine.{ParsesAsBuildOptions, IsFaultOfTerm}
+use Rattle.hdt_tool.specs.CommandLine.{ParsesAsBlankNodes, ParsesAsBuildOptions, IsBuildAction, IsFaultOfTerm}
+use Rattle.hdt_tool.specs.CommandLine.{IsUsageText, further_paths}
+use Rattle.hdt_tool.specs.declared.request.BlankNodes.{BlankNodes}
 use Rattle.hdt_tool.specs.ErrorLines.{argument_name}
 
 some_is : (a b : Text) → Some a ≡ Some b → a ≡ b
@@ -94,67 +98,131 @@ pub differ : {P : Type 0} (name a b : Text) → name ≡ a → name ≡ b → by
 differ name a b p q apart = let same : bytes_eq a b ≡ true = (bytes_eq-Decides a b).1 (sym p ∙ q) in
     let bad : true ≡ false = sym same ∙ apart in absurd cc
 
--- ---- `build` and `rewrite`
+-- ---- `rewrite`
 
--- `build` needs its options.
-pub options_needed : (name : Text) (rows : List Row) → name ≡ codes "build" → (a : Action) → IsOutputAction name rows a
-    → (options : Options) × ParsesAsBuildOptions rows options
-options_needed name rows is (action.Build options) h = (options, h.1)
-options_needed name rows is (action.Rewrite b) h = differ name _ _ is h.0 refl
-options_needed name rows is a h = absurd h
+-- Only `rewrite` reads IN and writes OUT.
+only_rewrite : (name : Text) (rows : List Row) (a : Action) → name ≢ codes "rewrite" → IsOutputAction name rows a → ⊥
+only_rewrite name rows (action.Rewrite b) other h = other h.0
+only_rewrite name rows a other h = h
 
--- Only `build` and `rewrite` write a file.
-only_these : (name : Text) (rows : List Row) (a : Action) → name ≢ codes "build" → name ≢ codes "rewrite"
-    → IsOutputAction name rows a → ⊥
-only_these name rows (action.Build options) build rewrite h = build h.0
-only_these name rows (action.Rewrite b) build rewrite h = rewrite h.0
-only_these name rows a build rewrite h = h
-
--- A command that writes no file is neither `build` nor `rewrite`.
-other_name : {P : Type 0} (name other : Text) → (name ≡ codes "build") ⊎ (name ≡ codes "rewrite") → name ≡ other
-    → bytes_eq (codes "build") other ≡ false → bytes_eq (codes "rewrite") other ≡ false → P
-other_name name other (inl is) e build rewrite = differ name _ other is e build
-other_name name other (inr is) e build rewrite = differ name _ other is e rewrite
-
-none_on_file : (name : Text) (rows : List Row) → (name ≡ codes "build") ⊎ (name ≡ codes "rewrite") → (a : Action)
-    → IsQueryAction name rows a → ⊥
-none_on_file name rows is action.Head h = other_name name _ is h refl refl
-none_on_file name rows is (action.Find given numbers) (inl h) = other_name name _ is h.named refl refl
-none_on_file name rows is (action.Search given format most) h = other_name name _ is h.named refl refl
-none_on_file name rows is (action.Count role top raw) h = other_name name _ is h.named refl refl
-none_on_file name rows is (action.Answer options) h = other_name name _ is h.named refl refl
+none_on_file : (name : Text) (rows : List Row) → name ≡ codes "rewrite" → (a : Action) → IsQueryAction name rows a → ⊥
+none_on_file name rows is (action.Find given numbers) (inl h) = differ name _ _ is h.named refl
+none_on_file name rows is (action.Find given numbers) (inr h) = differ name _ _ is h.0 refl
+none_on_file name rows is (action.SkipNonTerms given count most) (inl h) = differ name _ _ is h.named refl
+none_on_file name rows is (action.SkipNonTerms given count most) (inr h) = differ name _ _ is h.0 refl
+none_on_file name rows is (action.Search given format most) h = differ name _ _ is h.named refl
+none_on_file name rows is (action.Count role top raw) h = differ name _ _ is h.named refl
+none_on_file name rows is (action.Answer options) h = differ name _ _ is h.named refl
 none_on_file name rows is (action.Build options) h = h
 none_on_file name rows is (action.Rewrite b) h = h
-none_on_file name rows is (action.SkipNonTerms given count most) (inl h) = other_name name _ is h.named refl refl
-none_on_file name rows is (action.SkipNonTerms given count most) (inr h) = other_name name _ is h.0 refl refl
-none_on_file name rows is (action.Find given numbers) (inr h) = other_name name _ is h.0 refl refl
-none_on_file name rows is a h = other_name name _ is h.0 refl refl
+none_on_file name rows is a h = differ name _ _ is h.0 refl
 
--- A usage error of `build` and `rewrite` is one of the command line.
-pub of_making : (name : Text) (rows : List Row) (r : UsageFault) → (name ≡ codes "build") ⊎ (name ≡ codes "rewrite")
+rewrites : (name : Text) (rows : List Row) → name ≡ codes "rewrite" → (request : Request)
+    → IsRequestOf name rows request → IsOutputRequest name rows request
+rewrites name rows is request (inl h) = absurd (none_on_file name rows is request.action h.action)
+rewrites name rows is request (inr (inl h)) = h
+rewrites name rows is request (inr (inr h)) = differ name _ _ is h.named refl
+
+-- A usage error of `rewrite` is one of the command line.
+pub of_making : (name : Text) (rows : List Row) (r : UsageFault) → name ≡ codes "rewrite"
     → Refutes ((request : Request) × IsOutputRequest name rows request) r
     → RefutesOrInvalidTerm ((request : Request) × IsRequestOf name rows request) (HasInvalidTerm name rows) r
 of_making name rows r is h =
-    without_or _ _ (HasInvalidTerm name rows) r
-    (λ w. (w.0, ⊎_elim (λ file. absurd (none_on_file name rows is w.0.action file.action)) (λ asks. asks) w.1)) h
+    without_or _ _ (HasInvalidTerm name rows) r (λ w. (w.0, rewrites name rows is w.0 w.1)) h
+
+reads : (name : Text) (rows : List Row) → name ≢ codes "build" → name ≢ codes "rewrite" → (request : Request)
+    → IsRequestOf name rows request → IsQueryRequest name rows request
+reads name rows build rewrite request (inl h) = h
+reads name rows build rewrite request (inr (inl h)) = absurd (only_rewrite name rows request.action rewrite h.action)
+reads name rows build rewrite request (inr (inr h)) = absurd (build h.named)
 
 -- So is one of the other commands.
 pub of_others : (name : Text) (rows : List Row) (r : UsageFault) → name ≢ codes "build" → name ≢ codes "rewrite"
     → RefutesOrInvalidTerm ((request : Request) × IsQueryRequest name rows request) (HasInvalidTerm name rows) r
     → RefutesOrInvalidTerm ((request : Request) × IsRequestOf name rows request) (HasInvalidTerm name rows) r
 of_others name rows r build rewrite h =
-    map_refutes _ _ _ _ r (λ w. (
-      w.0,
-      ⊎_elim (λ file. file) (λ asks. absurd (only_these name rows w.0.action build rewrite asks.action)) w.1,
-    ))
-    (λ argument fault m. m) h
+    map_refutes _ _ _ _ r (λ w. (w.0, reads name rows build rewrite w.0 w.1)) (λ argument fault m. m) h
+
+-- ---- `build`
+
+-- What the arguments of `build` have.
+pub record HasBuildArguments (rows : List Row) : Type 0 where
+  pub file : IsSome (first_of (codes "FILE") rows)
+  pub options : (o : Options) × ParsesAsBuildOptions rows o
+  pub blank_nodes : (b : Option BlankNodes) × ParsesAsBlankNodes (first_of (codes "blank-nodes") rows) b
+  pub paths : (others : List Text) × (out : Text) × (further_paths rows ≡ others ++ out ∷ [])
+
+inputs_needed : (rows : List Row) (a : Action) → IsQueryAction (codes "build") rows a
+    → (options : MergeOptions) × (b : Option BlankNodes) × ParsesAsMergeOptions rows options
+    × ParsesAsBlankNodes (first_of (codes "blank-nodes") rows) b
+inputs_needed rows (action.Find given numbers) (inl h) = differ _ _ _ refl h.named refl
+inputs_needed rows (action.Find given numbers) (inr h) = differ _ _ _ refl h.0 refl
+inputs_needed rows (action.SkipNonTerms given count most) (inl h) = differ _ _ _ refl h.named refl
+inputs_needed rows (action.SkipNonTerms given count most) (inr h) = differ _ _ _ refl h.0 refl
+inputs_needed rows (action.Search given format most) h = differ _ _ _ refl h.named refl
+inputs_needed rows (action.Count role top raw) h = differ _ _ _ refl h.named refl
+inputs_needed rows (action.Answer options) h = differ _ _ _ refl h.named refl
+inputs_needed rows (action.Build options) h = absurd h
+inputs_needed rows (action.Rewrite b) h = absurd h
+inputs_needed rows (action.BuildInputs options blank) h = (options, blank, h.1, h.2)
+inputs_needed rows a h = differ _ _ _ refl h.0 refl
+
+build_needed_alone : (rows : List Row) (a : Action) → IsBuildAction rows a
+    → (o : Options) × ParsesAsBuildOptions rows o
+build_needed_alone rows (action.Build options) h = (options, h)
+build_needed_alone rows a h = absurd h
+
+only_out : (rows : List Row) (out : Option (String Global))
+    → IsSomeAnd out (λ path. further_paths rows ≡ string_bytes path ∷ [])
+    → (others : List Text) × (out : Text) × (further_paths rows ≡ others ++ out ∷ [])
+only_out rows None h = absurd h
+only_out rows (Some path) h = ([], string_bytes path, h)
+
+pub build_needed : (rows : List Row) (request : Request) → IsRequestOf (codes "build") rows request
+    → HasBuildArguments rows
+build_needed rows request (inl h) =
+    let needed = inputs_needed rows request.action h.action in
+    record {
+      file = subst IsSome (sym h.file) refl;
+      options = (needed.0.options, needed.2.file);
+      blank_nodes = (needed.1, needed.3);
+      paths = (map string_bytes needed.0.others.items, string_bytes needed.0.out, needed.2.paths);
+    }
+build_needed rows request (inr (inl h)) =
+    absurd (only_rewrite _ rows request.action (λ is. differ _ _ _ refl is refl) h.action)
+build_needed rows request (inr (inr h)) = record {
+  file = subst IsSome (sym h.file) refl;
+  options = build_needed_alone rows request.action h.action;
+  blank_nodes = (None, h.blank_nodes);
+  paths = only_out rows request.out h.out;
+}
+
+-- A usage error of `build` is one of the command line.
+pub of_build : (name : Text) (rows : List Row) (r : UsageFault) → name ≡ codes "build"
+    → Refutes ((request : Request) × IsRequestOf (codes "build") rows request) r
+    → RefutesOrInvalidTerm ((request : Request) × IsRequestOf name rows request) (HasInvalidTerm name rows) r
+of_build name rows r is h =
+    without_or _ _ (HasInvalidTerm name rows) r
+    (λ w. (w.0, subst (λ (n : Text). IsRequestOf n rows w.0) is w.1)) h
+
+no_last : {X : Type 0} (xs : List X) (x : X) → [] ≡ xs ++ x ∷ [] → ⊥
+no_last [] x e = cc
+no_last (y ∷ ys) x e = cc
+
+-- Without OUT there is no request.
+pub no_out : (rows : List Row) (said : Text) (r : UsageFault) → further_paths rows ≡ [] → IsUsageText said r
+    → Refutes ((request : Request) × IsRequestOf (codes "build") rows request) r
+no_out rows said (Usage text) none h = λ w.
+    let needed = build_needed rows w.0 w.1 in
+    no_last needed.paths.0 needed.paths.1 (sym none ∙ needed.paths.2)
+no_out rows said OutOfMemory none h = tt
+no_out rows said r none h = absurd h
 
 -- ---- `split`
 
 -- `split` needs its options.
 pub split_needed : (name : Text) (rows : List Row) → name ≡ codes "split" → (a : Action) → IsQueryAction name rows a
     → (options : SplitOptions) × ParsesAsSplitOptions rows options
-split_needed name rows is action.Head h = differ name _ _ is h refl
 split_needed name rows is (action.Find given numbers) (inl h) = differ name _ _ is h.named refl
 split_needed name rows is (action.Find given numbers) (inr h) = differ name _ _ is h.0 refl
 split_needed name rows is (action.SkipNonTerms given count most) (inl h) = differ name _ _ is h.named refl
@@ -172,7 +240,6 @@ split_needed name rows is a h = differ name _ _ is h.0 refl
 -- `merge` needs its options.
 pub merge_needed : (name : Text) (rows : List Row) → name ≡ codes "merge" → (a : Action) → IsQueryAction name rows a
     → (options : MergeOptions) × ParsesAsMergeOptions rows options
-merge_needed name rows is action.Head h = differ name _ _ is h refl
 merge_needed name rows is (action.Find given numbers) (inl h) = differ name _ _ is h.named refl
 merge_needed name rows is (action.Find given numbers) (inr h) = differ name _ _ is h.0 refl
 merge_needed name rows is (action.SkipNonTerms given count most) (inl h) = differ name _ _ is h.named refl

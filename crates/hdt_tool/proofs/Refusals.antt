@@ -1,9 +1,9 @@
 -- Usage errors, derived from the contracts of `clap`.
 use Rattle.std.proofs.Common.{◌≡◌, List, [], ◌∷◌, true, Option, None, Some, Result, Ok, Err, codes, refl, sym, subst}
 use Rattle.std.proofs.Common.{string_bytes, inl, inr}
-use Rattle.std.specs.Prelude.{◌≢◌, IfOk, IfErr, IsSomeAnd}
+use Rattle.std.specs.Prelude.{◌≢◌, IfOk, IfErr, IsSomeAnd, option_map}
 use Rattle.clap.specs.Words.{App, Row, Text, HasKind, HasMatchesOf, IsAmong, fault_of, found_of, is_simple}
-use Rattle.clap.specs.Words.{is_simple_and_free, kind_of, matches_of, one_of, rows_of, subcommand_of}
+use Rattle.clap.specs.Words.{first_of, is_simple_and_free, kind_of, matches_of, one_of, rows_of, subcommand_of}
 use Rattle.clap.specs.Words.{subcommand_rows_of}
 use Rattle.clap.specs.declared.parser.matches.ArgMatches.{ArgMatches}
 use Rattle.clap.specs.declared.error.Error.{Error}
@@ -84,8 +84,9 @@ pub wanted : (names : Names) → AreRoles names
     → IfOk r (λ asked. IsRequestOf name rows asked.request) → IfOk r (λ asked. ParsesAsProgress rows asked.progress)
     → IfOk r (λ asked. ParsesAsFlag (one_of (codes "verbose") rows) asked.verbose)
     → IfOk r (λ asked. ParsesAsNumberOrNone (one_of (codes "longest-line") rows) asked.longest_line)
+    → IfOk r (λ asked. first_of (codes "header") rows ≡ option_map string_bytes asked.header)
     → IfOk r (ParsesToInvocation words)
-wanted names roles words name rows (Ok asked) none is h progress verbose longest = record {
+wanted names roles words name rows (Ok asked) none is h progress verbose longest header = record {
   names = names;
   roles = roles;
   wanted = record {
@@ -99,8 +100,10 @@ wanted names roles words name rows (Ok asked) none is h progress verbose longest
       (λ command. ParsesAsFlag (one_of (codes "verbose") command.1) asked.verbose)) (sym is) verbose;
   longest_line = subst (λ (o : Option (Text × List Row)). IsSomeAnd o
       (λ command. ParsesAsNumberOrNone (one_of (codes "longest-line") command.1) asked.longest_line)) (sym is) longest;
+  header = subst (λ (o : Option (Text × List Row)). IsSomeAnd o
+      (λ command. first_of (codes "header") command.1 ≡ option_map string_bytes asked.header)) (sym is) header;
 }
-wanted names roles words name rows (Err fault) none is h progress verbose longest = tt
+wanted names roles words name rows (Err fault) none is h progress verbose longest header = tt
 
 -- The request of an invocation is the request of the command line.
 pub parses_to_request : (words : List Text) (asked : Invocation) → ParsesToInvocation words asked
@@ -118,7 +121,6 @@ of_request name rows OutOfMemory other h = tt
 
 -- No request is that of `explain`.
 none_on_file : (name : Text) (rows : List Row) → name ≡ codes "explain" → (a : Action) → IsQueryAction name rows a → ⊥
-none_on_file name rows is action.Head h = differ name _ _ is h refl
 none_on_file name rows is (action.Find given numbers) (inl h) = differ name _ _ is h.named refl
 none_on_file name rows is (action.Find given numbers) (inr h) = differ name _ _ is h.0 refl
 none_on_file name rows is (action.SkipNonTerms given count most) (inl h) = differ name _ _ is h.named refl
@@ -131,14 +133,14 @@ none_on_file name rows is (action.Rewrite b) h = h
 none_on_file name rows is a h = differ name _ _ is h.0 refl
 
 none_making : (name : Text) (rows : List Row) → name ≡ codes "explain" → (a : Action) → IsOutputAction name rows a → ⊥
-none_making name rows is (action.Build options) h = differ name _ _ is h.0 refl
 none_making name rows is (action.Rewrite b) h = differ name _ _ is h.0 refl
 none_making name rows is a h = h
 
 no_request : (name : Text) (rows : List Row) → name ≡ codes "explain" → (request : Request)
     → IsRequestOf name rows request → ⊥
 no_request name rows is request (inl w) = none_on_file name rows is request.action w.action
-no_request name rows is request (inr w) = none_making name rows is request.action w.action
+no_request name rows is request (inr (inl w)) = none_making name rows is request.action w.action
+no_request name rows is request (inr (inr w)) = differ name _ _ is w.named refl
 
 -- The error of `explain`.
 pub of_explain : (name : Text) (rows : List Row) (fault : UsageFault) → name ≡ codes "explain"

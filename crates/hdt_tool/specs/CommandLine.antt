@@ -235,7 +235,7 @@ pub record ParsesAsBuildOptions (rows : List Row) (options : Options) : Type 0 w
   pub base : first_of (codes "base") rows ≡ Some options.base.items
   pub block_size : ParsesAsNumber 32 (one_of (codes "block-size") rows) options.block_size
 
--- The arguments give these options of `merge`: the last path is OUT.
+-- The arguments give these options of `merge`, or of `build` with several documents: the last path is OUT.
 pub record ParsesAsMergeOptions (rows : List Row) (options : MergeOptions) : Type 0 where
   pub paths : further_paths rows ≡ map string_bytes options.others.items ++ string_bytes options.out ∷ []
   pub file : ParsesAsBuildOptions rows options.options
@@ -244,7 +244,8 @@ pub record ParsesAsMergeOptions (rows : List Row) (options : MergeOptions) : Typ
 
 -- The command's name and arguments give this action, which writes no file.
 abbrev pub IsQueryAction : Text → List Row → Action → Type 0
-IsQueryAction name rows action.Head = name ≡ codes "head"
+IsQueryAction name rows action.Head = (name ≡ codes "head") × ParsesAsFlag (one_of (codes "body") rows) false
+IsQueryAction name rows action.HeadBody = (name ≡ codes "head") × ParsesAsFlag (one_of (codes "body") rows) true
 IsQueryAction name rows action.Verify = IsVerifyCommand name rows false false
 IsQueryAction name rows action.VerifyTight = IsVerifyCommand name rows true false
 IsQueryAction name rows (action.VerifyTerms tight) = IsVerifyCommand name rows tight true
@@ -274,6 +275,8 @@ IsQueryAction name rows (action.Build options) = ⊥
 IsQueryAction name rows (action.Rewrite b) = ⊥
 IsQueryAction name rows (action.Split options) = (name ≡ codes "split") × ParsesAsSplitOptions rows options
 IsQueryAction name rows (action.Merge options) = (name ≡ codes "merge") × ParsesAsMergeOptions rows options
+IsQueryAction name rows (action.BuildInputs options blank) = (name ≡ codes "build") × ParsesAsMergeOptions rows options
+    × ParsesAsBlankNodes (first_of (codes "blank-nodes") rows) blank
 
 -- The request reads FILE and writes no file.
 pub record IsQueryRequest (name : Text) (rows : List Row) (request : Request) : Type 0 where
@@ -281,9 +284,8 @@ pub record IsQueryRequest (name : Text) (rows : List Row) (request : Request) : 
   pub out : option_map string_bytes request.out ≡ None
   pub action : IsQueryAction name rows request.action
 
--- The command's name and arguments give this action, which writes a file.
+-- The command's name and arguments give this action, which reads IN and writes OUT.
 abbrev pub IsOutputAction : Text → List Row → Action → Type 0
-IsOutputAction name rows (action.Build options) = (name ≡ codes "build") × ParsesAsBuildOptions rows options
 IsOutputAction name rows (action.Rewrite b) = (name ≡ codes "rewrite")
     × ParsesAsNumber 32 (one_of (codes "block-size") rows) b
 IsOutputAction name rows action = ⊥
@@ -294,9 +296,23 @@ pub record IsOutputRequest (name : Text) (rows : List Row) (request : Request) :
   pub out : IsSomeAnd request.out (λ path. first_of (codes "OUT") rows ≡ Some (string_bytes path))
   pub action : IsOutputAction name rows request.action
 
+-- The arguments give this action of `build` with one document and without `--blank-nodes`.
+abbrev pub IsBuildAction : List Row → Action → Type 0
+IsBuildAction rows (action.Build options) = ParsesAsBuildOptions rows options
+IsBuildAction rows action = ⊥
+
+-- The request is `build` with one document, FILE, and OUT is the only path behind it.
+pub record IsBuildRequest (name : Text) (rows : List Row) (request : Request) : Type 0 where
+  pub named : name ≡ codes "build"
+  pub file : first_of (codes "FILE") rows ≡ Some (string_bytes request.file)
+  pub out : IsSomeAnd request.out (λ path. further_paths rows ≡ string_bytes path ∷ [])
+  pub blank_nodes : first_of (codes "blank-nodes") rows ≡ None
+  pub action : IsBuildAction rows request.action
+
 -- The command's name and arguments give this request.
 abbrev pub IsRequestOf : Text → List Row → Request → Type 0
-IsRequestOf name rows request = IsQueryRequest name rows request ⊎ IsOutputRequest name rows request
+IsRequestOf name rows request = IsQueryRequest name rows request
+    ⊎ (IsOutputRequest name rows request ⊎ IsBuildRequest name rows request)
 
 abbrev pub IsRequestOfCommand : Option (Text × List Row) → Request → Type 0
 IsRequestOfCommand entered request = IsSomeAnd entered (λ command. IsRequestOf command.0 command.1 request)
@@ -316,8 +332,8 @@ pub record ParsesToRequest (words : List Text) (request : Request) : Type 0 wher
   pub roles : AreRoles names
   pub wanted : ParsesWithRoles names words request
 
--- The command line gives this request, this way to report progress, `--verbose` if that is true, and this number of
--- `--longest-line`.
+-- The command line gives this request, this way to report progress, `--verbose` if that is true, this number of
+-- `--longest-line`, and this path of `--header`.
 pub record ParsesToInvocation (words : List Text) (asked : Invocation) : Type 0 where
   pub names : Names
   pub roles : AreRoles names
@@ -327,6 +343,8 @@ pub record ParsesToInvocation (words : List Text) (asked : Invocation) : Type 0 
       (λ command. ParsesAsFlag (one_of (codes "verbose") command.1) asked.verbose)
   pub longest_line : IsSomeAnd (subcommand_of (table names) words)
       (λ command. ParsesAsNumberOrNone (one_of (codes "longest-line") command.1) asked.longest_line)
+  pub header : IsSomeAnd (subcommand_of (table names) words)
+      (λ command. first_of (codes "header") command.1 ≡ option_map string_bytes asked.header)
 
 -- The explanation of the argument REASON is this text.
 abbrev pub IsExplained : List Row → Text → Type 0

@@ -1,6 +1,8 @@
 -- How the errors of the libraries become errors of a command.
 use Rattle.hdt_build.specs.declared.fault.BuildFault.{BuildFault}
 use Rattle.hdt_build.specs.declared.fault.BuildFault.TheVariants as building
+use Rattle.hdt_build.specs.declared.fault.HeaderFault.{HeaderFault}
+use Rattle.hdt_build.specs.declared.fault.HeaderFault.TheVariants as headers
 use Rattle.hdt_build.specs.declared.fault.MergeFault.{MergeFault}
 use Rattle.hdt_build.specs.declared.fault.MergeFault.TheVariants as merges
 use Rattle.hdt_build.specs.declared.fault.RewriteFault.{RewriteFault}
@@ -50,3 +52,8 @@ abbrev pub merge_fault_of : MergeFault → ToolFault
 merge_fault_of merges.BadOptions = BadOptions
 merge_fault_of merges.OutOfMemory = OutOfMemory
 merge_fault_of (merges.Write n) = Write n
+
+abbrev pub tool_fault_of_header : HeaderFault → ToolFault
+tool_fault_of_header (headers.File fault) = File fault
+tool_fault_of_header (headers.Line fault) = line_fault_of fault
+tool_fault_of_header headers.OutOfMemory = OutOfMemory

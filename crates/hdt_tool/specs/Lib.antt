@@ -4,6 +4,7 @@ pub mod ListedStrings
 pub mod TriplesText
 pub mod TermCounts
 pub mod NonTermText
+pub mod NewHeader
 pub mod InfoText
 pub mod Info
 pub mod Outcomes
@@ -15,5 +16,6 @@ pub mod ErrorLines
 pub mod CommandLine
 pub mod Paths
 pub mod SplitInputs
+pub mod BuildInputs
 pub mod Status
 pub mod Inside

@@ -1,6 +1,6 @@
 -- What a run of a command does: its output, the file that it makes, and its errors. In these definitions `before` and
 -- `after` are what the reader still yields before and after the run.
-use Rattle.std.specs.Prelude.{◌≡◌, ◌≢◌, ◌<◌, ◌≤◌, ◌+◌, ℕ, true, false, List, [], ◌++◌, length, take, Option, None, Some}
+use Rattle.std.specs.Prelude.{◌≡◌, ◌≢◌, ◌<◌, ◌≤◌, ◌+◌, ℕ, Bool, true, false, List, [], ◌++◌, length, take, Option, None, Some}
 use Rattle.std.specs.Prelude.{Err, MatchOption, codes}
 use Rattle.std.specs.Fmt.{decimal}
 use Rattle.std.specs.Io.KnownBytes.{Appends, Consumes, IsAtEnd}
@@ -26,10 +26,10 @@ use Rattle.hdt_tool.specs.declared.fault.ToolFault.TheVariants.{NoSuchNumber, No
 use Rattle.hdt_tool.specs.declared.fault.ToolFault.TheVariants.{OutOfMemory}
 use Rattle.hdt_tool.specs.declared.request.Action.{Action}
 use Rattle.hdt_tool.specs.declared.request.Request.{Request}
-use Rattle.hdt_tool.specs.declared.request.Action.TheVariants.{Head, Verify, VerifyTight, VerifyTerms, Strings}
+use Rattle.hdt_tool.specs.declared.request.Action.TheVariants.{Head, HeadBody, Verify, VerifyTight, VerifyTerms, Strings}
 use Rattle.hdt_tool.specs.declared.request.Action.TheVariants.{ListStrings, Nth, Number, Find, Search, SkipNonTerms}
 use Rattle.hdt_tool.specs.declared.request.Action.TheVariants.{Exists, Count, Answer, Build, Rewrite, Info, Lint}
-use Rattle.hdt_tool.specs.declared.request.Action.TheVariants.{Merge, Split}
+use Rattle.hdt_tool.specs.declared.request.Action.TheVariants.{BuildInputs, Merge, Split}
 use Rattle.hdt_tool.specs.PrintedReports.{built_line, rewritten_line, head_text, verdict}
 use Rattle.hdt_tool.specs.ErrorLines.{fault_status}
 use Rattle.hdt_tool.specs.Info.{PrintsInfo}
@@ -45,6 +45,12 @@ pub record PrintsHead (bytes text : List ℕ) : Type 0 where
   pub head : HeadParts
   pub encoded : IsHead head bytes
   pub printed : text ≡ head_text head
+
+-- The bytes begin with a valid head, and the text is its header body.
+pub record PrintsHeadBody (bytes text : List ℕ) : Type 0 where
+  pub head : HeadParts
+  pub encoded : IsHead head bytes
+  pub printed : text ≡ head.body
 
 -- The bytes are a valid encoding of a graph whose triples use all of its strings, and the text is the output of
 -- `verify`.
@@ -80,6 +86,7 @@ PrintsCountingNonTerms action bytes text n = ⊥
 -- The text is the output of a command for these input bytes, if it writes no file and has one output: `lint` has two.
 abbrev pub Prints : Action → List ℕ → List ℕ → Type 0
 Prints Head bytes text = PrintsHead bytes text
+Prints HeadBody bytes text = PrintsHeadBody bytes text
 Prints Verify bytes text = IsLayoutWith bytes (λ graph. text ≡ verdict (graph_counts graph))
 Prints VerifyTight bytes text = PrintsTightVerdict bytes text
 Prints (Info json) bytes text = PrintsInfo json bytes text
@@ -102,6 +109,7 @@ Prints (Build options) bytes text = ⊥
 Prints (Rewrite b) bytes text = ⊥
 Prints (Split options) bytes text = text ≡ []
 Prints (Merge options) bytes text = text ≡ []
+Prints (BuildInputs options blank) bytes text = text ≡ []
 
 -- The command reads a file and writes none.
 abbrev pub IsReadOnly : Action → Type 0
@@ -148,6 +156,7 @@ HasOut request = MatchOption request.out (IsReadOnly request.action) (λ path. M
 -- all strings; the other commands check the complete file.
 abbrev pub HasFault : Action → List ℕ → Fault → Type 0
 HasFault Head bytes fault = decode_head bytes ≡ Err fault
+HasFault HeadBody bytes fault = decode_head bytes ≡ Err fault
 HasFault VerifyTight bytes fault = decode_tight_graph bytes ≡ Err fault
 HasFault (VerifyTerms true) bytes fault = decode_tight_graph bytes ≡ Err fault
 HasFault (VerifyTerms false) bytes fault = decode_graph bytes ≡ Err fault
@@ -155,6 +164,7 @@ HasFault (Build options) bytes fault = ⊥
 HasFault (Lint keep most) bytes fault = ⊥
 HasFault (Split options) bytes fault = ⊥
 HasFault (Merge options) bytes fault = ⊥
+HasFault (BuildInputs options blank) bytes fault = ⊥
 HasFault action bytes fault = decode_graph bytes ≡ Err fault
 
 -- The role has no string with the ID to look up.

@@ -1,5 +1,5 @@
 -- The outputs of `head`, `verify`, `build` and `rewrite`, and the escaping of strings.
-use Rattle.std.specs.Prelude.{ℕ, ◌==◌, List, [], ◌∷◌, ◌++◌, if◌then◌else◌, codes, length, slice_index}
+use Rattle.std.specs.Prelude.{ℕ, ◌==◌, Bool, List, [], ◌∷◌, ◌++◌, if◌then◌else◌, codes, length, slice_index}
 use Rattle.std.specs.Fmt.{decimal}
 use Rattle.std.specs.List.{flat_map}
 use Rattle.hdt_wire.specs.Control.{ControlInfo}

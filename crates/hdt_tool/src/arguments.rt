@@ -57,6 +57,20 @@ pub(crate) fn required_text<'m>(
     }
 }
 
+/// The text of an option, if it is given.
+pub(crate) fn optional_text<'m>(
+    alloc: Global,
+    matches: &ArgMatches<'m>,
+    id: &str,
+) -> Result<Option<String>, AllocError>
+    ensures { IfOk result (λ text. option_map string_bytes text ≡ first_of id.now (rows_of (found_of matches.now))) }
+{
+    match argument_text(matches, id) {
+        Some(text) => Ok(Some(String::from_str(alloc, text)?)),
+        None => Ok(None),
+    }
+}
+
 /// The role that the argument ROLE names.
 pub(crate) fn required_role<'m>(alloc: Global, matches: &ArgMatches<'m>) -> Result<Role, UsageFault>
     ensures ok { IfOk result (λ role. first_of (codes "ROLE") (rows_of (found_of matches.now))
@@ -115,6 +129,16 @@ pub(crate) fn build_options<'m>(
         block_size: required_u32(alloc, matches, "block-size")?,
         base: base.into_bytes(),
     })
+}
+
+/// The action of `head`, with or without `--body`.
+pub(crate) fn head_action<'m>(matches: &ArgMatches<'m>) -> Action
+    ensures { IsQueryAction (codes "head") (rows_of (found_of matches.now)) result }
+{
+    if has_flag(matches, "body") {
+        return Action::HeadBody;
+    }
+    Action::Head
 }
 
 /// The action of `verify`, with or without `--tight` and `--terms`.

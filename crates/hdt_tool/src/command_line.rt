@@ -1,6 +1,6 @@
 //! Parsing a command line into a request.
-ghost use Rattle.std.specs.Prelude.{IfOk, IfErr, codes, map};
-ghost use Rattle.clap.specs.Words.{found_of, one_of, rows_of, kind_of};
+ghost use Rattle.std.specs.Prelude.{◌≡◌, IfOk, IfErr, codes, map, option_map, string_bytes};
+ghost use Rattle.clap.specs.Words.{found_of, first_of, one_of, rows_of, kind_of};
 ghost use Rattle.hdt_tool.specs.Outcomes.{HasOut};
 ghost use Rattle.hdt_tool.specs.CommandLine.{IsQueryAction, IsRequestOf, IsQueryRequest, IsOutputRequest};
 ghost use Rattle.hdt_tool.specs.CommandLine.{IsOutputAction, Refutes, RefutesOrInvalidTerm, IsRefused, HasInvalidTerm};
@@ -11,15 +11,17 @@ ghost use Rattle.hdt_tool.specs.declared.request.Action.{Action};
 ghost use Rattle.hdt_tool.specs.declared.request.Request.{Request};
 
 use crate::arguments::{
-    answer_action, argument_text, build_options, count_action, dump_action, find_action, has_flag,
-    info_action, lint_action, optional_number, required_id, required_role, required_term,
-    required_text, required_u32, strings_action, verify_action,
+    answer_action, argument_text, count_action, dump_action, find_action, has_flag, head_action,
+    info_action, lint_action, optional_number, optional_text, required_id, required_role,
+    required_term, required_text, required_u32, strings_action, verify_action,
 };
+use crate::build_arguments::build_request;
 use crate::fault::{TermArgument, UsageFault, missing};
 use crate::merge_arguments::merge_action;
 use crate::request::{Action, Invocation, Progress, Request};
 use crate::split_arguments::split_action;
 use clap::error::ErrorKind;
+use clap::parser::ValueSource;
 use clap::{ArgMatches, Error};
 use hdt_usage::{explain, make_command_table};
 use std::alloc::{AllocError, Global};
@@ -56,7 +58,7 @@ fn query_action<'m>(
         (HasInvalidTerm name.now (rows_of (found_of matches.now)))) }
 {
     match name {
-        "head" => Ok(Action::Head),
+        "head" => Ok(head_action(matches)),
         "verify" => Ok(verify_action(matches)),
         "info" => Ok(info_action(matches)),
         "strings" => strings_action(alloc, matches),
@@ -94,7 +96,7 @@ fn query_request<'m>(
     })
 }
 
-/// The action of a command that writes OUT.
+/// The action of a command that reads IN and writes OUT.
 fn output_action<'m>(
     alloc: Global,
     name: &str,
@@ -105,13 +107,12 @@ fn output_action<'m>(
         (Refutes ((action : Action) × IsOutputAction name.now (rows_of (found_of matches.now)) action)) }
 {
     match name {
-        "build" => Ok(Action::Build(build_options(alloc, matches)?)),
         "rewrite" => Ok(Action::Rewrite(required_u32(alloc, matches, "block-size")?)),
         _ => Err(missing(alloc)),
     }
 }
 
-/// The request of a command that writes OUT.
+/// The request of a command that reads IN and writes OUT.
 fn output_request<'m>(
     alloc: Global,
     name: &str,
@@ -140,7 +141,8 @@ fn request_of<'m>(
         (HasInvalidTerm name.now (rows_of (found_of matches.now)))) }
 {
     match name {
-        "build" | "rewrite" => output_request(alloc, name, matches),
+        "build" => build_request(alloc, matches),
+        "rewrite" => output_request(alloc, name, matches),
         _ => query_request(alloc, name, matches),
     }
 }
@@ -158,7 +160,7 @@ fn progress_option<'m>(matches: &ArgMatches<'m>) -> Progress
     }
 }
 
-/// The request of a command, how to report progress and errors, and the limit on lines.
+/// The request of a command, how to report progress and errors, the limit on lines, and the path of a new header.
 fn invocation_of<'m>(
     alloc: Global,
     name: &str,
@@ -172,6 +174,8 @@ fn invocation_of<'m>(
     ensures longest_line { IfOk result
         (λ invocation. ParsesAsNumberOrNone (one_of (codes "longest-line") (rows_of (found_of matches.now)))
         invocation.longest_line) }
+    ensures header { IfOk result (λ invocation. first_of (codes "header") (rows_of (found_of matches.now))
+        ≡ option_map string_bytes invocation.header) }
     ensures refused { IfErr result
         (RefutesOrInvalidTerm ((request : Request) × IsRequestOf name.now (rows_of (found_of matches.now)) request)
         (HasInvalidTerm name.now (rows_of (found_of matches.now)))) }
@@ -180,6 +184,7 @@ fn invocation_of<'m>(
         request: request_of(alloc, name, matches)?,
         progress: progress_option(matches),
         longest_line: optional_number(matches, "longest-line"),
+        header: optional_text(alloc, matches, "header")?,
         verbose: has_flag(matches, "verbose"),
     })
 }
@@ -215,6 +220,8 @@ fn invocation_or_explanation<'m>(
     ensures longest_line { IfOk result
         (λ invocation. ParsesAsNumberOrNone (one_of (codes "longest-line") (rows_of (found_of matches.now)))
         invocation.longest_line) }
+    ensures header { IfOk result (λ invocation. first_of (codes "header") (rows_of (found_of matches.now))
+        ≡ option_map string_bytes invocation.header) }
     ensures refused { IfErr result (IsFaultOfCommand name.now (rows_of (found_of matches.now))) }
 {
     match name {
@@ -263,11 +270,11 @@ pub fn parse_words<'a>(alloc: Global, words: &'a [&'a str]) -> Result<Request, U
     Ok(parse_invocation(alloc, words)?.request)
 }
 
-/// Parses a command line as [`parse_words`] does, and also `--progress`, `--no-progress`, `--verbose` and
-/// `--longest-line`.
+/// Parses a command line as [`parse_words`] does, and also `--progress`, `--no-progress`, `--verbose`,
+/// `--longest-line` and `--header`.
 pub fn parse_invocation<'a>(alloc: Global, words: &'a [&'a str]) -> Result<Invocation, UsageFault>
     // The request is that of `parse_words`; `progress` is what these options say, `verbose` is true exactly if it is
-    // given, and `longest_line` is the number that is given.
+    // given, `longest_line` is the number that is given, and `header` the path.
     ensures ok { IfOk result (ParsesToInvocation (map (λ word. word.now) words.now)) }
     ensures out { IfOk result (λ invocation. HasOut invocation.request) }
     ensures refused { IfErr result (IsRefused (map (λ word. word.now) words.now)) }
@@ -292,5 +299,23 @@ pub(crate) fn term_given<'a>(
     match argument_text(entries, argument.name()) {
         Some(text) => Ok(Some((String::from_str(alloc, text)?, has_flag(entries, "verbose")))),
         None => Ok(None),
+    }
+}
+
+/// Whether the command line gives `--block-size`, rather than its default.
+pub(crate) fn is_block_size_given<'a>(
+    alloc: Global,
+    words: &'a [&'a str],
+) -> Result<bool, AllocError> {
+    let command = make_command_table(alloc, &ROLES)?;
+    let Ok(matches) = command.try_get_matches_from(words) else {
+        return Ok(false);
+    };
+    match matches.subcommand() {
+        Some((_, entries)) => Ok(matches!(
+            entries.value_source("block-size"),
+            Some(ValueSource::CommandLine)
+        )),
+        None => Ok(false),
     }
 }

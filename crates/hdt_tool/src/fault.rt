@@ -6,7 +6,7 @@ ghost use Rattle.hdt_tool.specs.declared.fault.ToolFault.TheVariants.{OutOfMemor
 ghost use Rattle.hdt_tool.specs.Faults.{line_fault_of};
 ghost use Rattle.hdt_tool.specs.CommandLine.{Refutes};
 
-use hdt_build::{BuildFault, MergeFault, RewriteFault};
+use hdt_build::{BuildFault, HeaderFault, MergeFault, RewriteFault};
 use hdt_dict::Role;
 use hdt_file::{DumpFault, OpenFault};
 use hdt_terms::{LineFault, LineReason, TermFault};
@@ -228,6 +228,20 @@ impl From<MergeFault> for ToolFault {
             MergeFault::BadOptions => ToolFault::BadOptions,
             MergeFault::OutOfMemory => ToolFault::OutOfMemory,
             MergeFault::Write(count) => ToolFault::Write(count),
+        }
+    }
+}
+
+impl From<HeaderFault> for ToolFault {
+    ghost use Rattle.hdt_tool.specs.Faults.{tool_fault_of_header};
+
+    ghost from_gives = { λ fault e. e ≡ tool_fault_of_header fault };
+
+    fn from(fault: HeaderFault) -> ToolFault {
+        match fault {
+            HeaderFault::File(fault) => ToolFault::File(fault),
+            HeaderFault::Line(fault) => line_fault(fault),
+            HeaderFault::OutOfMemory => ToolFault::OutOfMemory,
         }
     }
 }

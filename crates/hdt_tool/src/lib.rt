@@ -17,19 +17,21 @@
 //! - `pending_output`: output that is collected before it is written;
 //! - `commands`: all commands, from a reader to a writer; `lint`: the one with two writers;
 //! - `split_arguments`, `splitting`: the command `split`;
-//! - `merge_arguments`: reading the arguments of the command `merge`;
+//! - `merge_arguments` and `build_arguments`: reading the arguments of the commands `merge` and `build`;
 //! - `error_lines` and `non_term_status`: exit statuses and messages; `error_context`, `error_hints` and
 //!   `error_strings`: the lines that follow a message;
 //! - `line_limit`: documents whose lines may not be longer than a limit;
 //! - `session`: what a command shows on standard error beside its message; `progress`, `progress_text`, `watched` and
 //!   `recent_lines`: its parts;
-//! - `files`, `overwriting`, `atomic_replace`, `output_file`, `split_parts`, `split_files` and `status`: the same over
-//!   files and streams.
+//! - `files`, `overwriting`, `atomic_replace`, `output_file`, `split_parts`, `split_files`, `merging`,
+//!   `building_inputs`, `new_header` and `status`: the same over files and streams.
 #![tactic(auto)]
 
 mod answerer;
 mod arguments;
 mod atomic_replace;
+mod build_arguments;
+mod building_inputs;
 mod command_line;
 mod commands;
 mod counts;
@@ -46,6 +48,7 @@ mod lint;
 mod listed_strings;
 mod merge_arguments;
 mod merging;
+mod new_header;
 mod non_term_status;
 mod non_term_text;
 mod output_file;

@@ -13,7 +13,7 @@ use clap::ArgMatches;
 use std::alloc::Global;
 
 /// For a command line with one path.
-const OUT_MESSAGE: &str = "error: OUT is missing
+pub(crate) const OUT_MESSAGE: &str = "error: OUT is missing
 
 For more information, try '--help'.";
 

@@ -2,7 +2,7 @@
 ghost use Rattle.std.specs.Prelude.{◌≡◌, ◌⊎◌};
 
 use crate::error_lines::OUT_OF_MEMORY;
-use crate::files::{STDERR_PATH, STDOUT_PATH, output_path, would_overwrite};
+use crate::files::{STDERR_PATH, STDOUT_PATH, is_stdin_path, output_path, would_overwrite};
 use crate::request::{Action, Request};
 use crate::status::print_error_line;
 use std::alloc::{AllocError, Global};
@@ -19,7 +19,32 @@ pub(crate) struct SameFile<'a> {
     output: &'a str,
 }
 
-impl SameFile<'_> {
+impl<'a> SameFile<'a> {
+    /// The header that `rewrite --header` reads at a path, and an output: it is OUT, standard output or standard error.
+    /// Or standard input is both the header and IN.
+    pub(crate) fn of_header(
+        rt: &HostRuntime,
+        request: &Request,
+        path: &str,
+        out: &'a str,
+    ) -> Option<SameFile<'a>> {
+        let input = "the FILE of --header";
+        if is_stdin_path(path) && is_stdin_path(request.file.as_str()) {
+            return Some(SameFile {
+                input,
+                output: "IN",
+            });
+        }
+        if would_overwrite(rt, output_path(out), path) {
+            return Some(SameFile {
+                input,
+                output: "OUT",
+            });
+        }
+        let output = output_over(rt, request, path)?;
+        Some(SameFile { input, output })
+    }
+
     /// Whether a message on standard error would change the input.
     fn takes_messages(self) -> bool {
         self.output == STDERR_NAME
@@ -39,7 +64,11 @@ For more information, try '--help'."
 /// The name of the file that a command reads.
 fn input_name<'a>(action: &Action) -> &'a str {
     match action {
-        Action::Build(_) | Action::Rewrite(_) | Action::Lint { .. } | Action::Split(_) => "IN",
+        Action::Build(_)
+        | Action::BuildInputs(_, _)
+        | Action::Rewrite(_)
+        | Action::Lint { .. }
+        | Action::Split(_) => "IN",
         _ => "FILE",
     }
 }
@@ -48,8 +77,17 @@ fn input_name<'a>(action: &Action) -> &'a str {
 fn other_inputs(action: &Action) -> &[String] {
     match action {
         Action::Split(options) => options.others.as_slice(),
-        Action::Merge(options) => options.others.as_slice(),
+        Action::Merge(options) | Action::BuildInputs(options, _) => options.others.as_slice(),
         _ => &[],
+    }
+}
+
+/// The path of OUT, if it must be none of the inputs.
+fn new_path(request: &Request) -> Option<&str> {
+    match &request.action {
+        Action::Build(_) => Some(request.out.as_ref()?.as_str()),
+        Action::BuildInputs(options, _) => Some(options.out.as_str()),
+        _ => None,
     }
 }
 
@@ -59,8 +97,8 @@ fn output_over<'a>(rt: &HostRuntime, request: &Request, path: &str) -> Option<&'
     if would_overwrite(rt, STDERR_PATH, path) {
         return Some(STDERR_NAME);
     }
-    if let (Action::Build(_), Some(out)) = (&request.action, &request.out) {
-        if would_overwrite(rt, output_path(out.as_str()), path) {
+    if let Some(out) = new_path(request) {
+        if would_overwrite(rt, output_path(out), path) {
             return Some("OUT");
         }
     }

@@ -31,7 +31,7 @@ fn put_block(name: &str, block: &Control<'_>, out: &mut Vec<u8>) -> Result<(), A
 
 /// The output of `head`: five lines, and then the header body, unescaped.
 #[tactic(auto, using(std::proofs::Common::append_assoc), unfolding(crate::specs::PrintedReports::head_text))]
-pub(crate) fn head_text(alloc: Global, head: &Head<'_>) -> Result<Vec<u8>, AllocError>
+fn head_text(alloc: Global, head: &Head<'_>) -> Result<Vec<u8>, AllocError>
     ensures { IfOk result (λ text. text.items ≡ head_text (head_parts head.now)) }
 {
     let body = head.body();

@@ -93,6 +93,7 @@ pub(crate) fn file_text(alloc: Global, action: &Action, bytes: &[u8]) -> Result<
 {
     match action {
         Action::Head => Ok(head_text(alloc, &read_head(bytes)?)?),
+        Action::HeadBody => Ok(read_head(bytes)?.body().to_vec(alloc)?),
         Action::Verify => Ok(verdict(alloc, verify(alloc, bytes)?)?),
         Action::VerifyTight => Ok(verdict(alloc, verify_tight(alloc, bytes)?)?),
         Action::Info { json } => file_info_text(alloc, *json, bytes),
@@ -120,6 +121,7 @@ pub(crate) fn file_text(alloc: Global, action: &Action, bytes: &[u8]) -> Result<
             Ok(Vec::new(alloc))
         }
         Action::Lint { .. } | Action::Split(_) | Action::Merge(_) => Ok(Vec::new(alloc)),
+        Action::BuildInputs(_, _) => Ok(Vec::new(alloc)),
         Action::Strings(_) | Action::Find { .. } | Action::Search { .. } => unreachable!(),
         Action::SkipNonTerms { .. } | Action::VerifyTerms { .. } => unreachable!(),
         Action::Build(_) | Action::Rewrite(_) => unreachable!(),

@@ -38,7 +38,7 @@ pub struct AnswerReport {
     pub skipped: u64,
 }
 
-/// Whether a label is one blank node in all inputs of `split`.
+/// Whether a label is one blank node in all inputs of `split`, or of `build`.
 #[derive(Clone, Copy, Debug, PartialEq, Eq)]
 pub enum BlankNodes {
     /// It is: the inputs are pieces of one document.
@@ -69,10 +69,10 @@ pub struct SplitOptions {
     pub blank_nodes: Option<BlankNodes>,
 }
 
-/// The options of `merge`.
+/// The paths and the options of `merge`, or of `build` with several documents.
 #[derive(Debug, Drop)]
 pub struct MergeOptions {
-    /// The paths of the files after the first one, which is the file of the request.
+    /// The paths of the inputs after the first one, which is the file of the request.
     pub others: Vec<String>,
     /// The path of the new file.
     pub out: String,
@@ -85,6 +85,8 @@ pub struct MergeOptions {
 pub enum Action {
     /// Prints the control information and the header of a file.
     Head,
+    /// Prints the header body of a file.
+    HeadBody,
     /// Verifies a file.
     Verify,
     /// Verifies a file, and that every string of its dictionary is used in the role of its section.
@@ -170,6 +172,9 @@ pub enum Action {
     Split(SplitOptions),
     /// Merges files into one, and prints the counts of its parts.
     Merge(MergeOptions),
+    /// Builds one HDT file from several N-Triples documents, or with `--blank-nodes`, and prints the counts of its
+    /// parts. Without a value of that option only one document may have blank nodes.
+    BuildInputs(MergeOptions, Option<BlankNodes>),
 }
 
 /// A command and its files.
@@ -194,7 +199,7 @@ pub enum Progress {
     Off,
 }
 
-/// A request, how to report progress and errors, and a limit for documents.
+/// A request, how to report progress and errors, a limit for documents, and a new header.
 #[derive(Debug, Drop)]
 pub struct Invocation {
     /// The request.
@@ -203,6 +208,8 @@ pub struct Invocation {
     pub progress: Progress,
     /// The maximum number of bytes of a line of an N-Triples document, without its end; `None` for no limit.
     pub longest_line: Option<u64>,
+    /// The path of the N-Triples by which `rewrite` replaces the header, and nothing else; `None` if it rewrites.
+    pub header: Option<String>,
     /// Whether more lines follow an error message.
     pub verbose: bool,
 }

@@ -107,7 +107,7 @@ pub(crate) struct Session<'a> {
 /// What a command does once it has read its input.
 fn phase_of(action: &Action) -> Phase {
     match action {
-        Action::Build(_) => Phase::Sorting,
+        Action::Build(_) | Action::BuildInputs(_, _) => Phase::Sorting,
         Action::Rewrite(_) => Phase::Rewriting,
         Action::Count { .. } | Action::Answer(_) | Action::VerifyTight => Phase::Indexing,
         _ => Phase::Checking,
@@ -122,8 +122,11 @@ fn knows_codes(rt: &HostRuntime) -> bool {
     }
 }
 
-/// How progress is reported: automatically only on a terminal, and not at all if standard error is OUT.
+/// How progress is reported: automatically only on a terminal, and not at all by `split` or if standard error is OUT.
 fn progress_of(rt: &HostRuntime, invocation: &Invocation) -> Progress {
+    if let Action::Split(_) = &invocation.request.action {
+        return Progress::Off;
+    }
     if let Some(path) = &invocation.request.out {
         if is_same_file(rt, output_path(path.as_str()), STDERR_PATH) {
             return Progress::Off;

@@ -33,7 +33,7 @@ const FOLDER_MESSAGE: &str = "error: FOLDER is missing
 For more information, try '--help'.";
 
 /// The value of `--blank-nodes`.
-fn blank_nodes_option<'m>(
+pub(crate) fn blank_nodes_option<'m>(
     alloc: Global,
     matches: &ArgMatches<'m>,
 ) -> Result<Option<BlankNodes>, UsageFault>

@@ -8,8 +8,9 @@ use crate::atomic_replace::{NAME_ATTEMPTS, random_number};
 use crate::error_context::{ErrorSource, print_context};
 use crate::error_lines::{OUT_OF_MEMORY, fault_line};
 use crate::fault::{ToolFault, file_fault, line_fault};
-use crate::files::Source;
+use crate::files::{Source, open_input};
 use crate::line_limit::{LineLimit, name_long_split_line};
+use crate::progress::ProgressReader;
 use crate::request::{Request, SplitOptions, SplitOutput};
 use crate::session::Session;
 use crate::split_parts::{part_files, printed_parts, publish_folder, remove_folder};
@@ -35,50 +36,48 @@ For more information, try '--help'.";
 
 /// An input that is opened once it is read, so that few files are open at a time.
 #[derive(Drop)]
-struct LateInput<'a> {
+pub(crate) struct LateInput<'a> {
     rt: &'a HostRuntime,
     session: &'a Session<'a>,
     path: &'a str,
-    opened: Option<LineLimit<'a, Source>>,
+    opened: Option<LineLimit<'a, ProgressReader<'a, Source>>>,
 }
 
 impl Read for LateInput<'_> {
     fn read(&mut self, buf: &mut [u8]) -> io::Result<usize> {
         if self.opened.is_none() {
             self.session.begin_input();
-            let source = self.session.note_error(Source::open(self.rt, self.path))?;
+            let source = open_input(self.rt, self.path, self.session)?;
             self.opened = Some(LineLimit::new(source, self.session));
         }
-        let count = match &mut self.opened {
-            Some(source) => self.session.note_error(source.read(buf))?,
-            None => 0,
-        };
-        self.session.keep_input(buf, count);
-        Ok(count)
+        match &mut self.opened {
+            Some(source) => source.read(buf),
+            None => Ok(0),
+        }
     }
 }
 
 /// The path of the input with this number, from 0.
-fn input_path<'a>(request: &'a Request, options: &'a SplitOptions, number: u64) -> &'a str
-    ensures { result.now ≡ get_or (input_paths request.now options.now) number (string_bytes request.now.file) }
+fn input_path<'a>(request: &'a Request, others: &'a [String], number: u64) -> &'a str
+    ensures { result.now ≡ get_or (input_paths request.now others.now) number (string_bytes request.now.file) }
 {
     if number == 0 {
         return request.file.as_str();
     }
-    match options.others.get((number - 1) as usize) {
+    match others.get((number - 1) as usize) {
         Some(path) => path.as_str(),
         None => request.file.as_str(),
     }
 }
 
 /// All inputs, none of them opened.
-fn late_inputs<'a>(
+pub(crate) fn late_inputs<'a>(
     rt: &'a HostRuntime,
     session: &'a Session<'a>,
     request: &'a Request,
-    options: &'a SplitOptions,
+    others: &'a [String],
 ) -> Result<Vec<LateInput<'a>>, AllocError>
-    ensures { IfOk result (λ inputs. map (λ input. input.path.now) inputs.items ≡ input_paths request.now options.now) }
+    ensures { IfOk result (λ inputs. map (λ input. input.path.now) inputs.items ≡ input_paths request.now others.now) }
 {
     let mut inputs = Vec::new(rt.alloc());
     inputs.push(LateInput {
@@ -87,7 +86,7 @@ fn late_inputs<'a>(
         path: request.file.as_str(),
         opened: None,
     })?;
-    'paths: for path in options.others.as_slice() {
+    'paths: for path in others {
         inputs.push(LateInput {
             rt,
             session,
@@ -173,12 +172,12 @@ fn print_blank_nodes_fault(rt: &HostRuntime, one: &str, other: &str) -> u8
     }
 }
 
-/// The status of a split. Prints the message of an error.
-fn split_status(
+/// The status of a split, or of reading the documents of a build. Prints the message of an error.
+pub(crate) fn split_status(
     rt: &HostRuntime,
     source: ErrorSource<'_>,
     request: &Request,
-    options: &SplitOptions,
+    others: &[String],
     outcome: Result<(), SplitInputsFault>,
 ) -> u8
     ensures statuses { IsCommandStatus result }
@@ -192,7 +191,7 @@ fn split_status(
     };
     match stop {
         SplitInputsFault::Input(number, SplitFault::Line(fault)) => {
-            let path = input_path(request, options, number);
+            let path = input_path(request, others, number);
             print_line_fault(rt, source.with_input(path), path, &line_fault(fault))
         }
         SplitInputsFault::Input(_, SplitFault::Write(_)) => print_fault(
@@ -205,8 +204,8 @@ fn split_status(
         }
         SplitInputsFault::BlankNodes(one, other) => print_blank_nodes_fault(
             rt,
-            input_path(request, options, one),
-            input_path(request, options, other),
+            input_path(request, others, one),
+            input_path(request, others, other),
         ),
     }
 }
@@ -222,8 +221,8 @@ fn split_to<W: Write + Drop>(
     requires { IfOk outs (λ outs. length outs.items < 2 ^ 32) }
     ensures { IsCommandStatus result }
 {
-    let (Ok(mut outs), Ok(inputs)) = (outs, late_inputs(rt, source.session, request, options))
-    else {
+    let others = options.others.as_slice();
+    let (Ok(mut outs), Ok(inputs)) = (outs, late_inputs(rt, source.session, request, others)) else {
         return print_fault(rt, source, ToolFault::OutOfMemory);
     };
     if outs.is_empty() {
@@ -231,7 +230,7 @@ fn split_to<W: Write + Drop>(
     }
     let outcome = split_inputs(rt.alloc(), options.blank_nodes, inputs, outs.as_mut_slice());
     let outcome = outcome.map_err(|fault| name_long_split_line(source.session, fault));
-    split_status(rt, source, request, options, outcome)
+    split_status(rt, source, request, others, outcome)
 }
 
 /// Makes a new folder beside a path, under a random name.

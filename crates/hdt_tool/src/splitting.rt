@@ -1,6 +1,7 @@
 //! `split`: several documents into the parts of one graph, by subject.
 ghost use Rattle.std.specs.Prelude.{◌≡◌, ◌≢◌, ◌<◌, ◌^◌, ℕ, None, IfOk, IfErr, OnOk, length, map, true};
 ghost use Rattle.hdt_wire.specs.Counted.{inner, failures};
+ghost use Rattle.hdt_dict.specs.Strings.{IsDictionaryString};
 ghost use Rattle.hdt_terms.specs.Split.{FailsOnce};
 ghost use Rattle.hdt_terms.specs.declared.split.SplitFault.TheVariants as SplitFault;
 ghost use Rattle.hdt_tool.specs.SplitInputs.{IsBlankNodesFault, SplitsInTurn, StopsInTurn};
@@ -33,12 +34,13 @@ impl From<AllocError> for SplitInputsFault {
 }
 
 /// What goes before the labels of an input.
-fn input_prefix(
+pub(crate) fn input_prefix(
     alloc: Global,
     blank_nodes: Option<BlankNodes>,
     number: u64,
 ) -> Result<Vec<u8>, AllocError>
-    ensures { IfOk result (λ prefix. prefix.items ≡ input_prefix blank_nodes number) }
+    ensures is { IfOk result (λ prefix. prefix.items ≡ input_prefix blank_nodes number) }
+    ensures text { IfOk result (λ prefix. IsDictionaryString prefix.items) }
 {
     match blank_nodes {
         Some(BlankNodes::Apart) => Ok(format!(in alloc; "f{number}_")?.into_bytes()),
@@ -48,7 +50,7 @@ fn input_prefix(
 }
 
 /// The first input with blank nodes so far; an error if this is another one and it matters.
-fn first_with_blank_nodes(
+pub(crate) fn first_with_blank_nodes(
     blank_nodes: Option<BlankNodes>,
     first: Option<u64>,
     number: u64,

@@ -24,6 +24,7 @@ ghost use Rattle.hdt_tool.specs.declared.request.AnswerReport.{AnswerReport};
 ghost use Rattle.hdt_tool.specs.ErrorLines.{fault_status};
 ghost use Rattle.hdt_tool.specs.Status.{ExitsWith, IsCommandStatus, IsRefusalStatus, IsReportStatus};
 
+use crate::building_inputs::run_build_inputs;
 use crate::command_line::parse_invocation;
 use crate::commands::{answer_file, print_output};
 use crate::error_context::{ErrorSource, is_terminal, print_context, print_term_context};
@@ -33,6 +34,7 @@ use crate::fault::{ToolFault, UsageFault, file_fault};
 use crate::files::{open_input, output_path};
 use crate::lint::lint_path;
 use crate::merging::run_merge;
+use crate::new_header::run_new_header;
 use crate::non_term_status::{count_status, skipped_line};
 use crate::output_file::make_file_at;
 use crate::overwriting::{refuse_same_file, same_file};
@@ -99,7 +101,10 @@ pub(crate) fn command_status(
 }
 
 /// Borrows each argument as a text.
-fn borrow_strings<'a>(alloc: Global, words: &'a [String]) -> Result<Vec<&'a str>, AllocError>
+pub(crate) fn borrow_strings<'a>(
+    alloc: Global,
+    words: &'a [String],
+) -> Result<Vec<&'a str>, AllocError>
     ensures { IfOk result (λ texts. map (λ text. text.now) texts.items ≡ map string_bytes words.now) }
 {
     let mut texts = Vec::new(alloc);
@@ -370,6 +375,9 @@ pub fn process_status(rt: &HostRuntime, words: io::Result<Vec<String>>) -> u8
     if let Some(same) = same_file(rt, request) {
         return refuse_same_file(rt, same);
     }
+    if let (Some(out), Some(header)) = (&request.out, &invocation.header) {
+        return run_new_header(rt, source, &words, request, header.as_str(), out.as_str());
+    }
     if let Some(path) = &request.out {
         let path = output_path(path.as_str());
         return command_status(rt, source, make_file_at(rt, &session, request, path));
@@ -383,6 +391,9 @@ pub fn process_status(rt: &HostRuntime, words: io::Result<Vec<String>>) -> u8
         }
         Action::Split(options) => run_split(rt, source, request, options),
         Action::Merge(options) => run_merge(rt, source, request, options),
+        Action::BuildInputs(options, blank_nodes) => {
+            run_build_inputs(rt, source, request, options, *blank_nodes)
+        }
         _ => {
             let input = match open_input(rt, request.file.as_str(), source.session) {
                 Ok(input) => input,

@@ -95,6 +95,10 @@ line_rows = longest_line_row ∷ verbose_row ∷ []
 abbrev pub split_rows : List Argument
 split_rows = limit_row (codes "parts") ∷ text_row (codes "of") ∷ text_row (codes "blank-nodes") ∷ line_rows
 
+abbrev pub build_rows : List Argument
+build_rows = verbose_row ∷ flag_row (codes "no-progress") ∷ base_row ∷ block_size_row ∷ text_row (codes "blank-nodes")
+    ∷ longest_line_row ∷ progress_row ∷ []
+
 abbrev pub merge_rows : List Argument
 merge_rows = verbose_row ∷ flag_row (codes "no-progress") ∷ base_row ∷ block_size_row ∷ progress_row ∷ []
 
@@ -109,7 +113,7 @@ in_out_command name rest =
 
 -- The commands with their arguments, in order.
 unfoldable pub commands : List CommandRow
-commands = file_command (codes "head") []
+commands = file_command (codes "head") (flag_row (codes "body") ∷ [])
     ∷ file_command (codes "verify") (flag_row (codes "tight") ∷ flag_row (codes "terms") ∷ progress_row ∷ [])
     ∷ file_command (codes "info") (flag_row (codes "json") ∷ [])
     ∷ file_command (codes "strings") (role_row ∷ text_row (codes "prefix") ∷ flag_row (codes "terms") ∷ [])
@@ -119,8 +123,8 @@ commands = file_command (codes "head") []
     ∷ file_command (codes "answer") (format_rows ++ skip_and_most_rows ++ longest_request_row ∷ [])
     ∷ file_command (codes "dump") (flag_row (codes "skip-non-terms") ∷ [])
     ∷ file_command (codes "count") (role_row ∷ limit_row (codes "top") ∷ flag_row (codes "raw") ∷ [])
-    ∷ in_out_command (codes "build") (base_row ∷ block_size_row ∷ longest_line_row ∷ progress_row ∷ [])
-    ∷ in_out_command (codes "rewrite") (block_size_row ∷ progress_row ∷ [])
+    ∷ (codes "build", first_input_row ∷ paths_row ∷ build_rows)
+    ∷ in_out_command (codes "rewrite") (block_size_row ∷ text_row (codes "header") ∷ progress_row ∷ [])
     ∷ (codes "merge", required_row (codes "FILE") ∷ paths_row ∷ merge_rows)
     ∷ (codes "lint", first_input_row ∷ flag_row (codes "keep") ∷ limit_row (codes "most") ∷ line_rows)
     ∷ (codes "split", first_input_row ∷ paths_row ∷ split_rows)

@@ -43,7 +43,7 @@ pub(crate) type CommandRow = (
 
 const FILE: ArgumentRow = ("FILE", Kind::Required, "", "", Help::File);
 
-const FIRST_INPUT: ArgumentRow = ("FILE", Kind::Shown, "IN", "", Help::SplitIn);
+const FIRST_INPUT: ArgumentRow = ("FILE", Kind::Shown, "IN", "", Help::In);
 
 const OUT: ArgumentRow = ("OUT", Kind::Required, "", "", Help::Out);
 
@@ -62,6 +62,8 @@ const COUNT: ArgumentRow = ("count", Kind::Flag, "", "", Help::Count);
 const SKIP_NON_TERMS: ArgumentRow = ("skip-non-terms", Kind::Flag, "", "", Help::Skip);
 
 const MOST: ArgumentRow = ("most", Kind::Limit, "N", "", Help::Most);
+
+const BLANK_NODES: ArgumentRow = ("blank-nodes", Kind::Text, "WORD", "", Help::BlankNodes);
 
 const LONGEST_LINE: ArgumentRow = ("longest-line", Kind::Limit, "N", "", Help::LongestLine);
 
@@ -82,7 +84,12 @@ pub(crate) const COMMANDS: &[CommandRow] = &[
         Help::HeadAbout,
         Help::HeadLongAbout,
         None,
-        &[FILE, VERBOSE, NO_PROGRESS],
+        &[
+            FILE,
+            VERBOSE,
+            NO_PROGRESS,
+            ("body", Kind::Flag, "", "", Help::HeaderBody),
+        ],
     ),
     (
         "verify",
@@ -219,14 +226,15 @@ pub(crate) const COMMANDS: &[CommandRow] = &[
         "build",
         Help::BuildAbout,
         Help::BuildLongAbout,
-        None,
+        Some(Help::BuildUsage),
         &[
-            ("IN", Kind::Required, "", "", Help::In),
-            OUT,
+            FIRST_INPUT,
+            ("PATHS", Kind::Paths, "", "", Help::BuildPaths),
             VERBOSE,
             NO_PROGRESS,
             BASE_IRI,
             BLOCK_SIZE,
+            BLANK_NODES,
             LONGEST_LINE,
             PROGRESS,
         ],
@@ -242,6 +250,7 @@ pub(crate) const COMMANDS: &[CommandRow] = &[
             VERBOSE,
             NO_PROGRESS,
             BLOCK_SIZE,
+            ("header", Kind::Text, "FILE", "", Help::NewHeader),
             PROGRESS,
         ],
     ),
@@ -283,7 +292,7 @@ pub(crate) const COMMANDS: &[CommandRow] = &[
             ("PATHS", Kind::Paths, "", "", Help::SplitPaths),
             ("parts", Kind::Limit, "N", "", Help::SplitParts),
             ("of", Kind::Text, "K/N", "", Help::SplitOf),
-            ("blank-nodes", Kind::Text, "WORD", "", Help::SplitBlankNodes),
+            BLANK_NODES,
             LONGEST_LINE,
             VERBOSE,
         ],

@@ -35,6 +35,7 @@ pub(crate) const BASE: &str = "http://example.org/dataset";
 pub(crate) enum Help {
     HeadAbout,
     HeadLongAbout,
+    HeaderBody,
     VerifyAbout,
     VerifyLongAbout,
     Tight,
@@ -63,9 +64,12 @@ pub(crate) enum Help {
     DumpAbout,
     DumpLongAbout,
     BuildAbout,
+    BuildUsage,
     BuildLongAbout,
+    BuildPaths,
     RewriteAbout,
     RewriteLongAbout,
+    NewHeader,
     MergeAbout,
     MergeUsage,
     MergeLongAbout,
@@ -78,11 +82,10 @@ pub(crate) enum Help {
     SplitAbout,
     SplitUsage,
     SplitLongAbout,
-    SplitIn,
     SplitPaths,
     SplitParts,
     SplitOf,
-    SplitBlankNodes,
+    BlankNodes,
     ExplainAbout,
     ExplainLongAbout,
     Reason,
@@ -119,7 +122,10 @@ impl Help {
 
 Five lines have the format and the properties of the file, those of its header, and the length
 of the header in bytes. The header itself follows: N-Triples about the graph. Nothing after the
-header is read, so this also works for a file that is cut off there.",
+header is read, so this also works for a file that is cut off there.
+
+With --body only the header itself is printed: edit it, and give it to `rewrite --header`.",
+            Help::HeaderBody => "Print only the header",
             Help::VerifyAbout => "Verify a file, and count its triples and strings",
             Help::VerifyLongAbout => "Verify a file.
 
@@ -232,16 +238,24 @@ If a string has no form in N-Triples, nothing is printed and the exit status is 
 --skip-non-terms its triples are left out; their number is on standard error, and the exit status
 is 1 if there are any.",
             Help::BuildAbout => "Build a file from N-Triples",
+            Help::BuildUsage => "hdt build [OPTIONS] <IN>... <OUT>",
+            Help::BuildPaths => "Paths of further documents, and of OUT",
             Help::BuildLongAbout => "Build an HDT file from N-Triples.
 
 The order of the lines, duplicates and comments make no difference: equal graphs give equal
 files, byte for byte. On success, print `built` and six counts: the triples, the strings of the
 sections shared, subjects, predicates and objects, and the bytes of the file.
 
+The last path is OUT. Several documents are built as if they were one, without a need for line
+ends between them. Where two have blank nodes, say by --blank-nodes whether a label is one node in
+all documents (one), or not (apart): then labels of the first document get the prefix f0_, those
+of the second one f1_, and so on. An error message has the path of its document, and the number
+of the line in it.
+
 With --longest-line N a line of more than N bytes, without its end, is an error, TooLong. It is
 found in the memory of a line of N bytes, however long it is.
 
-OUT must not be IN. OUT is replaced atomically: a temporary file in the same directory, which
+OUT must not be an IN. OUT is replaced atomically: a temporary file in the same directory, which
 only its owner can open, is written and synced, gets OUT's permissions and group, and is renamed.
 If you may not give it the group, group and others get the permissions that both had. On failure
 OUT is unchanged. A killed program may leave hdt-unfinished- and 16 digits: remove it. If OUT is
@@ -260,6 +274,11 @@ own canonical file at the same block size. On success, print `rewritten` and six
 triples, the strings of the sections shared, subjects, predicates and objects, and the bytes of
 the file.
 
+With --header FILE only the header is replaced, by the N-Triples of FILE as they are: a title, a
+licence, or anything else about the graph. All other bytes stay, but the header's length and the
+CRC over it, so the file is canonical only if it was. --block-size cannot be given too. FILE may
+be - for standard input, unless IN is. `head --body` prints the header of a file.
+
 IN may be OUT. OUT is replaced atomically: a temporary file in the same directory, which only its
 owner can open, is written and synced, gets OUT's permissions and group, and is renamed. If you
 may not give it the group, group and others get the permissions that both had. On failure OUT is
@@ -269,6 +288,7 @@ regular file, it is opened and written.
 If OUT is - or the file or pipe of standard output, the file goes there, after what is already
 written there, and the line of counts to standard error. If that goes there too, the line is not
 printed.",
+            Help::NewHeader => "Replace only the header, by the N-Triples of FILE",
             Help::MergeAbout => "Merge files into one",
             Help::MergeUsage => "hdt merge [OPTIONS] <FILE>... <OUT>",
             Help::MergeLongAbout =>
@@ -333,11 +353,10 @@ f1_, and so on. The part is that of the label with its prefix.
 An error message has the path of its input. Memory: 64 KiB for each part that has triples, and
 the longest line. With --longest-line N a line of more than N bytes, without its end, is an error,
 TooLong, found in the memory of a line of N bytes.",
-            Help::SplitIn => "Path of an N-Triples document to read, or - for standard input",
             Help::SplitPaths => "Paths of further documents, and without --of of FOLDER",
             Help::SplitParts => "The number of parts, 1 to 65536",
             Help::SplitOf => "Print the part K, from 0, of N parts",
-            Help::SplitBlankNodes => "Whether a label is one node in all inputs: one or apart",
+            Help::BlankNodes => "Whether a label is one node in all inputs: one or apart",
             Help::ExplainAbout => "Explain an error of a file or a text",
             Help::ExplainLongAbout => "Explain an error of an HDT file or of an N-Triples text.
 
@@ -346,7 +365,7 @@ name in an error message, as 11 or Check32. A number may be that of two errors: 
 one of a text. docs/ERRORS.md has the same texts, and those of the other messages.",
             Help::Reason => "The number or the name of the error",
             Help::Verbose => "Print more lines after an error message",
-            Help::In => "Path of the N-Triples document to read, or - for standard input",
+            Help::In => "Path of an N-Triples document to read, or - for standard input",
             Help::Out => "Path of the HDT file to write, or - for standard output",
             Help::Base => "The IRI that names the graph in the header",
             Help::BlockSize => "Strings per dictionary block, 1 to 65535",

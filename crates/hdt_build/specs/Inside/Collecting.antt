@@ -52,3 +52,8 @@ pub record IsValidCollector (c : TripleCollector) : Type 0 where
 pub record IsValidMerger (xs : List (List ℕ)) (ids : List Triple) : Type 0 where
   pub sound : AreBelow (length xs) ids
   pub texts : HasDictionaryStrings (string_triples_of xs ids)
+
+-- the collector is valid, and a dictionary can have the strings of its triples
+pub record IsValidBuilder (c : TripleCollector) : Type 0 where
+  pub sound : IsValidCollector c
+  pub texts : HasDictionaryStrings (collected_triples c)

@@ -3,7 +3,7 @@ use Rattle.std.proofs.Common.{◌≡◌, refl}
 use Rattle.hdt_build.specs.Inside.Collecting.{collected_triples}
 use Rattle.hdt_build.specs.Options.{AreValidOptions}
 use Rattle.hdt_build.specs.declared.fault.BuildFault.TheVariants.{BadOptions}
-use Rattle.hdt_build.proofs.DocumentReading.{no_triples}
+use Rattle.hdt_build.proofs.DocumentReading.{input_graph, no_triples}
 use Rattle.hdt_build.proofs.building.build_bytes.Goals as goal
 
 pub returns-then-not-are_valid_options-clause-unread : goal.returns-then-not-are_valid_options-clause-unread
@@ -14,7 +14,7 @@ returns-then-not-are_valid_options-clause-still g c = λ _. refl
 
 pub returns-in_err-collector : goal.returns-in_err-collector
 returns-in_err-collector g c =
-    let p = err_from_is_err_and c.from_residual.result c.from_residual.ensures.1 in
+    let p = err_from_is_err_and c.from_residual-in_err-collector.result c.from_residual-in_err-collector.ensures.1 in
     let error = c.in_err-collector.ensures in
     let right : AreValidOptions c.args.options.now = c.are_valid_options.ensures.0 c.if-not-are_valid_options.false in
     let other = λ (is : c.in_err-collector.field-0.0 ≡ BadOptions). (rw is at error.fault) in
@@ -32,7 +32,8 @@ returns-in_err-collector g c =
 
 pub returns-then-is_empty-clause-fault : goal.returns-then-is_empty-clause-fault
 returns-then-is_empty-clause-fault g c =
-    λ _. no_triples _ (collected_triples c.in_ok-collector.collector) c.in_ok-collector.ensures.found
+    λ _. no_triples _ (collected_triples c.in_ok-collector.collector)
+    (input_graph _ _ _ _ c.in_ok-empty.ensures.graph c.in_ok-collector.ensures.found)
     (c.is_empty.ensures.0 c.if-is_empty.true)
 
 pub returns-in_err-built : goal.returns-in_err-built
@@ -54,6 +55,6 @@ returns-in_err-built g c =
 pub returns-clause-found : goal.returns-clause-found
 returns-clause-found g c = record {
   graph = collected_triples c.in_ok-collector.collector;
-  read = c.in_ok-collector.ensures.found;
+  read = input_graph _ _ _ _ c.in_ok-empty.ensures.graph c.in_ok-collector.ensures.found;
   built = c.in_ok-built.ensures;
 }

@@ -1,20 +1,26 @@
-use Rattle.std.proofs.Common.{◌≡◌, ℕ, List, false, refl, sym, ap, subst, ◌∙◌, ◌++◌, ◌∷◌, [], ⊎_elim, arith}
+use Rattle.std.proofs.Common.{◌≡◌, ℕ, List, Bool, false, refl, sym, ap, subst, ◌∙◌, ◌++◌, ◌∷◌, ◌||◌, [], ⊎_elim, arith}
 use Rattle.hdt_terms.specs.declared.triple.Term.{Term}
 use Rattle.hdt_terms.specs.Grammar.{Encodes}
+use Rattle.hdt_terms.specs.Split.{is_blank_string, prefix_label}
+use Rattle.hdt_terms.specs.Terms.{IsGrammarTerm}
+use Rattle.hdt_file.specs.Denoted.{StringTriple}
+use Rattle.hdt_build.specs.Documents.{is_blank_node, prefixed_triple}
 use Rattle.hdt_build.specs.Inside.Collecting.{collected_triples}
-use Rattle.hdt_build.specs.Reading.{most, HasDictionaryStrings}
-use Rattle.hdt_build.proofs.DocumentReading.{IsReadSoFar, at_end, either, run_begins, run_on, texts_more, no_texts}
+use Rattle.hdt_build.specs.Reading.{most, term_strings, HasDictionaryStrings}
+use Rattle.hdt_build.proofs.DocumentReading.{at_end, either, run_begins, run_on, texts_more}
 use Rattle.hdt_build.proofs.DocumentReading.{line_of, triple_size, converted_fault, not_read}
+use Rattle.hdt_build.proofs.PrefixedLabels.{blank_string, prefixed_string, prefixed_text, text_of}
+use Rattle.hdt_build.proofs.StringsOfIds.{same_strings}
 use Rattle.hdt_build.proofs.reading.read_triples.Goals as goal
 
 pub triples-init : goal.triples-init
 triples-init g c =
     record {
       failed = ap (λ s. s.failed) c.in_ok-lines.ensures;
-      sound = c.in_ok-collector.ensures.sound;
-      texts = subst HasDictionaryStrings (sym c.in_ok-collector.ensures.graph) no_texts;
-      run = run_begins c.in_ok-lines.lines _ (collected_triples c.in_ok-collector.collector) c.in_ok-lines.ensures
-          c.in_ok-collector.ensures.graph (c.triples_so_far.ensures.begins most _);
+      sound = c.requires.sound;
+      texts = c.requires.texts;
+      run = run_begins c.args.prefix.now c.in_ok-lines.lines _ (collected_triples c.args.collector)
+          c.in_ok-lines.ensures (c.triples_so_far.ensures.begins most _);
       count = refl;
     }
 
@@ -41,30 +47,50 @@ triples-preserved g c =
     let s = c.next_strings.new.s.items in
     let p = c.next_strings.new.p.items in
     let o = c.next_strings.new.o.items in
+    let prefix = c.args.prefix.now in
+    let triple = taken.0 in
     let graph = collected_triples c.triples.collector in
-    let more : collected_triples c.add.new.self ≡ graph ++ (s, p, o) ∷ [] =
+    let line = line_of _ _ c.triples.lines new triple taken.2 in
+    let grammar = λ (word : List ℕ) (term : Term) (spelled : Encodes word term).
+    c.text_encodes_one_term.ensures.grammar word term spelled in
+    let subject = grammar line.1.s triple.s line.1.subject.0 in
+    let predicate = grammar line.1.p triple.p line.1.predicate.0 in
+    let object = grammar line.1.o triple.o line.1.object in
+    let text = λ (term : Term) (h : IsGrammarTerm term). c.strings_are_texts.ensures.text term
+    (c.strings_are_texts.ensures.grammar term h) in
+    let added : StringTriple = term_strings (prefixed_triple prefix triple) in
+    let is : (let l : StringTriple = (prefix_label prefix s, p, prefix_label prefix o) in l ≡ added) =
+    same_strings _ _ _ _ _ _
+    (ap (prefix_label prefix) taken.1.s_is ∙ prefixed_string prefix triple.s subject) taken.1.p_is
+    (ap (prefix_label prefix) taken.1.o_is ∙ prefixed_string prefix triple.o object) in
+    let more : collected_triples c.add_prefixed.new.collector ≡ graph ++ added ∷ [] =
     rw (
-      c.as_slice.ensures.value,
-      c.as_slice-in-Ok-true.ensures.value,
-      c.as_slice-in-Ok-true-2.ensures.value,
-    ) at c.in_ok-add-in-Ok-true.ensures.graph in
-    let line = line_of _ _ c.triples.lines new taken.0 taken.2 in
-    let text = λ (word : List ℕ) (term : Term) (spelled : Encodes word term). c.strings_are_texts.ensures.text term
-    (c.strings_are_texts.ensures.grammar term (c.text_encodes_one_term.ensures.grammar word term spelled)) in
+      c.as_slice-s.ensures.value,
+      c.as_slice-p.ensures.value,
+      c.as_slice-o.ensures.value,
+    ) at c.in_ok-add_prefixed-in-Ok-true.ensures.graph ∙ (λ i. graph ++ is i ∷ []) in
+    let blank : c.has_blank_node-has_blank_nodes.result
+    ≡ (c.triples.has_blank_nodes || (is_blank_node triple.s || is_blank_node triple.o)) =
+    rw (c.as_slice-s.ensures.value, c.as_slice-o.ensures.value) at c.has_blank_node-has_blank_nodes.ensures
+    ∙ ap (λ (b : Bool). c.triples.has_blank_nodes || b)
+    (λ i. (ap is_blank_string taken.1.s_is ∙ blank_string triple.s subject) i
+    || (ap is_blank_string taken.1.o_is ∙ blank_string triple.o object) i) in
     record {
       failed = taken.2.2.failed ∙ inv.failed;
-      sound = c.in_ok-add-in-Ok-true.ensures.sound;
+      sound = c.in_ok-add_prefixed-in-Ok-true.ensures.sound;
       texts =
-          subst HasDictionaryStrings (sym more) (texts_more graph taken.0 s p o inv.texts taken.1
-          (text line.1.s taken.0.s line.1.subject.0) (text line.1.p taken.0.p line.1.predicate.0)
-          (text line.1.o taken.0.o line.1.object));
+          subst HasDictionaryStrings (sym more) (texts_more graph added inv.texts
+          (prefixed_text prefix triple.s c.requires.prefix subject (text triple.s subject))
+          (text_of _ (text triple.p predicate))
+          (prefixed_text prefix triple.o c.requires.prefix object (text triple.o object)));
       run =
-          subst (IsReadSoFar new _ _) (sym more)
-          (run_on c.triples.lines new _ _ _ graph taken.0 s p o inv.run going taken.1
-          (λ triples ran e. c.triples_so_far.ensures.goes_on most c.triples.lines new _ _ _ triples taken.0 ran taken.2
+          run_on prefix c.triples.lines new _ _ _ (collected_triples c.args.collector) graph
+          (collected_triples c.add_prefixed.new.collector) triple added c.triples.has_blank_nodes
+          c.has_blank_node-has_blank_nodes.result inv.run going more refl blank
+          (λ triples ran e. c.triples_so_far.ensures.goes_on most c.triples.lines new _ _ _ triples triple ran taken.2
           e)
-          (λ triples ran e. c.triples_so_far.ensures.last most c.triples.lines new _ _ _ triples taken.0 ran taken.2 e)
-          taken.2);
+          (λ triples ran e. c.triples_so_far.ensures.last most c.triples.lines new _ _ _ triples triple ran taken.2 e)
+          taken.2;
       count = read.count ∙ inv.count;
     }
 
@@ -72,12 +98,18 @@ pub returns-in-Ok-false-clause-found : goal.returns-in-Ok-false-clause-found
 returns-in-Ok-false-clause-found g c =
     let inv = c.triples.invariant in
     ⊎_elim
-    (λ end. record { triples = inv.run.triples; document = inv.run.ended end; strings = inv.run.strings })
+    (λ end. record {
+      triples = inv.run.triples;
+      document = inv.run.ended end;
+      strings = inv.run.strings;
+      blank = inv.run.blank_is;
+    })
     (λ going. record {
       triples = inv.run.triples;
       document = c.triples_so_far.ensures.rest most c.triples.lines c.next_strings.new.self _ _ _ inv.run.triples
           (inv.run.going going) (rw c.in-Ok-false.field-0-test at c.in-Ok-false.ensures.answers inv.failed going);
       strings = inv.run.strings;
+      blank = inv.run.blank_is;
     })
     (either c.triples.lines.ended)
 

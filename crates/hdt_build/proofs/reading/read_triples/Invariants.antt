@@ -11,8 +11,9 @@ invariant-triples g l = record {
   failed : l.lines.failed ≡ None;
   sound : IsValidCollector l.collector;
   texts : HasDictionaryStrings (collected_triples l.collector);
-  run : IsReadSoFar l.lines (g.R.Read.remaining (inner l.fn.input)) (left l.lines (g.R.Read.remaining (inner l.input)))
-      (collected_triples l.collector);
+  run : IsReadSoFar l.prefix l.lines (g.R.Read.remaining (inner l.fn.input))
+      (left l.lines (g.R.Read.remaining (inner l.input))) (collected_triples l.fn.collector)
+      (collected_triples l.collector) l.has_blank_nodes;
   count : failures l.input ≡ failures l.fn.input;
 }
 

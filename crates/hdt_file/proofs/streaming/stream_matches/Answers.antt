@@ -1,4 +1,4 @@
-use Rattle.std.proofs.Common.{◌≡◌, ◌∙◌, [], inr, sym}
+use Rattle.std.proofs.Common.{◌≡◌, ◌∙◌, [], inr}
 use Rattle.std.proofs.lemmas.Result.{err_from_is_err_and}
 use Rattle.hdt_file.specs.Graph.{layout_view}
 use Rattle.hdt_file.proofs.StreamingLaws.{not_short, short_cut, stopped_cut, stream_cut, stream_written}

@@ -7,6 +7,7 @@ use Rattle.hdt_file.proofs.term_flags.role_flags.Goals as goal
 pub returns : goal.returns
 returns c =
     let w = c.strings.strings in
-    all_flags c.args.role (role_strings (layout_view c.args.layout.now).dictionary c.args.role) w.ahead
+    rw c.shortened.ensures
+    (all_flags c.args.role (role_strings (layout_view c.args.layout.now).dictionary c.args.role) w.ahead
     c.strings.flags.items c.strings.invariant
-    (ended w w.ahead c.in_ok-_number.field-0 c.in_ok-_number.ensures.id (λ k. c.in_default.not-Some k))
+    (ended w w.ahead c.in_ok-_number.field-0 c.in_ok-_number.ensures.id (λ k. c.in_default.not-Some k)))

@@ -1,4 +1,4 @@
-use Rattle.std.proofs.Common.{◌≤◌, ◌∙◌, append-nil, length, sym, arith}
+use Rattle.std.proofs.Common.{◌≤◌, ◌∙◌, length, sym, arith}
 use Rattle.hdt_triples.specs.Remaining.{remaining_matches}
 use Rattle.hdt_file.specs.TermFlags.{is_writable}
 use Rattle.hdt_file.proofs.WritableLaws.{collected, limited_kept}

@@ -23,6 +23,7 @@ returns-in-Some-clause-ok c =
     (taken c.args.roles (app_of c.in_ok-command.command) words c.in_ok-command.ensures c.in-Ok.ensures.kinds) is
     c.invocation_or_explanation.ensures.ok c.invocation_or_explanation.ensures.progress
     c.invocation_or_explanation.ensures.verbose c.invocation_or_explanation.ensures.longest_line
+    c.invocation_or_explanation.ensures.header
 
 pub returns-in-Some-clause-refused : goal.returns-in-Some-clause-refused
 returns-in-Some-clause-refused c =

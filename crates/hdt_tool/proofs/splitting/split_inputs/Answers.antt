@@ -28,7 +28,7 @@ returns-in-Err-clause-stopped g c =
     read
     (alone mode c.inputs.first c.inputs.number _ before after fault
     (stops_at_fault mode c.inputs.number c.deref.result.now _ _ before after c.in-Err.fault
-    (c.deref.ensures.value ∙ c.in_ok-prefix.ensures) c.in-Err.ensures.stopped))))))
+    (c.deref.ensures.value ∙ c.in_ok-prefix.ensures.is) c.in-Err.ensures.stopped))))))
 
 pub returns-in_err-first-clause-stopped : goal.returns-in_err-first-clause-stopped
 returns-in_err-first-clause-stopped g c =
@@ -52,7 +52,7 @@ returns-in_err-first-clause-stopped g c =
     (mixed mode c.inputs.first c.inputs.number _ before after c.in-Ok.report fault
     (subst
     (λ (p : List ℕ). SplitsInput p (g.R.Read.remaining (inner c.new-input.result)) before after c.in-Ok.report)
-    (c.deref.ensures.value ∙ c.in_ok-prefix.ensures) c.in-Ok.ensures.ok)
+    (c.deref.ensures.value ∙ c.in_ok-prefix.ensures.is) c.in-Ok.ensures.ok)
     c.in_err-first.ensures.err.0 c.in_err-first.ensures.err.1))))))
 
 pub returns-in-Err-clause-write : goal.returns-in-Err-clause-write

@@ -5,30 +5,30 @@ use Rattle.hdt_file.proofs.term_flags.TermFlags.first_non_term.Goals as goal
 pub returns-then-not-term_flag-clause-first : goal.returns-then-not-term_flag-clause-first
 returns-then-not-term_flag-clause-first c = λ g h. (
   first_subject g c.args.self.now c.args.triple h
-      (rw c.deref.ensures.value at (sym c.term_flag.ensures ∙ c.if-not-term_flag.true)),
+      (sym c.term_flag.ensures ∙ c.if-not-term_flag.true),
   refl,
 )
 
 pub returns-then-not-term_flag-2-clause-first : goal.returns-then-not-term_flag-2-clause-first
 returns-then-not-term_flag-2-clause-first c = λ g h. (
   first_predicate g c.args.self.now c.args.triple h
-      (rw c.deref.ensures.value at (sym c.term_flag.ensures ∙ c.if-not-term_flag.false))
-      (rw c.deref-2.ensures.value at (sym c.term_flag-2.ensures ∙ c.if-not-term_flag-2.true)),
+      (sym c.term_flag.ensures ∙ c.if-not-term_flag.false)
+      (sym c.term_flag-2.ensures ∙ c.if-not-term_flag-2.true),
   refl,
 )
 
 pub returns-then-not-term_flag-3-clause-first : goal.returns-then-not-term_flag-3-clause-first
 returns-then-not-term_flag-3-clause-first c = λ g h. (
   first_object g c.args.self.now c.args.triple h
-      (rw c.deref.ensures.value at (sym c.term_flag.ensures ∙ c.if-not-term_flag.false))
-      (rw c.deref-2.ensures.value at (sym c.term_flag-2.ensures ∙ c.if-not-term_flag-2.false))
-      (rw c.deref-3.ensures.value at (sym c.term_flag-3.ensures ∙ c.if-not-term_flag-3.true)),
+      (sym c.term_flag.ensures ∙ c.if-not-term_flag.false)
+      (sym c.term_flag-2.ensures ∙ c.if-not-term_flag-2.false)
+      (sym c.term_flag-3.ensures ∙ c.if-not-term_flag-3.true),
   refl,
 )
 
 pub returns-clause-none : goal.returns-clause-none
 returns-clause-none c = λ g h is.
     each_is_term g c.args.self.now c.args.triple h
-    (rw c.deref.ensures.value at (sym c.term_flag.ensures ∙ c.if-not-term_flag.false))
-    (rw c.deref-2.ensures.value at (sym c.term_flag-2.ensures ∙ c.if-not-term_flag-2.false))
-    (rw c.deref-3.ensures.value at (sym c.term_flag-3.ensures ∙ c.if-not-term_flag-3.false))
+    (sym c.term_flag.ensures ∙ c.if-not-term_flag.false)
+    (sym c.term_flag-2.ensures ∙ c.if-not-term_flag-2.false)
+    (sym c.term_flag-3.ensures ∙ c.if-not-term_flag-3.false)

@@ -1,0 +1,39 @@
+-- Adding the triples of documents to those of a graph, with a prefix before the labels of their blank nodes.
+use Rattle.std.specs.Prelude.{◌≡◌, ◌||◌, ◌++◌, ℕ, Bool, true, false, List, map, Option}
+use Rattle.std.specs.List.{list_any}
+use Rattle.hdt_terms.specs.declared.triple.Term.{Term}
+use Rattle.hdt_terms.specs.declared.triple.Term.TheVariants.{Blank}
+use Rattle.hdt_terms.specs.declared.triple.Triple.{Triple}
+use Rattle.hdt_terms.specs.Documents.{IsDocumentInput}
+use Rattle.hdt_file.specs.Denoted.{StringTriple}
+use Rattle.hdt_build.specs.Reading.{most, term_strings}
+
+-- the term, with the prefix before its label if it is a blank node
+abbrev pub prefixed_term : List ℕ → Term → Term
+prefixed_term prefix (Blank label) = Blank (prefix ++ label)
+prefixed_term prefix term = term
+
+-- the triple, with the prefix before the labels of its blank nodes; a predicate is none
+abbrev pub prefixed_triple : List ℕ → Triple → Triple
+prefixed_triple prefix t = record t { s = prefixed_term prefix t.s; o = prefixed_term prefix t.o }
+
+abbrev pub is_blank_node : Term → Bool
+is_blank_node (Blank label) = true
+is_blank_node term = false
+
+-- whether one of the triples has a blank node
+abbrev pub have_blank_nodes : List Triple → Bool
+have_blank_nodes triples = list_any (λ (t : Triple). is_blank_node t.s || is_blank_node t.o) triples
+
+-- the triples as dictionary strings, with the prefix before the labels of their blank nodes
+abbrev pub prefixed_strings : List ℕ → List Triple → List StringTriple
+prefixed_strings prefix triples = map (λ (t : Triple). term_strings (prefixed_triple prefix t)) triples
+
+-- The input is a document. Its triples, with the prefix before the labels of their blank nodes, were added in input
+-- order, with duplicates; has_blank_nodes says whether it has blank nodes.
+pub record AddsDocument (prefix : List ℕ) (input : Option (List ℕ)) (before after : List StringTriple)
+    (has_blank_nodes : Bool) : Type 0 where
+  pub triples : List Triple
+  pub document : IsDocumentInput most input triples
+  pub strings : after ≡ before ++ prefixed_strings prefix triples
+  pub blank : has_blank_nodes ≡ have_blank_nodes triples

@@ -1,0 +1,43 @@
+//! The labels of blank nodes, in dictionary strings.
+ghost use Rattle.std.specs.Prelude.{◌≡◌, ◌||◌, IfOk};
+ghost use Rattle.hdt_terms.specs.Split.{is_blank_string, prefix_label};
+
+use std::alloc::{AllocError, Global};
+
+/// Whether this is the string of a blank node.
+fn is_blank(string: &[u8]) -> bool
+    ensures { result ≡ is_blank_string string.now }
+{
+    match string.split_first() {
+        None => false,
+        Some((first, _)) => *first == b'_',
+    }
+}
+
+/// Whether the subject or the object of a triple is a blank node, or one of an earlier triple was.
+pub(crate) fn has_blank_node(before: bool, s: &[u8], o: &[u8]) -> bool
+    ensures { result ≡ (before || (is_blank_string s.now || is_blank_string o.now)) }
+{
+    before || is_blank(s) || is_blank(o)
+}
+
+/// The string, with the prefix before its label if it is that of a blank node.
+pub(crate) fn with_prefix(
+    alloc: Global,
+    prefix: &[u8],
+    string: &[u8],
+) -> Result<Vec<u8>, AllocError>
+    ensures { IfOk result (λ made. made.items ≡ prefix_label prefix.now string.now) }
+{
+    let mut made = Vec::new(alloc);
+    match string {
+        [b'_', mark, label @ ..] => {
+            made.push(b'_')?;
+            made.push(*mark)?;
+            made.extend_from_slice(prefix)?;
+            made.extend_from_slice(label)?;
+        }
+        _ => made.extend_from_slice(string)?,
+    }
+    Ok(made)
+}

@@ -1,0 +1,148 @@
+"""The header of a file: N-Triples about its graph, by VoID and Dublin Core."""
+
+from __future__ import annotations
+
+import datetime
+import re
+from collections.abc import Callable, Iterable, Iterator, Mapping
+from contextlib import ExitStack
+from typing import Optional, Union
+
+from ._calls import Path
+from ._graph import Graph
+from ._terms import Term
+
+# A text, a date or a time, or a term.
+Value = Union[str, datetime.date, Term]
+# One value, or several.
+Values = Union[Value, Iterable[Value]]
+
+_RDF_TYPE = "http://www.w3.org/1999/02/22-rdf-syntax-ns#type"
+_HDT_DATASET = "http://purl.org/HDT/hdt#Dataset"
+_VOID = "http://rdfs.org/ns/void#"
+_DCTERMS = "http://purl.org/dc/terms/"
+_XSD = "http://www.w3.org/2001/XMLSchema#"
+_BASE = "http://example.org/dataset"
+_NAMED = re.compile(rf"<([^>]*)> <{re.escape(_RDF_TYPE)}> <{re.escape(_HDT_DATASET)}> \.")
+_IRI = re.compile(r"[A-Za-z][A-Za-z0-9+.-]*:[^\x00-\x20<>\"{}|^`\\]+")
+_DATE = re.compile(r"\d{4}-\d\d-\d\d")
+
+
+def _literal(value: str) -> Term:
+    """A text as a plain literal."""
+    return Term("literal", value)
+
+
+def _node(value: str) -> Term:
+    """A text that is an absolute IRI as an IRI, any other as a plain literal."""
+    return Term("iri", value) if _IRI.fullmatch(value) else _literal(value)
+
+
+def _day(value: str) -> Term:
+    """A text that is a date as xsd:date, any other as a plain literal."""
+    return Term("literal", value, datatype=_XSD + "date") if _DATE.fullmatch(value) else _literal(value)
+
+
+_PROPERTIES: dict[str, Callable[[str], Term]] = {
+    "title": _literal,
+    "description": _literal,
+    "license": _node,
+    "publisher": _node,
+    "creator": _node,
+    "source": _node,
+    "created": _day,
+    "modified": _day,
+}
+
+
+def _term(value: Value, of_text: Callable[[str], Term]) -> Term:
+    """A value as a term. Raises TypeError for another object, ValueError for a text that no literal has."""
+    if isinstance(value, Term):
+        return value
+    if isinstance(value, datetime.datetime):
+        return Term("literal", value.isoformat(), datatype=_XSD + "dateTime")
+    if isinstance(value, datetime.date):
+        return Term("literal", value.isoformat(), datatype=_XSD + "date")
+    if not isinstance(value, str):
+        raise TypeError(f"a str, a date or a Term is wanted, not {type(value).__name__}")
+    return of_text(value)
+
+
+def _each(values: Optional[Values]) -> Iterator[Value]:
+    if values is None:
+        return
+    if isinstance(values, (str, datetime.date, Term)):
+        yield values
+    else:
+        yield from values
+
+
+def _classes(graph: Graph) -> int:
+    """How many different objects the property rdf:type has."""
+    return len({number for _, _, number in graph.find_ids(p=_RDF_TYPE)})
+
+
+def _void(graph: Graph) -> Iterator[tuple[str, Term]]:
+    """VoID's numbers of a graph."""
+    numbers = {
+        "triples": len(graph),
+        "distinctSubjects": graph.count("subject"),
+        "properties": graph.count("predicate"),
+        "distinctObjects": graph.count("object"),
+        "classes": _classes(graph),
+    }
+    for name, number in numbers.items():
+        yield _VOID + name, Term("literal", str(number), datatype=_XSD + "integer")
+
+
+def _name_of(graph: Graph) -> str:
+    """The IRI that the header gives the graph."""
+    named = _NAMED.match(graph.header.decode("utf-8", "replace"))
+    return named[1] if named else _BASE
+
+
+def metadata(
+    graph: Union[Graph, Path],
+    *,
+    title: Optional[Values] = None,
+    description: Optional[Values] = None,
+    license: Optional[Values] = None,
+    publisher: Optional[Values] = None,
+    creator: Optional[Values] = None,
+    source: Optional[Values] = None,
+    created: Optional[Values] = None,
+    modified: Optional[Values] = None,
+    properties: Optional[Mapping[str, Values]] = None,
+    base: Optional[str] = None,
+) -> str:
+    """Describe a graph, or the file at a path: N-Triples for its header, which `rewrite` takes.
+
+    They name the graph (`base`; without it as in its header, if `build` made that, else http://example.org/dataset) as
+    an hdt:Dataset and a void:Dataset, with VoID's numbers: of triples, of different subjects, properties and objects,
+    and of classes, the objects of rdf:type. The first ones are those of the file's strings, so `rewrite` a file first
+    if it has strings that no triple uses. The time is that of `open` and linear in the triples with rdf:type.
+
+    The other arguments are properties of Dublin Core, each with a value or several. A value is a `Term`, a date or a
+    time, or a text. A text that is an absolute IRI is one for `license`, `publisher`, `creator` and `source`; for
+    `created` and `modified` 2026-11-29 is a date; other texts are plain literals. `properties` has more, by their IRIs;
+    their texts are literals.
+
+    Errors: `Fault` as of `open`, ValueError for texts that are no terms, TypeError, MemoryError, OSError.
+
+    >>> text = hdt.metadata("graph.hdt", title="Examples", license="https://creativecommons.org/publicdomain/zero/1.0/")
+    >>> hdt.rewrite("graph.hdt", "described.hdt", header=text).triples
+    3
+    >>> print(text.splitlines()[2])
+    <http://example.org/graph> <http://rdfs.org/ns/void#triples> "3"^^<http://www.w3.org/2001/XMLSchema#integer> .
+    """
+    given = locals()
+    with ExitStack() as kept:
+        opened = graph if isinstance(graph, Graph) else kept.enter_context(Graph._of_file(graph, None))
+        subject = Term("iri", _name_of(opened) if base is None else base)
+        pairs = [(_RDF_TYPE, Term("iri", _HDT_DATASET)), (_RDF_TYPE, Term("iri", _VOID + "Dataset")), *_void(opened)]
+    for name, of_text in _PROPERTIES.items():
+        pairs += [(_DCTERMS + name, _term(value, of_text)) for value in _each(given[name])]
+    for iri, values in (properties or {}).items():
+        pairs += [(iri, _term(value, _literal)) for value in _each(values)]
+    named = subject.format_ntriples()
+    return "".join(f"{named} {Term('iri', iri).format_ntriples()} {it.format_ntriples()} .\n" for iri, it in pairs)
