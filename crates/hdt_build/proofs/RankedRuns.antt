@@ -37,7 +37,8 @@ one_ranked xs ys ns h at x zs v lt is once long =
       ascend = p.ascend;
       each = λ k below. elim (cases_eq k at) as
           (λ _. (get_or (set ns at v) k 0 ≡ unranked) ⊎ IsAt zs (get_or xs k []) (get_or (set ns at v) k 0)) [
-            | inl same ↦ inr (rw (same, get_or-set_same ns at v 0 (omega (arith, lt, h.long))) (last.0, last.1 ∙ sym is))
+            | inl same ↦ inr
+                (rw (same, get_or-set_same ns at v 0 (omega (arith, lt, h.long))) (last.0, last.1 ∙ sym is))
             | inr apart ↦ rw (get_or-set_other ns at k v 0 apart) (elim (h.each k below) [
               | inl none ↦ inl none
               | inr old ↦ let new = p.kept (get_or ns k 0) old.0 in inr (new.0, new.1 ∙ old.1)

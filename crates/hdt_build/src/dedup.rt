@@ -12,8 +12,8 @@ use crate::string_sort::{sort_by_keys, sort_by_string};
 use hdt_dict::Arena;
 use std::alloc::{AllocError, Global};
 
-/// The strings of entries, if they are in ascending order, without duplicates; and for each index of the list, the index
-/// of its string among them. Else None.
+/// The strings of entries, if they are in ascending order, without duplicates; and for each index of the list, the
+/// index of its string among them. Else None.
 fn dedup_entries(
     alloc: Global,
     list: &Arena,
@@ -39,8 +39,8 @@ fn dedup_entries(
     Ok(Some((strings, ranks)))
 }
 
-/// Returns the strings of a list in ascending order without duplicates; and for each index of the list, the index of its
-/// string among them.
+/// Returns the strings of a list in ascending order without duplicates; and for each index of the list, the index of
+/// its string among them.
 pub(crate) fn dedup_strings(
     alloc: Global,
     list: &Arena,

@@ -22,8 +22,8 @@ pub(crate) struct EncodedGraph {
     pub(crate) triples: Vec<(u64, u64, u64)>,
 }
 
-/// Encodes a graph, whose triples are indices into ascending strings without duplicates, as four sections and ID triples.
-/// The triples are converted in place.
+/// Encodes a graph, whose triples are indices into ascending strings without duplicates, as four sections and ID
+/// triples. The triples are converted in place.
 pub(crate) fn encode_distinct(
     alloc: Global,
     strings: FrontCoded,
@@ -56,8 +56,8 @@ pub(crate) fn encode_distinct(
     Ok(EncodedGraph { sections, triples })
 }
 
-/// Encodes a graph, whose triples are indices into a list of strings, as four sections and ID triples. First the indices
-/// become ranks, so that the list is freed before the sections are written, which needs the most memory.
+/// Encodes a graph, whose triples are indices into a list of strings, as four sections and ID triples. First the
+/// indices become ranks, so that the list is freed before the sections are written.
 pub(crate) fn encode_graph(
     alloc: Global,
     list: Arena,

@@ -1,6 +1,6 @@
 //! A front-coded list of strings in memory.
-ghost use Rattle.std.specs.Prelude.{◌≡◌, ◌≤◌, ◌<◌, ◌+◌, ◌-◌, ◌++◌, ◌∷◌, [], ℕ, List, None, length, take, slice_index_or};
-ghost use Rattle.std.specs.Prelude.{IfOk, IfSome, OnOk};
+ghost use Rattle.std.specs.Prelude.{◌≡◌, ◌≤◌, ◌<◌, ◌+◌, ◌-◌, ◌++◌, ◌∷◌, [], ℕ, List, None, length, take};
+ghost use Rattle.std.specs.Prelude.{slice_index_or, IfOk, IfSome, OnOk};
 ghost use Rattle.hdt_front.specs.Order.{lcp_len};
 ghost use Rattle.hdt_front.specs.Section.{before};
 ghost use Rattle.hdt_build.specs.Inside.FrontCoding.{coded_strings, IsFrontCoding};

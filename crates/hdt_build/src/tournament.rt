@@ -1,4 +1,5 @@
-//! The least of the current strings of many runs. No proof depends on the order that this gives: the caller verifies it.
+//! The least of the current strings of many runs. No proof depends on the order that this gives: the caller verifies
+//! it.
 
 use crate::run_merging::RunCursor;
 use hdt_front::cmp_from;

@@ -9,4 +9,5 @@ returns-then-index-eq0 c =
     let zero : 0 ≡ get_or s.kept.items c.args.at 0 =
     subst (λ (k : ℕ). k ≡ get_or s.kept.items c.args.at k) c.if-index-eq0.true c.index.ensures in
     c.get.ensures
-    ∙ decoded_is s.kept.items s.rests c.args.self.now c.args.at 0 [] c.self.invariant.long c.self.view_is there zero refl
+    ∙ decoded_is s.kept.items s.rests c.args.self.now c.args.at 0 [] c.self.invariant.long c.self.view_is there zero
+    refl
