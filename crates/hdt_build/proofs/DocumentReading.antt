@@ -17,7 +17,8 @@ use Rattle.hdt_terms.specs.Lines.{EncodesTriple}
 use Rattle.hdt_terms.specs.LinesReader.{LinesState, TakesTriple, start, left}
 use Rattle.hdt_file.specs.Denoted.{StringTriple}
 use Rattle.hdt_build.specs.Graph.{subjects_of, predicates_of, objects_of}
-use Rattle.hdt_build.specs.Documents.{AddsDocument, have_blank_nodes, is_blank_node, prefixed_strings, prefixed_triple}
+use Rattle.hdt_build.specs.Documents.{AddsDocument, is_blank_node, prefixed_strings, prefixed_triple}
+use Rattle.hdt_build.specs.Documents.{triples_have_blank_nodes}
 use Rattle.hdt_build.specs.Reading.{most, term_strings, IsInputGraph, HasDictionaryStrings, IsConvertedTo, ReadFailed}
 use Rattle.hdt_build.specs.Reading.{IsBuildFaultOf}
 use Rattle.hdt_build.proofs.PrefixedLabels.{unprefixed}
@@ -31,7 +32,7 @@ pub record IsReadSoFar (prefix : List ℕ) (s : LinesState) (input mid : Option 
     (before graph : List StringTriple) (blank : Bool) : Type 0 where
   pub triples : List Triple
   pub strings : graph ≡ before ++ prefixed_strings prefix triples
-  pub blank_is : blank ≡ have_blank_nodes triples
+  pub blank_is : blank ≡ triples_have_blank_nodes triples
   pub going : s.ended ≡ false → TriplesSoFar most s input mid triples
   pub ended : s.ended ≡ true → IsDocumentInput most input triples
   pub end : s.ended ≡ true → (s.buffered ≡ []) × IsAtEnd mid
@@ -50,13 +51,13 @@ or_false : (b : Bool) → (b || false) ≡ b
 or_false true = refl
 or_false false = refl
 
-blank_more : (triples : List Triple) (triple : Triple) (old new : Bool) → old ≡ have_blank_nodes triples
+blank_more : (triples : List Triple) (triple : Triple) (old new : Bool) → old ≡ triples_have_blank_nodes triples
     → new ≡ (old || (is_blank_node triple.s || is_blank_node triple.o))
-    → new ≡ have_blank_nodes (triples ++ triple ∷ [])
+    → new ≡ triples_have_blank_nodes (triples ++ triple ∷ [])
 blank_more triples triple old new is one =
     let test : Triple → Bool = λ t. is_blank_node t.s || is_blank_node t.o in
     one ∙ (ap (λ (b : Bool). b || test triple) is
-    ∙ (ap (λ (b : Bool). have_blank_nodes triples || b) (sym (or_false (test triple)))
+    ∙ (ap (λ (b : Bool). triples_have_blank_nodes triples || b) (sym (or_false (test triple)))
     ∙ sym (list_any-append test triples (triple ∷ []))))
 
 -- nothing is left after a last line without a line end

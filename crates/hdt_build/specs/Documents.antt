@@ -22,8 +22,8 @@ is_blank_node (Blank label) = true
 is_blank_node term = false
 
 -- whether one of the triples has a blank node
-abbrev pub have_blank_nodes : List Triple → Bool
-have_blank_nodes triples = list_any (λ (t : Triple). is_blank_node t.s || is_blank_node t.o) triples
+abbrev pub triples_have_blank_nodes : List Triple → Bool
+triples_have_blank_nodes triples = list_any (λ (t : Triple). is_blank_node t.s || is_blank_node t.o) triples
 
 -- the triples as dictionary strings, with the prefix before the labels of their blank nodes
 abbrev pub prefixed_strings : List ℕ → List Triple → List StringTriple
@@ -36,4 +36,4 @@ pub record AddsDocument (prefix : List ℕ) (input : Option (List ℕ)) (before 
   pub triples : List Triple
   pub document : IsDocumentInput most input triples
   pub strings : after ≡ before ++ prefixed_strings prefix triples
-  pub blank : has_blank_nodes ≡ have_blank_nodes triples
+  pub blank : has_blank_nodes ≡ triples_have_blank_nodes triples

@@ -2,7 +2,7 @@
 use Rattle.std.specs.Prelude.{◌≡◌, ◌≢◌, ◌+◌, ◌⊎◌, ℕ, Bool, true, List, [], ◌∷◌, Option}
 use Rattle.hdt_build.specs.declared.fault.BuildFault.{BuildFault}
 use Rattle.hdt_build.specs.declared.fault.BuildFault.TheVariants as building
-use Rattle.hdt_build.specs.Documents.{AddsDocument, have_blank_nodes}
+use Rattle.hdt_build.specs.Documents.{AddsDocument, triples_have_blank_nodes}
 use Rattle.hdt_build.specs.Reading.{most}
 use Rattle.hdt_file.specs.Denoted.{StringTriple}
 use Rattle.hdt_terms.specs.Documents.{FaultInDocument, IsDocumentInput}
@@ -36,7 +36,7 @@ IsFaultOfDocumentAt mode first n input (stop.Input k (splitting.Line fault)) = (
 IsFaultOfDocumentAt mode first n input (stop.Input k splitting.OutOfMemory) = k ≡ n
 IsFaultOfDocumentAt mode first n input (stop.Input k (splitting.Write part)) = ⊥
 IsFaultOfDocumentAt mode first n input (stop.BlankNodes k m) = IsBlankNodesFault mode first n (stop.BlankNodes k m)
-    × ((triples : List Triple) × IsDocumentInput most input triples × (have_blank_nodes triples ≡ true))
+    × ((triples : List Triple) × IsDocumentInput most input triples × (triples_have_blank_nodes triples ≡ true))
 IsFaultOfDocumentAt mode first n input stop.OutOfMemory = Unit {0}
 
 -- The error is that of one of the inputs, and those before it are documents.
