@@ -73,9 +73,17 @@ def described(text: str) -> list[tuple[str, str, str]]:
 def test_metadata(tmp_path: Path) -> None:
     """The graph is named as in its header, with VoID's numbers and what is given, term by term."""
     day = datetime.date(2026, 11, 29)
-    text = hdt.metadata(THREE, title="A \"title\"\n", license="https://a/l", publisher=["Tea", "http://t/"],
-                        created=day, modified="2026-11-30", creator=hdt.Term("literal", "x", language="en"), source="not an IRI",
-                        properties={"u:more": ["1", hdt.Term("iri", "u:x")]})
+    text = hdt.metadata(
+        THREE,
+        title='A "title"\n',
+        license="https://a/l",
+        publisher=["Tea", "http://t/"],
+        created=day,
+        modified="2026-11-30",
+        creator=hdt.Term("literal", "x", language="en"),
+        source="not an IRI",
+        properties={"u:more": ["1", hdt.Term("iri", "u:x")]},
+    )
     triples = described(text)
     assert {subject for subject, _, _ in triples} == {"<http://a/>"}
     found = [(p.replace(TERMS, "dc ").replace(VOID, "void "), o) for _, p, o in triples[2:]]
