@@ -55,7 +55,7 @@ def test_errors(tmp_path: Path) -> None:
         hdt.rewrite(THREE, out, 0)
     for header in (1, object(), ["a"]):
         with pytest.raises(TypeError):
-            hdt.rewrite(THREE, out, header=header)
+            hdt.rewrite(THREE, out, header=header)  # type: ignore[arg-type]
     with pytest.raises(OSError):
         hdt.rewrite(tmp_path / "none.hdt", out, header=TITLE)
     with mock.patch.object(library, "hdt_with_header", lambda *_: setattr(_[5], "reason", 255)):

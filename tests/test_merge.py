@@ -94,11 +94,12 @@ def test_long_prefixes(tmp_path: Path) -> None:
     lines = [[b"<u:%s%06d> <u:p> <u:o> .\n" % (b"x" * 6_000, 2 * it + part) for it in range(6_000)]
              for part in range(2)]
     whole, *parts = [tmp_path / f"{number}.hdt" for number in range(3)]
-    for path, text in zip([whole, *parts], [lines[0] + lines[1], *lines]):
+    documents = [lines[0] + lines[1], lines[0], lines[1]]
+    for path, text in zip([whole, *parts], documents):
         (tmp_path / "in.nt").write_bytes(b"".join(text))
         assert hdt("build", "--block-size", "65535", tmp_path / "in.nt", path).status == 0
     limited = ["prlimit", f"--as={48 << 20}:{48 << 20}", "--", PROGRAM]
-    assert run([*limited, "merge", "--block-size", "65535", *parts, tmp_path / "out.hdt"]).status == 0
+    assert run([*map(str, limited), "merge", "--block-size", "65535", *parts, tmp_path / "out.hdt"]).status == 0
     assert (tmp_path / "out.hdt").read_bytes() == whole.read_bytes()
 
 

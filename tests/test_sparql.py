@@ -453,7 +453,7 @@ def test_wrong_commands(tmp_path: Path) -> None:
     for limit in ("processes", "timeout", "memory", "max_rows", "query_limit"):
         for value in (0, 10**9 + 1):
             with pytest.raises(ValueError, match=limit):
-                sparql.Config(**{limit: value})
+                sparql.Config(**{limit: value})  # type: ignore[arg-type]
 
 
 def test_as_a_command() -> None:
