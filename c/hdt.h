@@ -331,8 +331,8 @@ void hdt_rewrite(const uint8_t *bytes, size_t len, uint32_t block_size, hdt_byte
 
 /* Replaces the header of a file by N-Triples about the graph, as they are: a title, a licence. All other bytes stay, but the header's
  * length and the CRC over it: nothing is encoded again. The header may be empty. With HDT_DONE in both the verdict and the report, out
- * has the new file, and both have its counts; else out has nothing. The verdict is that of hdt_verify. If it is HDT_DONE, the report
- * has the first error of the header, by line and column, as hdt_build reports it. HDT_OUT_OF_MEMORY is in both. Linear time; memory
+ * has the new file, and both have its counts; else out has nothing. The verdict has the reason and the place of hdt_verify. If it is
+ * HDT_DONE, the report has the first error of the header, by line and column, as hdt_build reports it. HDT_OUT_OF_MEMORY is in both. Linear time; memory
  * of the new file, and that of hdt_build for the triples of the header, which is freed. */
 void hdt_with_header(const uint8_t *bytes, size_t len, const uint8_t *header, size_t header_len, hdt_bytes *out,
                      hdt_verdict *verdict, hdt_report *report);
