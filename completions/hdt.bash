@@ -21,7 +21,7 @@ _hdt() {
     fi
     # The options of the command, and how each of its arguments is completed.
     case ${words[1]} in
-    head) options="--verbose --no-progress --help" arguments=".hdt" ;;
+    head) options="--verbose --no-progress --body --help" arguments=".hdt" ;;
     verify) options="--verbose --no-progress --tight --terms --progress --help" arguments=".hdt" ;;
     info) options="--verbose --no-progress --json --help" arguments=".hdt" ;;
     strings) options="--verbose --no-progress --prefix --terms --help" arguments=".hdt subject|predicate|object" ;;
@@ -32,7 +32,7 @@ _hdt() {
     dump) options="--verbose --no-progress --skip-non-terms --help" arguments=".hdt" ;;
     count) options="--verbose --no-progress --top --raw --help" arguments=".hdt subject|predicate|object" ;;
     build) options="--verbose --no-progress --base --block-size --blank-nodes --longest-line --progress --help" arguments=".nt .nt" ;;
-    rewrite) options="--verbose --no-progress --block-size --progress --help" arguments=".hdt .hdt" ;;
+    rewrite) options="--verbose --no-progress --block-size --header --progress --help" arguments=".hdt .hdt" ;;
     merge) options="--verbose --no-progress --base --block-size --progress --help" arguments=".hdt .hdt" ;;
     lint) options="--keep --most --longest-line --verbose --help" arguments=".nt" ;;
     split) options="--parts --of --blank-nodes --longest-line --verbose --help" arguments=".nt .nt" ;;
@@ -42,7 +42,7 @@ _hdt() {
     for i in "${words[@]:2}"; do
         case $skip$i in
         =*) skip="" ;;
-        --prefix | --most | --longest-request | --top | --base | --block-size | --blank-nodes | --longest-line | --parts | --of) skip="=" ;;
+        --prefix | --most | --longest-request | --top | --base | --block-size | --blank-nodes | --longest-line | --header | --parts | --of) skip="=" ;;
         -?*) ;;
         *) count=$((count + 1)) ;;
         esac

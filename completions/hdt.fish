@@ -10,7 +10,7 @@ function __hdt_argument --argument-names command number
         switch "$skip$word"
             case '=*'
                 set skip
-            case --prefix --most --longest-request --top --base --block-size --blank-nodes --longest-line --parts --of
+            case --prefix --most --longest-request --top --base --block-size --blank-nodes --longest-line --header --parts --of
                 set skip =
             case '-?*'
             case '*'
@@ -46,6 +46,7 @@ complete -c hdt -n '__hdt_command' -l help -s h -d 'Print help'
 complete -c hdt -n '__hdt_command' -l version -s V -d 'Print version'
 complete -c hdt -n '__hdt_command head' -l verbose -d 'Print more lines after an error message'
 complete -c hdt -n '__hdt_command head' -l no-progress -d 'Show no progress on a terminal'
+complete -c hdt -n '__hdt_command head' -l body -d 'Print only the header'
 complete -c hdt -n '__hdt_command head' -l help -s h -d 'Print help'
 complete -c hdt -n '__hdt_argument head 1' -k -a '(__fish_complete_suffix .hdt)'
 complete -c hdt -n '__hdt_command verify' -l verbose -d 'Print more lines after an error message'
@@ -123,6 +124,7 @@ complete -c hdt -n '__hdt_argument build 2' -k -a '(__fish_complete_suffix .nt)'
 complete -c hdt -n '__hdt_command rewrite' -l verbose -d 'Print more lines after an error message'
 complete -c hdt -n '__hdt_command rewrite' -l no-progress -d 'Show no progress on a terminal'
 complete -c hdt -n '__hdt_command rewrite' -l block-size -x -d 'Strings per dictionary block, 1 to 65535'
+complete -c hdt -n '__hdt_command rewrite' -l header -x -d 'Replace only the header, by the N-Triples of FILE'
 complete -c hdt -n '__hdt_command rewrite' -l progress -d 'Report the bytes read in lines on standard error'
 complete -c hdt -n '__hdt_command rewrite' -l help -s h -d 'Print help'
 complete -c hdt -n '__hdt_argument rewrite 1' -k -a '(__fish_complete_suffix .hdt)'

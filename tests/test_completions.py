@@ -79,7 +79,7 @@ OFFERED: dict[str, list[str]] = {
         "--verbose",
     ],
     "hdt string x.hdt o": ["object"],
-    "hdt build --b": ["--base", "--block-size"],
+    "hdt build --b": ["--base", "--blank-nodes", "--block-size"],
     "hdt rewrite --p": ["--progress"],
     "hdt merge --": ["--base", "--block-size", "--help", "--no-progress", "--progress", "--verbose"],
     "hdt dump ": ["build", "graph.hdt", "my graph.hdt", "sub"],

@@ -22,7 +22,8 @@ TERMS, VOID, XSD = "http://purl.org/dc/terms/", "http://rdfs.org/ns/void#", "htt
 
 
 @pytest.mark.parametrize(
-    "header", [TITLE, TITLE.encode(), "", b"", "# none", memoryview(TITLE.encode()), TITLE * 5_000])
+    "header", [TITLE, TITLE.encode(), "", b"", "# none", memoryview(TITLE.encode()), TITLE * 5_000],
+    ids=["text", "bytes", "no text", "no bytes", "comment", "view", "long"])
 def test_rewrite(tmp_path: Path, header: Any) -> None:
     """The same file as by the command; the graph has the header, and the triples stay."""
     text = header.encode() if isinstance(header, str) else bytes(header)
