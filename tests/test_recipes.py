@@ -24,7 +24,7 @@ PIPED = re.compile(rf"[^\n]+ \| {BUILD}- (?P<new>\S+)(?: --\S+ \S+)* && mv (?P=n
 IN_TWO_STEPS = re.compile(rf"[^\n]+ > (?P<document>\S+) [^\n]*&& {BUILD}(?P=document) (?P<out>\S+)")
 FIRST_COMMAND = re.compile(r"\(?((?:'[^']*'|[^'|&>])+?) *(?=[|&>])")
 # At least so many recipes are in the documents.
-RECIPES = 10
+RECIPES = 9
 # These examples show what `build` refuses.
 WITHOUT_RECIPES = "docs/ERRORS.md"
 # Lines whose subjects are in part 3 of 8, which one recipe builds.

@@ -133,7 +133,7 @@ def metadata(
     >>> hdt.rewrite("graph.hdt", "described.hdt", header=text).triples
     3
     >>> print(text.splitlines()[2])
-    <http://example.org/graph> <http://rdfs.org/ns/void#triples> "3"^^<http://www.w3.org/2001/XMLSchema#integer> .
+    <http://a/> <http://rdfs.org/ns/void#triples> "3"^^<http://www.w3.org/2001/XMLSchema#integer> .
     """
     given = locals()
     with ExitStack() as kept:
