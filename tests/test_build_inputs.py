@@ -207,3 +207,27 @@ def test_memory(tmp_path: Path) -> None:
     assert ample.status == 0
     assert {it.status for it in ends} <= {0, 4}
     assert sum(it.status == 4 for it in ends) > 20
+
+
+def test_many_lines(tmp_path: Path) -> None:
+    """Documents of 110,000 and 90,000 lines, one with a string of 200,000 bytes, from files and a pipe."""
+    first = b"".join(b"<s:%06d> <u:p> <u:o> .\n" % it for it in range(110_000))
+    nodes = [b"_:b%06d <u:p> \"%d\" .\n" % (it, it) for it in range(90_000)]
+    second = b"".join([*nodes[:70_000], b'_:long <u:p> "' + b"x" * 200_000 + b'" .\n', *nodes[70_000:]])
+    one, other, whole = write(tmp_path, [first, second, first + second])
+    out, wanted = tmp_path / "out.hdt", tmp_path / "wanted.hdt"
+    assert hdt("build", whole, wanted).status == 0
+    commands: list[list[Word]] = [["build", one, other, out], ["build", one, "-", out], ["build", "-", one, out]]
+    for words in commands:
+        out.unlink(missing_ok=True)
+        assert hdt(*words, stdin=second).status == 0
+        assert out.read_bytes() == wanted.read_bytes()
+    whole.write_bytes(first + second.replace(b"_:", b"_:f1_"))
+    assert hdt("build", whole, wanted).status == 0
+    assert hdt("build", "--blank-nodes", "apart", one, other, out).status == 0
+    assert out.read_bytes() == wanted.read_bytes()
+    other.write_bytes(second + b"<u:a> <u:p> .\n")
+    before = out.read_bytes()
+    result = hdt("build", one, other, out)
+    assert (result.status, result.err.startswith(b"hdt: %s: line 90002 column " % os.fsencode(other))) == (1, True)
+    assert out.read_bytes() == before
