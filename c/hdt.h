@@ -344,9 +344,10 @@ void hdt_with_header(const uint8_t *bytes, size_t len, const uint8_t *header, si
  * With HDT_DONE out has the file, and the report its counts; else out has nothing. HDT_IS_CLOSED if a handle isn't open,
  * before anything is merged; HDT_NO_TRIPLES only if `count` is 0; HDT_BAD_OPTIONS, which is found last;
  * HDT_OUT_OF_MEMORY. The graphs stay as they are. Time is linear in the graphs, with their strings decoded, except for
- * sorting. Memory: the distinct strings, decoded, with some 50 bytes each; 24 bytes for each triple of each graph; 8
- * bytes for each string of one graph at a time; and the file. All of it is freed but out. The strings of a hostile file
- * of n bytes can take up to n * n / 4 bytes: limit the memory of the process for files of strangers. */
+ * sorting; the strings of a hostile file of n bytes can have up to n * n / 4. Memory is linear in the graphs: the strings
+ * of each, front-coded, with 24 bytes each, and once more the distinct ones; 5 to 9 bytes for each triple of each graph,
+ * and as much for sorting, with 24 MB; 8 bytes for each string of one graph at a time; and the file. All of it is freed
+ * but out. */
 void hdt_merge(hdt_graph *graphs, size_t count, const uint8_t *base, size_t base_len, uint32_t block_size, hdt_bytes *out,
                hdt_report *report);
 

@@ -1,4 +1,4 @@
-# Completes the words of hdt in bash. Made by tools/completions.py from the program's help.
+# Completes the words of hdt in bash. tools/completions.py makes what is between "of the help" and "end".
 _hdt() {
     local word=${COMP_WORDS[COMP_CWORD]} line=$COMP_LINE count=0 skip="" i
     local -a words=()
@@ -11,16 +11,20 @@ _hdt() {
         fi
         line=${line#*"${COMP_WORDS[i]}"}
     done
-    local current=${words[-1]} options="" arguments=""
+    local current=${words[-1]} commands options="" arguments=""
+    # of the help:
+    commands="head verify info strings string number find answer dump count build rewrite merge lint split explain help --help --version"
+    # end
     unset 'words[-1]'
     compopt +o default
     COMPREPLY=()
     if ((${#words[@]} == 1)); then
-        mapfile -t COMPREPLY < <(compgen -W "head verify info strings string number find answer dump count build rewrite merge lint split explain help --help --version" -- "$word")
+        mapfile -t COMPREPLY < <(compgen -W "$commands" -- "$word")
         return
     fi
     # The options of the command, and how each of its arguments is completed.
     case ${words[1]} in
+    # of the help:
     head) options="--verbose --no-progress --body --help" arguments=".hdt" ;;
     verify) options="--verbose --no-progress --tight --terms --progress --help" arguments=".hdt" ;;
     info) options="--verbose --no-progress --json --help" arguments=".hdt" ;;
@@ -38,11 +42,14 @@ _hdt() {
     split) options="--parts --of --blank-nodes --longest-line --verbose --help" arguments=".nt .nt" ;;
     explain) options="--help" arguments="|" ;;
     help) options="" arguments="head|verify|info|strings|string|number|find|answer|dump|count|build|rewrite|merge|lint|split|explain|help" ;;
+    # end
     esac
     for i in "${words[@]:2}"; do
         case $skip$i in
         =*) skip="" ;;
+        # of the help:
         --prefix | --most | --longest-request | --top | --base | --block-size | --blank-nodes | --longest-line | --header | --parts | --of) skip="=" ;;
+        # end
         -?*) ;;
         *) count=$((count + 1)) ;;
         esac

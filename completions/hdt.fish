@@ -1,4 +1,4 @@
-# Completes the words of hdt in fish. Made by tools/completions.py from the program's help.
+# Completes the words of hdt in fish. tools/completions.py makes what is between "of the help" and "end".
 # Whether the next word is this argument, from 1, of this command.
 function __hdt_argument --argument-names command number
     set -l words (commandline -opc)
@@ -10,7 +10,9 @@ function __hdt_argument --argument-names command number
         switch "$skip$word"
             case '=*'
                 set skip
+            # of the help:
             case --prefix --most --longest-request --top --base --block-size --blank-nodes --longest-line --header --parts --of
+            # end
                 set skip =
             case '-?*'
             case '*'
@@ -25,6 +27,7 @@ function __hdt_command
     test "$words[2]" = "$argv"
 end
 complete -c hdt -f
+# of the help:
 complete -c hdt -n '__hdt_command' -a head -d 'Print a file\'s head: formats, properties and header'
 complete -c hdt -n '__hdt_command' -a verify -d 'Verify a file, and count its triples and strings'
 complete -c hdt -n '__hdt_command' -a info -d 'Print the sizes of the parts of a file'
@@ -153,3 +156,4 @@ complete -c hdt -n '__hdt_argument split 1' -k -a '(__fish_complete_suffix .nt)'
 complete -c hdt -n '__hdt_argument split 2' -k -a '(__fish_complete_suffix .nt)'
 complete -c hdt -n '__hdt_command explain' -l help -s h -d 'Print help'
 complete -c hdt -n '__hdt_argument help 1' -k -a 'head verify info strings string number find answer dump count build rewrite merge lint split explain help'
+# end

@@ -228,13 +228,25 @@ def test_help(words: tuple[str, ...], begin: bytes) -> None:
 @pytest.mark.parametrize("words", VERSION, ids=map(" ".join, VERSION))
 def test_version(words: tuple[str, ...]) -> None:
     """The version goes to standard output."""
-    assert hdt(*words) == done(b"hdt 1.0.0\n")
+    assert hdt(*words) == done(b"hdt 1.1.0\n")
 
 
 @pytest.mark.parametrize("words", [*HELP, *VERSION], ids=map(" ".join, [*HELP, *VERSION]))
 def test_help_into_a_full_disk(words: tuple[str, ...]) -> None:
     """Help that cannot be written is a failed write."""
     assert hdt_into("/dev/full", *words) == failed(3, "writing failed")
+
+
+@pytest.mark.parametrize("command", ["build", "find", "lint", "merge"])
+def test_examples_in_help(command: str, tmp_path: Path) -> None:
+    """The help ends with examples: what is typed after `$` prints the lines that follow, one command after another."""
+    text = hdt("help", command).out.decode().partition("\nExamples")[2]
+    examples = re.findall(r"^  \$ (.*)\n((?:  [^$].*\n)*)", text, re.M)
+    assert len(re.findall(rf"\bhdt {command} ", text)) == 2
+    for typed, printed in examples:
+        shell: list[Word] = ["sh", "-c", f"{{ {typed}\n}} 2>&1"]
+        out = run(shell, cwd=tmp_path, env={"PATH": f"{PROGRAM.parent}:{os.environ['PATH']}"}).out.decode()
+        assert (typed, out) == (typed, re.sub(r"^  ", "", printed, flags=re.M))
 
 
 STATUSES = """Exit status:
@@ -316,6 +328,10 @@ USAGES: list[tuple[list[Word], bytes]] = [
     (["merge"], LACKS + b"<FILE>\n\nUsage: hdt merge [OPTIONS] <FILE>... <OUT>"),
     (["vierge", "a.hdt"],
      b"unrecognized subcommand 'vierge'\n\n  tip: a similar subcommand exists: 'merge'\n\nUsage: hdt <COMMAND>"),
+    (["hdtSearch", "a.hdt"],
+     b"unrecognized subcommand 'hdtSearch'\n\n  tip: the command here is 'hdt find FILE S P O'\n\n"
+     b"Usage: hdt <COMMAND>"),
+    (["help", "rdf2hdt"], b"unrecognized subcommand 'rdf2hdt'\n\nUsage: hdt <COMMAND>"),
     (["head", "a.hdt", "b.hdt"], b"unexpected argument 'b.hdt' found\n\nUsage: hdt head [OPTIONS] <FILE>"),
     ([], b"'hdt' requires a subcommand but one was not provided\n  [subcommands: head, verify, info, strings, string, "
          b"number, find, answer, dump, count, build, rewrite, merge, lint, split, explain, help]\n\n"

@@ -1,8 +1,7 @@
 """The documents: programs and commands run as they are written, links lead somewhere, words are spelled as in English.
 
 The blocks of docs/JAVA.md are run by test_java, those in Rust of docs/RUST.md and docs/SERVERS.md by test_rust and
-test_servers, those of docs/RATTLE.md compared by `tools.promises`, and the servers of README and docs/PUBLISH.md run by
-test_fragments_servers.
+test_servers, and the servers of README and docs/PUBLISH.md by test_fragments_servers.
 """
 
 from __future__ import annotations
@@ -22,24 +21,24 @@ from support.code_blocks import Block, blocks, documents, man_page_examples
 from support.program import Word, run
 from support.python_package import ENVIRONMENT
 from support.tools import tool
-from tools import anatomy, contracts, promises
+from tools import contracts, definitions
 
 # The blocks that each document has, by language: a document with fewer fails, so that none is silently left untested.
 BLOCKS = {
     "CONTRIBUTING.md": {"sh": 1},
     "README.md": {"c": 1, "python": 1, "sh": 3, "text": 1},
-    "docs/AUDIT.md": {"python": 1, "sh": 1},
+    "crates/example/README.md": {"rust": 5, "text": 3},
+    "docs/AUDIT.md": {"python": 1, "sh": 2},
     "docs/C.md": {"c": 1, "sh": 1},
-    "docs/GUIDE.md": {"python": 2, "sh": 6, "text": 4},
+    "docs/GUIDE.md": {"sh": 6, "text": 4},
     "docs/JAVA.md": {"java": 1, "text": 2, "turtle": 1},
     "docs/MIGRATE.md": {"python": 2, "sh": 1},
-    "docs/PROBES.md": {"sh": 1},
-    "docs/PUBLISH.md": {"sh": 2, "text": 7},
-    "docs/PYTHON.md": {"python": 8},
-    "docs/RATTLE.md": {"rust": 5, "text": 3},
+    "docs/PUBLISH.md": {"sh": 2, "text": 8},
+    "docs/PYTHON.md": {"python": 9},
     "docs/RUST.md": {"rs": 1, "toml": 1},
     "docs/SERVERS.md": {"python": 1, "rs": 1},
     "docs/SIZING.md": {"text": 1},
+    "tests/PROBES.md": {"sh": 1},
 }
 # At least so many commands do the documents have in their text, besides these blocks.
 COMMANDS = 54
@@ -58,6 +57,8 @@ PRINTED = {
     "./hdt build samples/three.nt graph.hdt": "built 3 2 0 2 1 491",
     "./hdt verify graph.hdt": "ok 3 2 0 2 1",
     "./hdt find graph.hdt --count '?' '?' '\"x\"'": "1",
+    "python3 -c 'from reference import hdt; print(*hdt.read_file(open(\"samples/three.hdt\", \"rb\").read()).counts)'":
+        "3 2 0 2 1",
 }
 # A name that a reader gives to a program of a document, and a graph of the reader's.
 PROGRAM_NAMES = {"c": "first.c", "python": "first.py"}
@@ -94,6 +95,11 @@ def environment(folder: Path) -> dict[str, str]:
 def test_readme_is_short() -> None:
     """README has at most 9 KiB."""
     assert len((TOP / "README.md").read_bytes()) <= 9 * 1024
+
+
+def test_documents_are_short() -> None:
+    """The documents in docs/ have at most 130 KiB together."""
+    assert sum(path.stat().st_size for path in (TOP / "docs").glob("*.md")) <= 130 * 1024
 
 
 # ---- blocks
@@ -250,8 +256,10 @@ def test_examples_of_the_man_page(clone: Path) -> None:
     text = man_page_examples()
     assert text.count("\n") >= 4
     (clone / "dirty.nt").write_bytes(GRAPH)
+    (clone / "more.hdt").write_bytes((TOP / "samples/three.hdt").read_bytes())
     status, out = shell(f"PATH={clone}:$PATH\n{text}", clone)
-    assert (status, out.splitlines()[2:]) == (0, ["ok 2 0 2 1 2", GRAPH.decode().splitlines()[0], "1", ""])
+    found = [it for it in out.splitlines()[2:] if not it.startswith("merged 5 ")]
+    assert (status, found) == (0, ["ok 2 0 2 1 2", GRAPH.decode().splitlines()[0], "1", ""])
 
 
 # ---- commands in the text
@@ -286,12 +294,6 @@ def test_commands_exist(command: str) -> None:
 def test_how_many_commands() -> None:
     """The documents have at least as many commands in their text as they had."""
     assert len(commands_in_text()) >= COMMANDS
-
-
-def test_picture_of_the_format() -> None:
-    """The picture of docs/FORMAT.md is the one that `tools.anatomy` draws."""
-    assert anatomy.PICTURE.read_text() == anatomy.picture()
-    assert "](anatomy.svg)" in (TOP / "docs/FORMAT.md").read_text()
 
 
 # ---- spelling
@@ -365,6 +367,15 @@ def test_examples_in_comments() -> None:
     assert len(found) >= EXAMPLES
 
 
+def test_rust_blocks() -> None:
+    """The Rust blocks of the documents are parts of the program crates/example, word for word."""
+    example = (TOP / "crates/example/src/main.rt").read_text()
+    texts = [(TOP / name).read_text() for name in documents()]
+    found = [it for text in texts for it in re.findall(r"^```rust\n(.*?)^```$", text, re.M | re.S)]
+    assert [it for it in found if it not in example] == []
+    assert len(found) >= 5
+
+
 # ---- PROOFS, and links
 
 # The links of docs/PROOFS.md to a function, with its clauses, and to a definition.
@@ -377,8 +388,9 @@ PROOFS = (TOP / "docs/PROOFS.md").read_text()
 
 def clauses(function: str, path: str) -> list[str]:
     """The names of the clauses that say what an exported function of a file ensures; those without one are numbered."""
-    root = f"{'/'.join(path.split('/')[:3])}/lib.rt"
-    parts = dict(contracts.contracts({it: (TOP / it).read_text() for it in (root, path)}))[function]
+    _, crate, module = path.split("/", 2)
+    texts = {it: (TOP / "crates" / crate / it).read_text() for it in ("src/lib.rt", module)}
+    parts = dict(contracts.contracts(texts))[function]
     return [part.partition(" ")[2] for part in parts if part.startswith("ensures ")]
 
 
@@ -394,7 +406,7 @@ def test_functions_of_the_proofs(function: str, path: str, named_clauses: str) -
 @pytest.mark.parametrize("name, path", DEFINED.findall(PROOFS))
 def test_definitions_of_the_proofs(name: str, path: str) -> None:
     """Each definition that PROOFS names is in the file of its link."""
-    assert name in promises.DEFINITION.findall((TOP / path).read_text())
+    assert name in definitions.blocks((TOP / path).read_text())
 
 
 def test_proofs_name_all_parts() -> None:
@@ -423,7 +435,7 @@ def test_files_of_the_audit() -> None:
 
 def test_files_of_the_architecture() -> None:
     """Each file of a crate that ARCHITECTURE names is in a crate."""
-    named_files = set(re.findall(r"`((?:src|specs)/\w+\.\w+)`", (TOP / "docs/ARCHITECTURE.md").read_text()))
+    named_files = set(re.findall(r"`((?:src|specs)/\w+\.\w+)`", (TOP / "ARCHITECTURE.md").read_text()))
     assert [name for name in sorted(named_files) if not any(TOP.glob(f"crates/*/{name}"))] == []
     assert len(named_files) > 50
 

@@ -8,13 +8,12 @@ from collections.abc import Callable
 
 import pytest
 
-from reference import checks, hdt as model
+from reference import checks, damaged, hdt as model
 from reference import ntriples
 from support.built import BUILT, TOP
 from support.c_library import HEADER, file_reasons, text_reasons
 from support.probe import Probe
 from support.program import Result, run
-from support.python_package import faults
 from tools import errors
 
 Numbered = list[tuple[int, str]]
@@ -55,7 +54,6 @@ def spoken(name: str) -> str:
 # Each list of errors, by its kind and where it is.
 LISTS: dict[tuple[str, str], Callable[[], Numbered]] = {
     ("file", "docs/FORMAT.md"): lambda: counted(file_reasons()),
-    ("file", "python/hdt"): lambda: counted(faults.REASONS),
     ("file", "reference"): lambda: [(it.value, it.name) for it in model.Reason],
     ("file", "enum"): lambda: found(f"{WIRE}/src/fault.rt", r"^    (?P<name>\w+) = (?P<number>\d+),$"),
     ("file", "name"): lambda: found(f"{WIRE}/src/fault.rt", r" Reason::(?P<name>\w+) => \"(?P=name)\","),
@@ -65,7 +63,6 @@ LISTS: dict[tuple[str, str], Callable[[], Numbered]] = {
         f"{WIRE}/specs/Fault.antt", r"^reason_name (?P<name>\w+) = codes \"(?P=name)\"$"),
     ("file", "probe"): lambda: found(f"{PROBE}/src/reason.rt", r"^ +(?P<number>\d+) => Some\(Reason::(?P<name>\w+)\)"),
     ("text", "docs/NTRIPLES.md"): lambda: counted(text_reasons()),
-    ("text", "python/hdt"): lambda: counted(faults.LINE_REASONS),
     ("text", "reference"): lambda: [(it.value, it.name) for it in ntriples.Reason],
     ("text", "enum"): lambda: found(f"{TERMS}/src/fault.rt", r"^    (?P<name>\w+) = (?P<number>\d+),$"),
     ("text", "name"): lambda: found(f"{TERMS}/src/fault.rt", r" LineReason::(?P<name>\w+) => \"(?P=name)\","),
@@ -96,33 +93,33 @@ def test_examples() -> None:
 
 def test_example_without_an_error(monkeypatch: pytest.MonkeyPatch) -> None:
     """An example that gives no error, or another one, is reported."""
-    monkeypatch.setitem(errors.FILES, "Truncated", ("as it is", errors.THREE))
-    monkeypatch.setitem(errors.FILES, "Width", errors.FILES["BitsKind"])
-    monkeypatch.setitem(errors.TEXTS, "Syntax", "true")
-    reported = [entry.name for entry in ENTRIES[:15] + ENTRIES[34:36] if errors.tried(entry).wrong]
+    monkeypatch.setitem(damaged.FILES, "Truncated", damaged.THREE)
+    monkeypatch.setitem(damaged.FILES, "Width", damaged.FILES["BitsKind"])
+    tried = [*ENTRIES[:15], ENTRIES[34]._replace(example=" `true`\n"), ENTRIES[35]]
+    reported = [entry.name for entry in tried if errors.tried(entry)[1]]
     assert reported == ["Truncated", "Width", "Syntax"]
 
 
-@pytest.mark.parametrize("name", errors.FILES)
+@pytest.mark.parametrize("name", damaged.FILES)
 def test_damaged_file(name: str) -> None:
     """The reference finds the same error, at the same byte offset, as the page says of the program."""
     entry = next(it for it in ENTRIES if (it.kind, it.name) == ("file", name))
     offset = re.search(r"; at (\d+)\n$", entry.example)
-    error = checks.error_of(model.read_file, errors.FILES[name][1], name == "Unused")
+    error = checks.error_of(model.read_file, damaged.FILES[name], name == "Unused")
     assert offset and error == (entry.number, entry.name, int(offset[1]))
 
 
 def test_files_are_printed() -> None:
     """`--file NAME` prints the damaged file of an example."""
     done = run([sys.executable, "-m", "tools.errors", "--file", "Width"], cwd=TOP)
-    assert done == Result(0, errors.FILES["Width"][1], b"")
-    assert errors.having() == errors.THREE
+    assert done == Result(0, damaged.FILES["Width"], b"")
+    assert damaged.having() == damaged.THREE
 
 
 @pytest.mark.parametrize("name", REMEDIES)
 def test_remedy(name: str) -> None:
     """The commands of remedies succeed."""
-    done = shell(REMEDIES[name], errors.FILES[name][1])
+    done = shell(REMEDIES[name], damaged.FILES[name])
     assert (done.status, done.err) == (0, b"")
 
 
@@ -130,12 +127,11 @@ def test_remedy(name: str) -> None:
 
 
 def test_how_many_there_are() -> None:
-    """34 errors of files and 9 of texts, from 1, in this order; each has an example, and each example an error."""
+    """34 errors of files and 9 of texts, from 1, in this order; each has an example, and each file an error."""
     assert [number for number, _ in of_kind("file")] == list(range(1, 35))
     assert [number for number, _ in of_kind("text")] == list(range(1, 10))
-    assert [name for _, name in of_kind("file")] == list(errors.FILES)
-    assert [name for _, name in of_kind("text")] == list(errors.TEXTS)
-    assert [name for _, name in of_kind("message")] == list(errors.MESSAGES)
+    assert [name for _, name in of_kind("file")] == list(damaged.FILES)
+    assert len(of_kind("message")) == 10
 
 
 @pytest.mark.parametrize("kind, where", LISTS)

@@ -10,7 +10,6 @@ import pytest
 
 from support.built import PROGRAM
 from support.rdflib_package import store
-from tools import example_data
 
 import rdflib
 from rdflib.plugins.parsers.ntriples import NTGraphSink, W3CNTriplesParser
@@ -20,13 +19,20 @@ PACKAGE = "lv2-dev"
 
 @pytest.fixture(scope="module")
 def data(tmp_path_factory: pytest.TempPathFactory) -> tuple[Path, Path]:
-    """The N-Triples and the HDT file of a package. Skips the test if it can't be downloaded."""
-    if shutil.which("serdi") is None or shutil.which("apt-get") is None:
+    """The N-Triples and the HDT file of a package's Turtle files. Skips the test if it can't be downloaded."""
+    if not all(map(shutil.which, ("serdi", "apt-get", "dpkg-deb"))):
         pytest.skip("serdi or apt-get is missing")
-    try:
-        return example_data.make(tmp_path_factory.mktemp("data"), [PACKAGE])
-    except subprocess.CalledProcessError:
+    folder = tmp_path_factory.mktemp("data")
+    document, file, root = folder / "lv2.nt", folder / "lv2.hdt", folder / "root"
+    if subprocess.run(["apt-get", "-qq", "download", PACKAGE], cwd=folder, stderr=subprocess.DEVNULL).returncode:
         pytest.skip(f"the package {PACKAGE} can't be downloaded")
+    subprocess.run(["dpkg-deb", "-x", *folder.glob("*.deb"), root], check=True)
+    with document.open("wb") as out:
+        for number, path in enumerate(sorted(root.rglob("*.ttl"))):
+            words = ["serdi", "-q", "-p", f"f{number}", "-i", "turtle", "-o", "ntriples", str(path)]
+            subprocess.run([*words, f"file:///{path.relative_to(root)}"], check=True, stdout=out)
+    subprocess.run([PROGRAM, "build", document, file, "--base", "http://example.org/lv2"], check=True)
+    return document, file
 
 
 class Labels(dict[str, str]):

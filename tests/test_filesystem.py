@@ -642,7 +642,7 @@ STREAMS = [set(it) for count in range(4) for it in itertools.combinations((0, 1,
 FILE = os.fspath(SAMPLES / "three.hdt")
 # Commands by name: the words, and what is printed of them.
 TOUCHING: dict[str, tuple[list[str], bytes]] = {
-    "version": (["--version"], b"hdt 1.0.0\n"),
+    "version": (["--version"], b"hdt 1.1.0\n"),
     "verify": (["verify", "FILE"], b"ok 3 2 0 2 1\n"),
     "find": (["find", "FILE", "?", "?", "?", "--count"], b"3\n"),
     "build": (["build", "--base", "http://a/", "IN", "OUT"], b"built 3 2 0 2 1 457\n"),

@@ -18,8 +18,8 @@ from typing import Any, Optional, cast
 import pytest
 
 from support.built import SAMPLES
-from support.formats import (BASE, COMPRESS, DOCUMENTS, GRAPH, LINES, READS, TURTLE, XML, built, fails, fake, needs,
-                             strings_of)
+from support.formats import (BASE, COMPRESS, DOCUMENTS, GRAPH, INTEGER, LINES, READS, TURTLE, XML, built, fails, fake,
+                             needs, strings_of)
 from support.python_package import hdt
 
 FIRST = {"ttl": "serdi", "trig": "serdi", "rdf": "rapper", "owl": "rapper", "xml": "rapper", "jsonld": "rdflib",
@@ -516,6 +516,28 @@ def test_second_converter(tmp_path: Path, monkeypatch: pytest.MonkeyPatch) -> No
     assert built(tmp_path, path)[0][2].startswith('"01"') == bool(shutil.which("serdi") or shutil.which("rapper"))
     monkeypatch.setenv("PATH", "")
     assert built(tmp_path, path)[0][2].startswith('"1"')
+
+
+@pytest.mark.parametrize("converter", ["serdi", "rapper", "rdflib"])
+def test_literals_stay(converter: str, tmp_path: Path) -> None:
+    """A literal keeps its text, also if that isn't the one of its value, or if it has none."""
+    needs(converter)
+    literals = [f'"{it}"^^{INTEGER}' for it in ("01", "+1", " 1", "x")]
+    path = tmp_path / "a.ttl"
+    path.write_text(f"<u:a> <u:p> {', '.join(literals)} .")
+    assert built(tmp_path, path, converter=converter) == sorted(("u:a", "u:p", it) for it in literals)
+
+
+@pytest.mark.parametrize("text", [
+    "{ <u:a> <u:p> <u:b> } <u:p> <u:c> .", "{ <u:a> <u:p> <u:b> } => { <u:a> <u:p> <u:c> } .", "<u:a> <u:p> ?x .",
+    "@forAll <u:x> . <u:x> <u:p> <u:b> ."])
+def test_what_is_no_triple_of_notation3(text: str, tmp_path: Path) -> None:
+    """Formulas, rules and variables of Notation3 are no triples."""
+    needs("rdflib")
+    path = tmp_path / "a.n3"
+    path.write_text("<u:a> <u:p> <u:b> .\n" + text)
+    told = fails(tmp_path, path, hdt.ConversionFault)
+    assert told.endswith("no RDF triple has a " + ("formula" if "{" in text else "Variable"))
 
 
 # ---- progress

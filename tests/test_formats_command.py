@@ -97,7 +97,12 @@ def test_options(folder: Path) -> None:
     (["c.nt", "c.nt", "--base", "relative"], 2, "the base is not an absolute IRI"),
     (["c.nt", "out.hdt"], 2, "OUT is one of the inputs"), (["a.ttl", "--block-size", "0"], 2, "1 to 65535"),
     (["a.ttl", "--converter", "any23"], 2, "invalid choice"), (["a.ttl", "--largest-text", "-1"], 2, "negative"),
-    (["a.ttl", "--lar", "1"], 2, "--lar"), ([], 2, "required")])
+    (["a.ttl", "--lar", "1"], 2, "--lar"), ([], 2, "required"),
+    (["c.nt", "--header", "bad.nt"], 1, "bad.nt: line 1 column 12: 1 Syntax"),
+    (["c.nt", "--header", "none"], 3, "none"), (["c.nt", "--header", "out.hdt"], 2, "OUT is one of the inputs"),
+    (["-", "--header", "-"], 2, "read once"), (["c.nt", "--header", "c.nt", "--title", "A"], 2, "the whole header"),
+    (["bad.nt", "--title", "A"], 1, "bad.nt: line 1 column 12: 1 Syntax"),
+    (["c.nt", "--title", b"\xff"], 2, "half of a surrogate pair")])
 def test_statuses(words: list[Word], status: int, told: str, folder: Path) -> None:
     """A failure has the status that it has of the program, one line, and leaves OUT as it was."""
     needs("serdi")
@@ -112,6 +117,23 @@ def test_statuses(words: list[Word], status: int, told: str, folder: Path) -> No
     assert (done.status, done.out, told in done.err.decode()) == (status, b"", True), done
     assert status == 2 or done.err.count(b"\n") == 1 and done.err.startswith(b"hdt: ")
     assert ((folder / "out.hdt").read_text(), sorted(os.listdir(folder))) == ("before", names)
+
+
+def test_metadata(folder: Path) -> None:
+    """The header is made with the file: by properties, or of a file as it is, also for one document of N-Triples."""
+    given = ["--title", "A", "--title", 'B "C"', "--licence", "u:l", "--publisher", "Us", "--issued", "2026-11-29"]
+    words: dict[str, Any] = {"title": ["A", 'B "C"'], "license": "u:l", "publisher": "Us", "issued": "2026-11-29"}
+    for inputs in (["c.nt"], ["c.nt", "c.nt"], ["-"]):
+        done = command(folder, "build", *inputs, "out.hdt", *given, stdin=b"<u:c> <u:p> <u:d> .\n")
+        assert done.status == 0, done
+        with hdt.open(folder / "out.hdt") as graph:
+            assert graph.header.decode() == hdt.metadata(graph, **words)
+            assert [list(graph), graph.header.count(b"\n")] == [[("u:c", "u:p", "u:d")], 12]
+    (folder / "header.nt").write_text("# as it is\n")
+    assert command(folder, "build", "c.nt", "out.hdt", "--header", "header.nt").status == 0
+    assert program.hdt("head", "--body", folder / "out.hdt").out == b"# as it is\n"
+    assert command(folder, "build", "c.nt", "out.hdt", "--header", "-", stdin=b"# read\n").status == 0
+    assert program.hdt("head", "--body", folder / "out.hdt").out == b"# read\n"
 
 
 def test_verbose(folder: Path) -> None:

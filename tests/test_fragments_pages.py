@@ -437,3 +437,87 @@ def test_widths(browsed: tuple[str, Measuring], tmp_path: Path, width: int) -> N
     found = re.search(r'data-widths="(\d+),(\d+),(\d+)"', dom)
     assert found and int(found[3]) > 5
     assert int(found[1]) <= int(found[2]) <= width
+
+
+# ---- the header of a file
+
+TERMS = "http://purl.org/dc/terms/"
+HEADER = f"""<u:d> <{TERMS}title> "Places"@en .
+<u:d> <{TERMS}description> "All & more" .
+<u:d> <{TERMS}license> <https://a.example/l> .
+<u:d> <{TERMS}publisher> "Us" .
+<u:d> <{TERMS}issued> "2026-11-29"^^<http://www.w3.org/2001/XMLSchema#date> .
+"""
+
+
+def described(folder: Path, header: str, **about: Any) -> Site:
+    """An application with a file that has a header."""
+    hdt.build(["<u:a> <u:p> <u:b> ."], folder / "d.hdt", header=header)
+    return Site(fragments.Application({"datasets": {"d": {"file": str(folder / "d.hdt"), **about}}}))
+
+
+def test_header(tmp_path: Path) -> None:
+    """What the header says is on the pages for people and in the description; the configuration comes first."""
+    site = described(tmp_path, HEADER)
+    shown = ["Places", "All & more", "License: https://a.example/l", "Publisher: Us", "Issued: 2026-11-29"]
+    for target, wanted in (("/d", shown), ("/d/void", shown), ("/", shown[:2])):
+        found = page(site, target)
+        assert [it for it in wanted if it not in found.text] == []
+    assert page(site, "/d").all("a", href="https://a.example/l")
+    about = f"<{BASE}d#dataset>"
+    lines = [line.replace("<u:d>", about) for line in HEADER.splitlines()]
+    for target, wanted in (("/d/void", lines), ("/", lines), ("/d", [lines[0], lines[2]])):
+        text = site.ask(target, Accept="application/n-triples").text
+        assert [text.count(line + "\n") for line in wanted] == [1] * len(wanted)
+    again = described(tmp_path, HEADER, title="Ours", license="u:l").ask("/d/void", Accept="application/n-triples").text
+    for name, value in (("title", '"Ours"'), ("license", "<u:l>")):
+        assert re.findall(rf"{about} <{TERMS}{name}> (.*) \.", again) == [value]
+    assert lines[1] in again and "Places" not in again
+    assert f'<{TERMS}title> "d" .' in described(tmp_path, "").ask("/d/void", Accept="application/n-triples").text
+
+
+def test_header_that_is_replaced(tmp_path: Path, monkeypatch: pytest.MonkeyPatch) -> None:
+    """A file that replaces another one is shown with its own header."""
+    monkeypatch.setattr("hdt.fragments._dataset._SECONDS", -1)
+    site = described(tmp_path, HEADER)
+    assert "Places" in page(site, "/d").text
+    hdt.rewrite(tmp_path / "d.hdt", tmp_path / "d.hdt", header=HEADER.replace("Places", "Other places"))
+    assert "Other places" in page(site, "/d").text
+
+
+@pytest.mark.parametrize("value", [
+    EVIL, "</title></style><script>", "\x01\x7f\x85\u202e\n\r\t", "\\\\\"", "x" * 1_900, "", "\ud7ff\U0010ffff"])
+def test_hostile_headers(value: str, tmp_path: Path) -> None:
+    """Text of a header acts on no page, and each format of RDF has it as it is."""
+    literal = hdt.Term("literal", value).format_ntriples()
+    names = ("title", "description", "license", "publisher", "creator", "source", "issued", "rights")
+    site = described(tmp_path, "".join(f"<u:d> <{TERMS}{name}> {literal} .\n" for name in names))
+    for target in ("/d", "/d/void", "/", "/d?subject=u:a", "/d?page=1"):
+        page(site, target)
+    text = site.ask("/d/void", Accept="application/n-triples").text
+    assert text.count(f'> "{terms.escaped(value)}" .\n') == len(names)
+    for media in ("text/turtle", "application/ld+json", "application/trig", "application/n-quads"):
+        assert site.ask("/d", Accept=media).status == 200
+
+
+def test_hostile_iris_of_headers(tmp_path: Path) -> None:
+    """Only IRIs of the web are links."""
+    site = described(tmp_path, "".join(f"<u:d> <{TERMS}license> <{it}> .\n" for it in (
+        "javascript:alert(1)", "data:text/html,x", "HTTPS://a", "https://a.example/'x'")))
+    found = page(site, "/d/void")
+    hrefs = [it["href"] for it in found.all("a") if not it["href"].startswith(BASE)]
+    assert [it for it in hrefs if it.startswith("https://a.example/")] and "javascript:alert(1)" in found.text
+    assert [it for it in hrefs if not it.startswith(("https://", "http://"))] == []
+
+
+@pytest.mark.parametrize("body", [b"", b"\0\xff\xfe", b"<b><script>alert(1)</script>", b"<u:d> <u:p> .", b"#" * 2**21])
+def test_headers_of_other_programs(body: bytes, tmp_path: Path) -> None:
+    """A header that isn't N-Triples, or too long, is none."""
+    site = described(tmp_path, "")
+    data = (tmp_path / "d.hdt").read_bytes()
+    end = reference.read_head(data)[1]
+    (tmp_path / "d.hdt").write_bytes(reference.write_head(body, reference.Style()) + data[end:])
+    site = Site(fragments.Application({"datasets": {"d": str(tmp_path / "d.hdt")}}))
+    for target in ("/d", "/d/void", "/"):
+        assert "alert" not in page(site, target).text
+    assert f'<{TERMS}title> "d" .' in site.ask("/d/void", Accept="application/n-triples").text

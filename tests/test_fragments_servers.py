@@ -406,9 +406,9 @@ def test_servers_of_the_page(server: str, tmp_path: Path) -> None:
     trial, config, gunicorn, location = re.findall(r"^```text\n(.*?)^```$", section, re.M | re.S)
     port, front = free_port(), free_port()
     url_of = f"http://127.0.0.1:{front if server == 'nginx' else port}"
-    (tmp_path / "samples").symlink_to(SAMPLES)
+    (tmp_path / "people.hdt").symlink_to(SAMPLES / "three.hdt")
     (tmp_path / "fragments.toml").write_text(
-        config.replace("/srv/", f"{SAMPLES}/").replace("https://data.example.org", url_of))
+        config.replace("/srv/", f"{tmp_path}/").replace("https://data.example.org", url_of))
     before, after = NGINX_CONFIGURATION.format(folder=tmp_path, port=front, to="").split("    location /lod/")
     (tmp_path / "nginx.conf").write_text(before + location.replace("8000", str(port)) + after.partition("    }\n")[2])
     command = trial.replace("8080", str(port)) if server == "trial" else gunicorn.replace("8000", str(port))
@@ -420,8 +420,8 @@ def test_servers_of_the_page(server: str, tmp_path: Path) -> None:
     try:
         Served.at(f"http://127.0.0.1:{port}")
         evil = {f"X_Forwarded_{name}": "/evil" for name in ("Host", "Proto", "Prefix")}
-        answer = Served.at(url_of).ask("/three?page=1", Accept="application/n-quads", **evil)
-        assert (answer.status, answer.total) == (200, 3) and f"<{url_of}/three" in answer.text
+        answer = Served.at(url_of).ask("/people?page=1", Accept="application/n-quads", **evil)
+        assert (answer.status, answer.total) == (200, 3) and f"<{url_of}/people" in answer.text
         assert "evil" not in answer.text
     finally:
         for process in reversed(running):

@@ -223,3 +223,19 @@ def test_large_file(tmp_path: Path) -> None:
     data = reference.graph(triples, base=b"http://a/")[0]
     path.write_bytes(data)
     assert brief(hdt("info", path)) == brief(done(lines_of(values_of(data))))
+
+
+@pytest.mark.parametrize("width", [0, 33])
+def test_many_pairs(tmp_path: Path, width: int) -> None:
+    """100,000 triples with several predicates of a subject and several objects of a pair; and in wider arrays."""
+    subjects, predicates = [b"u:s%05d" % n for n in range(20_000)], [b"u:p0", b"u:p1", b"u:p2"]
+    triples = [(subject, predicates[k % 3], b'"%d"' % (n * k % 997))
+               for n, subject in enumerate(subjects) for k in range(1, 6)]
+    triples += [(subject, b"u:p0", subject) for subject in subjects[::7]]
+    objects = {triple[2] for triple in triples}
+    data = reference.loose(triples, set(subjects), predicates, objects, b"http://a/", 16, width)[0]
+    path = tmp_path / "graph.hdt"
+    path.write_bytes(data)
+    values = values_of(data)
+    assert (values["tight"], values["canonical"]) == (True, width == 0)
+    assert brief(hdt("info", path)) == brief(done(lines_of(values)))

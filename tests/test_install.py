@@ -338,7 +338,7 @@ def wheel(tree: Path) -> Path:
 
 def test_wheel_has_a_platform(wheel: Path) -> None:
     """The wheel's name has the version and a platform, and no version of Python."""
-    assert re.fullmatch(r"tickmarl_hdt-2\.0\.0-py3-none-(many)?linux\w*_x86_64\.whl", wheel.name)
+    assert re.fullmatch(r"tickmarl_hdt-2\.1\.0-py3-none-(many)?linux\w*_x86_64\.whl", wheel.name)
 
 
 def test_wheel_has_the_library(wheel: Path) -> None:
@@ -444,7 +444,7 @@ def test_package_fields(package: Path) -> None:
     """The package says what it is and for which machine."""
     lines = succeeds("dpkg-deb", "--field", package).splitlines()
     fields = dict(line.split(": ", 1) for line in lines if ": " in line)
-    assert (fields["Version"].split("-")[0], fields["Architecture"]) == ("1.0.0", "amd64")
+    assert (fields["Version"].split("-")[0], fields["Architecture"]) == ("1.1.0", "amd64")
     assert fields["Maintainer"] and fields["Description"] and "libc6" in fields["Depends"]
 
 

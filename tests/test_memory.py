@@ -32,11 +32,8 @@ def limited(room: int, *words: Word) -> Result:
 
 @pytest.fixture(scope="module")
 def least() -> int:
-    """The least address space in which the program starts, and four steps more.
-
-    It depends on the random addresses. The stack takes 160 KB, of which the system gives 132 KB at the start.
-    """
-    return ROOMS[bisect_left(ROOMS, True, key=lambda room: limited(room, "--help").status == 0) + 4]
+    """The least address space in which the program starts, and two steps more: it depends on the random addresses."""
+    return ROOMS[bisect_left(ROOMS, True, key=lambda room: limited(room, "--help").status == 0) + 2]
 
 
 def many_triples() -> list[Strings]:

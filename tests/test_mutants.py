@@ -106,22 +106,15 @@ def judge(top: Path, *words: str, commands: Path | None = None) -> Answer:
 
 # ---- with the real kit
 
+HALF, NEXT = "old:     number / 2\nnew:     ", "old:     number.wrapping_add(1)\nnew:     "
+QUARTER = "old:     half(half(number))\nnew:     "
 # Mutants that are judged together, and how the line of each goes on.
 TRIALS = {
-    "half_of_nothing": ("old:     number / 2\nnew:     let _ = number; 0", "refused, by toy::half: "),
-    "half_rounded_up": ("old:     number / 2\nnew:     number / 2 + number % 2", "refused, by toy::half: "),
-    "harmless": (
-        "old:     half(half(number))\nnew:     let first = half(number); half(first)",
-        "NOT REFUSED: the crate is still proved",
-    ),
-    "stale": (
-        "old:     number / 3\nnew:     number / 4",
-        "BAD MUTANT: an 'old:' text is in src/lib.rt 0 times",
-    ),
-    "uncompiled": (
-        "old:     half(half(number))\nnew:     half(halves(number))",
-        "BAD MUTANT: it did not reach the prover",
-    ),
+    "half_of_nothing": (HALF + "let _ = number; 0", "refused, by toy::half: "),
+    "half_rounded_up": (HALF + "number / 2 + number % 2", "refused, by toy::half: "),
+    "harmless": (QUARTER + "let first = half(number); half(first)", "NOT REFUSED: the crate is still proved"),
+    "stale": ("old:     number / 3\nnew: 1", "BAD MUTANT: an 'old:' text is in src/lib.rt 0 times"),
+    "uncompiled": (QUARTER + "half(halves(number))", "BAD MUTANT: it did not reach the prover"),
     "unsaid": ("old: result ≡ number / 2 }\nnew: result ≡ number / 2 + 1 }", "refused, by toy::half: "),
 }
 
@@ -189,10 +182,10 @@ for name, body in bodies.items():
 print("logic=not-proved" if failed else "logic=proved functions=3 sum=0")
 sys.exit(1 if failed else 0)
 """
-WRONG = "old:     number / 2\nnew:     wrong(number)"
+WRONG = HALF + "wrong(number)"
 
 
-class Kit(SimpleNamespace):
+class Kit(NamedTuple):
     """A kit whose prover goes by words in bodies: where its commands lie, and a file with a line for each check."""
 
     commands: Path
@@ -207,104 +200,65 @@ class Kit(SimpleNamespace):
 @pytest.fixture
 def kit(tmp_path: Path) -> Kit:
     """A kit of words. The file `edited` is a source of the repository `top` in the same folder."""
-    kit = Kit(commands=tmp_path / "kit/bin", log=tmp_path / "log", edited=tmp_path / "top/crates/toy/specs/Lib.antt")
-    kit.commands.mkdir(parents=True)
+    kit = Kit(tmp_path / "kit/bin", tmp_path / "log", tmp_path / "top/crates/toy/specs/Lib.antt")
     rattle = "#!/usr/bin/python3 -IS\n" + RATTLE.format(log=str(kit.log), edited=str(kit.edited))
+    kit.commands.mkdir(parents=True)
     for name, text in (("rt", '#!/bin/sh\n[ "$1" = version ] && echo kit of words 1\n'), ("rattle", rattle)):
         (kit.commands / name).write_text(text)
         (kit.commands / name).chmod(stat.S_IRWXU)
     return kit
 
 
-class Case(NamedTuple):
-    """Mutants that are judged together, each with what is told of it; how many checks that takes; and the source."""
-
-    mutants: dict[str, tuple[str, str]]
-    checks: int
-    source: str = SOURCE
-
-
-QUARTER = "old:     half(half(number))\nnew:     "
-NEXT = "old:     number.wrapping_add(1)\nnew:     "
-HALF = "old:     number / 2\nnew:     "
 OPEN = "left open: `returns`"
 BY_HALF, BY_QUARTER, BY_NEXT = (f"refused, by toy::{it}: {OPEN}" for it in ("half", "quarter", "next"))
 PROVED = "NOT REFUSED: the crate is still proved with this mutant"
 UNREAD = "src/lib.rt:16:10: error[unknown-name]: cannot find value `unknown` in this scope"
 SHAPE = "only because a proof written by hand no longer fits its body: give the mutant another form"
-
-CASES = {
-    "refused together": Case(
-        {"a": (HALF + "wrong", BY_HALF), "b": (QUARTER + "wrong", BY_QUARTER), "c": (NEXT + "wrong", BY_NEXT)}, 2
-    ),
-    "of one function": Case({"a": (HALF + "wrong", BY_HALF), "b": (HALF + "wrong again", BY_HALF)}, 3),
-    "of two functions": Case({"a": (HALF + "wrong\n" + QUARTER + "right", BY_HALF)}, 2),
-    "a written answer fails": Case(
-        {"a": (HALF + "answer", "refused, by toy::half: its answer fails: the sides of the goal differ")}, 2
-    ),
-    "harmless": Case({"a": (HALF + "wrong", BY_HALF), "b": (QUARTER + "half(number)", PROVED)}, 3),
-    "shows nothing": Case(
-        {"a": (HALF + "shape", f"SHOWS NOTHING: toy::half is refused {SHAPE}"), "b": (NEXT + "wrong", BY_NEXT)}, 3
-    ),
-    "does not compile": Case(
-        {
-            "a": (HALF + "unknown", f"BAD MUTANT: it did not reach the prover: {UNREAD}"),
-            "b": (NEXT + "wrong", BY_NEXT),
-            "c": (QUARTER + "wrong", BY_QUARTER),
-        },
-        5,
-    ),
-    "another function fails": Case(
-        {
-            "a": (HALF + "strange", "NOT REFUSED by toy::half: no goal of its own fails; logic=not-proved"),
-            "b": (QUARTER + "wrong", BY_QUARTER),
-        },
-        4,
-    ),
-    "killed once": Case({"a": (HALF + "wrong killed", BY_HALF)}, 3),
-    "more than bodies": Case(
-        {
-            "a": ("old: { result ≡ number / 2 }\nnew: { result ≡ number }\n" + HALF + "wrong", BY_HALF),
-            "b": (NEXT + "wrong", BY_NEXT),
-        },
-        3,
-    ),
-    "in a cycle of calls": Case(
-        {"a": (QUARTER + "right", PROVED), "b": (HALF + "wrong", BY_HALF), "c": (NEXT + "wrong", BY_NEXT)},
-        4,
-        SOURCE.replace("pub fn next", "#[cycle(quarter)]\npub fn next"),
-    ),
-    "not applicable": Case(
-        {
-            name: (text, f"BAD MUTANT: {why}")
-            for name, text, why in [
-                ("a", "old: pub fn\nnew: 1", "an 'old:' text is in src/lib.rt 3 times, and not once"),
-                ("b", "old: third\nnew: 1", "an 'old:' text is in src/lib.rt 0 times, and not once"),
-                ("c", HALF + "number / 2", "it changes nothing"),
-                ("d", "new: 1", "a 'new:' line comes before any 'file:' or 'old:' line"),
-                ("e", "old:     number / 2", "the last 'old:' line has no 'new:' line"),
-                ("f", HALF + "{ number", "src/lib.rt has an open bracket with it"),
-                ("g", f"file: src/none.rt\n{HALF}wrong", "there is no file src/none.rt below src/"),
-            ]
-        },
-        1,
-    ),
-    "no mutants": Case({}, 0),
+WRONG_NEXT, WRONG_QUARTER = (NEXT + "wrong", BY_NEXT), (QUARTER + "wrong", BY_QUARTER)
+BAD = [
+    ("old: pub fn\nnew: 1", "an 'old:' text is in src/lib.rt 3 times, and not once"),
+    ("old: third\nnew: 1", "an 'old:' text is in src/lib.rt 0 times, and not once"),
+    (HALF + "number / 2", "it changes nothing"),
+    ("new: 1", "a 'new:' line comes before any 'file:' or 'old:' line"),
+    ("old:     number / 2", "the last 'old:' line has no 'new:' line"),
+    (HALF + "{ number", "src/lib.rt has an open bracket with it"),
+    (f"file: src/none.rt\n{HALF}wrong", "there is no file src/none.rt below src/"),
+]
+# Mutants that are judged together, each with what is told of it, and how many checks that takes.
+CASES: dict[str, tuple[list[tuple[str, str]], int]] = {
+    "refused together": ([(HALF + "wrong", BY_HALF), WRONG_QUARTER, WRONG_NEXT], 2),
+    "of one function": ([(HALF + "wrong", BY_HALF), (HALF + "wrong again", BY_HALF)], 3),
+    "of two functions": ([(HALF + "wrong\n" + QUARTER + "right", BY_HALF)], 2),
+    "a written answer fails": (
+        [(HALF + "answer", "refused, by toy::half: its answer fails: the sides of the goal differ")], 2),
+    "harmless": ([(HALF + "wrong", BY_HALF), (QUARTER + "half(number)", PROVED)], 3),
+    "shows nothing": ([(HALF + "shape", f"SHOWS NOTHING: toy::half is refused {SHAPE}"), WRONG_NEXT], 3),
+    "does not compile": (
+        [(HALF + "unknown", f"BAD MUTANT: it did not reach the prover: {UNREAD}"), WRONG_NEXT, WRONG_QUARTER], 5),
+    "another function fails": (
+        [(HALF + "strange", "NOT REFUSED by toy::half: no goal of its own fails; logic=not-proved"), WRONG_QUARTER], 4),
+    "killed once": ([(HALF + "wrong killed", BY_HALF)], 3),
+    "more than bodies": (
+        [("old: { result ≡ number / 2 }\nnew: { result ≡ number }\n" + HALF + "wrong", BY_HALF), WRONG_NEXT], 3),
+    "in a cycle of calls": ([(QUARTER + "right", PROVED), (HALF + "wrong", BY_HALF), WRONG_NEXT], 4),
+    "not applicable": ([(text, f"BAD MUTANT: {why}") for text, why in BAD], 1),
+    "no mutants": ([], 0),
 }
 
 
-@pytest.mark.parametrize("case", CASES.values(), ids=list(CASES))
-def test_judgement(tmp_path: Path, kit: Kit, case: Case) -> None:
+@pytest.mark.parametrize("case", CASES)
+def test_judgement(tmp_path: Path, kit: Kit, case: str) -> None:
     """Each mutant is judged by the goals of its own function, in as few checks as that takes; counts and status."""
-    changes = {name: change for name, (change, _) in case.mutants.items()}
-    answer = judge(repository(tmp_path / "top", changes, case.source), "--all", commands=kit.commands)
-    failed = [f"toy/{name}" for name, (_, said) in case.mutants.items() if not said.startswith("refused, by ")]
-    refused = len(case.mutants) - len(failed)
-    wanted = [f"toy/{name}: {said}" for name, (_, said) in case.mutants.items()]
+    rows, checks = CASES[case]
+    source = SOURCE.replace("pub fn next", "#[cycle(quarter)]\npub fn next") if "cycle" in case else SOURCE
+    changes = dict(zip("abcdefg", (change for change, _ in rows)))
+    answer = judge(repository(tmp_path / "top", changes, source), "--all", commands=kit.commands)
+    wanted = [f"toy/{name}: {said}" for name, (_, said) in zip(changes, rows)]
+    failed = [it.partition(":")[0] for it in wanted if ": refused, by " not in it]
     *lines, counts = answer.told()
     assert sorted(lines) == sorted(wanted + ([f"FAILED: {' '.join(failed)}"] if failed else []))
-    assert counts == f"{refused} refused, {len(failed)} failed"
-    assert (answer.status, kit.checks()) == (1 if failed or not refused else 0, case.checks)
+    assert counts == f"{len(wanted) - len(failed)} refused, {len(failed)} failed"
+    assert (answer.status, kit.checks()) == (1 if failed or not wanted else 0, checks)
 
 
 def test_nothing_can_be_judged(tmp_path: Path, kit: Kit) -> None:
@@ -361,13 +315,9 @@ def test_record(tmp_path: Path, kit: Kit) -> None:
     """It has those that were refused alone: inputs, function, goal, date and kit, sorted by their names."""
     top = repository(tmp_path / "top", {"b": NEXT + "wrong", "a": WRONG, "c": QUARTER + "right"})
     judge(top, "--all", commands=kit.commands)
-    today = date.today().isoformat()
-    crate = mutants.Crate("toy", top)
-    inputs = {it.name: it.inputs(crate.inputs()) for it in crate.mutants("wrong", "")}
-    assert list(record(top).items()) == [
-        ("a", [inputs["a"], "toy::half", OPEN, today, "kit of words 1"]),
-        ("b", [inputs["b"], "toy::next", OPEN, today, "kit of words 1"]),
-    ]
+    crate, more = mutants.Crate("toy", top), [OPEN, date.today().isoformat(), "kit of words 1"]
+    a, b, _ = (it.inputs(crate.inputs()) for it in crate.mutants("wrong", ""))
+    assert list(record(top).items()) == [("a", [a, "toy::half", *more]), ("b", [b, "toy::next", *more])]
 
 
 def test_record_forgets(tmp_path: Path, kit: Kit) -> None:
@@ -384,18 +334,14 @@ def test_record_forgets(tmp_path: Path, kit: Kit) -> None:
     assert record(top) == {it: before[it] for it in "bc"}
 
 
-def test_record_of_an_interrupted_run(tmp_path: Path, kit: Kit) -> None:
-    """A run that is killed keeps what it has judged."""
-    top = repository(tmp_path / "top", {"a": WRONG, "b": HALF + "interrupt"})
+@pytest.mark.parametrize("changes, kept", [
+    ({"a": WRONG, "b": HALF + "interrupt"}, ["a"]), ({"a": WRONG + " edit"}, [])], ids=["interrupted", "changed"])
+def test_record_of_another_end(tmp_path: Path, kit: Kit, changes: dict[str, str], kept: list[str]) -> None:
+    """A run that is killed keeps what it has judged; if sources change meanwhile, the record stays as it was."""
+    top = repository(tmp_path / "top", changes)
     judge(top, "--all", commands=kit.commands)
-    assert list(record(top)) == ["a"]
-
-
-def test_record_of_changed_sources(tmp_path: Path, kit: Kit) -> None:
-    """Sources that change while mutants are judged leave the record as it was."""
-    top = repository(tmp_path / "top", {"a": HALF + "wrong edit"})
-    answer = judge(top, "--all", commands=kit.commands)
-    assert (answer.lines[-1], kit.edited.read_text(), record(top)) == ("1 refused, 0 failed", "edited", {})
+    assert list(record(top)) == kept
+    assert (kit.edited.read_text() == "edited") == (not kept)
 
 
 TOY, LOW, A = "crates/toy/src/lib.rt", "crates/base/src/lib.rt", "crates/toy/wrong/a.edit"
@@ -504,22 +450,16 @@ def some_mutants(sizes: Iterable[int]) -> list[mutants.Mutant]:
     return found  # type: ignore[return-value]
 
 
-def labels(drawn: Iterable[mutants.Mutant]) -> list[str]:
-    """Return the labels of mutants."""
-    return [it.label for it in drawn]
-
-
 @pytest.mark.parametrize("sizes", [[], [1], [19], [20], [21], [1] * 50, [3, 40, 7], [100, 200, 324], [5, 619]], ids=str)
 def test_sample_size(sizes: list[int]) -> None:
-    """At least 5 percent, each once, of as few crates as that takes."""
+    """At least 5 percent, each once, of as few crates as that takes: all but the last of them give all of theirs."""
     whole = some_mutants(sizes)
     for seed in map(str, range(50)):
-        drawn = mutants.drawn(whole, seed)
+        drawn = [it.label for it in mutants.drawn(whole, seed)]
         assert len(drawn) * 20 >= len(whole) > (len(drawn) - 1) * 20 or not whole
-        assert len(set(labels(drawn))) == len(drawn) and set(labels(drawn)) <= set(labels(whole))
-        chosen = {id(it.crate): sum(other.crate is it.crate for other in whole) for it in drawn}
-        # (all but the last of the crates give all their mutants)
-        assert not drawn or sum(chosen.values()) - chosen[id(drawn[-1].crate)] < len(drawn)
+        assert len(set(drawn)) == len(drawn) and set(drawn) <= {it.label for it in whole}
+        crates = [sizes[int(it)] for it in dict.fromkeys(label[1:].partition("/")[0] for label in drawn)]
+        assert not drawn or sum(crates[:-1]) < len(drawn) <= sum(crates)
 
 
 def test_sample_is_drawn_by_the_seed() -> None:
@@ -528,9 +468,9 @@ def test_sample_is_drawn_by_the_seed() -> None:
     Of crates with more mutants than a sample has, each is drawn as often as others, and each of small crates at times.
     """
     whole = some_mutants([1, 3, 30, 30, 60])
-    samples = [labels(mutants.drawn(whole, str(seed))) for seed in range(4_000)]
-    assert samples[:100] == [labels(mutants.drawn(whole[::-1], str(seed))) for seed in range(100)]
+    samples = [[it.label for it in mutants.drawn(whole, str(seed))] for seed in range(4_000)]
+    assert samples[:9] == [[it.label for it in mutants.drawn(whole[::-1], str(seed))] for seed in range(9)]
     assert len({tuple(it) for it in samples}) > 1_000
     count = collections.Counter(it for sample in samples for it in sample)
-    large = [count[it] for it in labels(whole)[4:]]
+    large = [count[it.label] for it in whole[4:]]
     assert len(count) == len(whole) and 0.6 * max(large) < min(large)

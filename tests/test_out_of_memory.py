@@ -36,7 +36,7 @@ def refuser(tmp_path_factory: pytest.TempPathFactory) -> Refuser:
 # Commands of which some allocations aren't needed: clap looks for a similar word to suggest, and does without; the
 # three sequences of triples each ignore that a reservation was refused, and allocate as they grow; a search with a
 # subject walks where the directories have no memory; the words are borrowed once more for the lines that may follow the
-# message of a term's error. `info` rewrites the file.
+# message of a term's error. `info` encodes the parts of the file again.
 COMMANDS: dict[str, tuple[list[Word], int]] = {
     "head": (["head", SAMPLES / "v1.hdt"], 0),
     "head, cut": (["head", "cut.hdt"], 0),
@@ -48,6 +48,8 @@ COMMANDS: dict[str, tuple[list[Word], int]] = {
     "verify tight": (["verify", "--tight", THREE], 0),
     "verify tight, unused": (["verify", "--tight", "unused.hdt"], 0),
     "verify tight, cut": (["verify", "--tight", "cut.hdt"], 0),
+    "verify tight terms": (["verify", "--tight", "--terms", THREE], 0),
+    "verify tight terms, unused": (["verify", "--tight", "--terms", "unused.hdt"], 0),
     "strings": (["strings", THREE, "object"], 0),
     "strings prefix": (["strings", THREE, "object", "--prefix", "u:"], 0),
     "strings terms": (["strings", THREE, "object", "--terms", "--prefix", '"'], 0),

@@ -23,7 +23,7 @@ from reference import checks, hdt as reference
 from support import program
 from support.built import SAMPLES, SHARED_LIBRARY
 from support.c_library import CC, file_reasons, succeeds, text_reasons
-from support.python_package import ENVIRONMENT, faults, hdt
+from support.python_package import ENVIRONMENT, hdt
 
 Triple = tuple[str, str, str]
 Pattern = Sequence[Optional[str]]
@@ -220,9 +220,10 @@ def test_wrong_roles(call: str) -> None:
 
 
 def test_names_of_errors() -> None:
-    """The names are those of the documents."""
-    assert faults.REASONS == file_reasons()
-    assert faults.LINE_REASONS == text_reasons()
+    """The names are those of the documents; a number that the library doesn't know is no error of its own."""
+    assert [hdt.Fault(it, 0).name for it in range(36)] == ["Unknown", *file_reasons(), "Unknown"]
+    assert [hdt.LineFault(it, 1, 1).name for it in range(11)] == ["Unknown", *text_reasons(), "Unknown"]
+    assert hdt.Fault(-1, 0).name == hdt.Fault(2**32 + 1, 0).name == "Unknown"
 
 
 def result_of(call: Callable[[Path], hdt.Counts], path: Path) -> Union[hdt.Counts, tuple[int, str, int]]:

@@ -624,7 +624,7 @@ def imported(code: str, *folders: Union[str, Path]) -> str:
 ])
 def test_one_module(code: str) -> None:
     """`tickmarl_hdt` is `hdt` if nobody else has that name."""
-    assert imported(f"{code}; print(t is hdt, t.Fault is hdt.Fault, t.__version__)") == "True True 2.0.0\n"
+    assert imported(f"{code}; print(t is hdt, t.Fault is hdt.Fault, t.__version__)") == "True True 2.1.0\n"
 
 
 @pytest.mark.parametrize("first", ["import hdt", "pass"])
@@ -651,7 +651,7 @@ except t.Fault as fault:
 def test_version() -> None:
     """The version of the package is that of its distribution."""
     assert f'version = "{hdt.__version__}"\n' in (PACKAGE / "pyproject.toml").read_text()
-    assert importlib.util.find_spec("hdt") is None or hdt.__version__ == "2.0.0"
+    assert importlib.util.find_spec("hdt") is None or hdt.__version__ == "2.1.0"
     assert hdt.LIBHDT_VERSION == _library.VERSION == "1.3"
 
 

@@ -63,6 +63,7 @@ CALLS: Calls = {
     "find_ids": lambda graph: list(graph.find_ids(p=2, limit=500)),
     "find_numbers": lambda graph: list(graph.find_numbers(SUBJECT)),
     "id_array": lambda graph: graph.id_array(p=PREDICATE).array.tobytes(),
+    "ids": lambda graph: [graph.ids.page(p=3, start=9_000), list(graph.ids.find(p=2, limit=500))],
     "ids_with_prefix": lambda graph: graph.ids_with_prefix('"7', "object"),
     "matching_ids": lambda graph: graph.matching_ids(p=3),
     "number": lambda graph: graph.number("object", OBJECT),

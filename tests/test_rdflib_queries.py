@@ -371,7 +371,7 @@ def calls(graph: Graph, query: str, mode: str) -> Counter[str]:
             list(graph.query(query))
         finally:
             file.graph = counted.graph
-        counted.calls["searches"] = counted.calls["find_ids"] + counted.calls["page_ids"]
+        counted.calls["searches"] = counted.calls["find_ids"] + counted.calls["_first_ids"]
         return counted.calls
 
 

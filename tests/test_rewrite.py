@@ -363,8 +363,25 @@ def test_bad_block_sizes(probe: Probe) -> None:
     for block_size in 0, 65_536, 2**32 - 1:
         cases.append((("rewrite_bytes", block_size, b"http://a/"), ("bad", "options")))
         cases.append((("rewrite", block_size, b"http://a/", ALL, "-"), ("bad", "options", "")))
+        cases.append((("is_canonical", block_size), ok(False)))
     assert answered(probe, cases) == cases
     assert probe.ask("writes")[1:3] == ("0", "0")
+
+
+@pytest.mark.parametrize("name", ["three.hdt", "v1.hdt"])
+def test_one_byte_changed(probe: Probe, name: str) -> None:
+    """A canonical file, and one with a changed byte, the CRCs made right or not: canonical if it is the same."""
+    data = (SAMPLES / name).read_bytes()
+    for at in range(len(data)):
+        changed = data[:at] + bytes([data[at] ^ 1]) + data[at + 1:]
+        for file in {data, changed, checks.with_right_crcs(changed, reference.read_file), data[:at]}:
+            try:
+                read = reference.read_file(file)
+                wanted = rewritten(Written(file, read.head.body, read.denoted, True), 16)[1] == file.hex()
+            except reference.Error:
+                wanted = False
+            cases: list[Case] = [(("file", file), ok()), (("is_canonical", 16), ok(wanted))]
+            assert (at, answered(probe, cases)) == (at, cases)
 
 
 @pytest.mark.parametrize("how", ["", ":interrupted", ":zero"])
@@ -516,11 +533,13 @@ def test_any_file(probe: Probe, file: Written, block_size: int, step: int, room:
     cases: list[Case] = [
         (("file", file.data), ok()),
         (("verify",), ok(*reference.read_file(file.data).counts)),
+        (("is_canonical", block_size), ok(file.data == wanted)),
         (("rewrite_bytes", block_size, b""), answer),
         (("rewrite", block_size, b"", step, "-" if room is None else f"@{room}"),
          ("ok", *answer[2:], answer[1]) if whole else ("written", str(room), wanted[:room].hex())),
         (("file", wanted), ok()),
         (("verify_tight",), ok(*counts(file.triples))),
+        (("is_canonical", block_size), ok(True)),
         (("rewrite_bytes", block_size, b""), answer),
     ]
     seen = answered(probe, cases)

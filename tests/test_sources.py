@@ -9,6 +9,7 @@ from pathlib import Path
 import pytest
 
 from support.built import TOP
+from tools import definitions
 
 CRATES = sorted(it.name for it in (TOP / "crates").iterdir() if not it.name.startswith("hdt_probe"))
 # `rt fmt` writes an attribute on one line, however long its list of lemmas is. An import of one name cannot be parted,
@@ -53,3 +54,12 @@ def test_impls(crate: str) -> None:
             if found := IMPL.match(line):
                 files.setdefault(found[1], set()).add(path.name)
     assert {name: found for name, found in files.items() if len(found) > 2} == {}
+
+
+def test_definitions_have_names_of_their_own() -> None:
+    """Laws and operators aside, a name is defined once in the specs/ of all crates."""
+    places: dict[str, list[str]] = {}
+    for crate, module, name in definitions.definitions(TOP):
+        if "◌" not in name and not module.startswith("Laws."):
+            places.setdefault(name, []).append(f"{crate}: {module}")
+    assert {name: found for name, found in places.items() if len(found) > 1} == {}

@@ -28,8 +28,9 @@ from support.rdflib_package import hdt, store
 
 import rdflib
 from hdt import sparql
+from hdt._web.request import Refusal
 from hdt.sparql._worker import Stores
-from hdt.sparql._workers import Ended, Late, Worker
+from hdt.sparql._workers import Ended, Gone, Late, Worker
 
 assert store
 pytestmark = pytest.mark.filterwarnings("ignore")
@@ -137,7 +138,8 @@ def test_the_longest_query(site: Site) -> None:
 
 
 WRONG: dict[str, tuple[int, dict[str, Any]]] = {
-    "no query": (400, {}), "two queries": (400, {"query": "query=ASK%7B%7D&query=ASK%7B%7D"}),
+    "no query": (400, {"query": "x=y"}), "no posted query": (400, {"method": "POST", "CONTENT_TYPE": FORM}),
+    "two queries": (400, {"query": "query=ASK%7B%7D&query=ASK%7B%7D"}),
     "half an escape": (400, {"query": "query=%4"}), "no UTF-8": (400, {"query": "query=%ff"}),
     "an update": (400, {"query": "update=CLEAR+ALL"}), "an update beside": (400, {"query": "query=ASK%7B%7D&update=x"}),
     "a graph": (400, {"query": "query=ASK%7B%7D&default-graph-uri=http://127.0.0.1:1/"}),
@@ -208,6 +210,47 @@ def test_the_log(tmp_path: Path, caplog: pytest.LogCaptureFixture) -> None:
         assert not is_on or "PUT '/odd' 405 " in caplog.text
         caplog.clear()
         site.application.close()
+
+
+# ---- the description of the service
+
+SD, TERMS = "http://www.w3.org/ns/sparql-service-description#", "http://purl.org/dc/terms/"
+
+
+@pytest.mark.parametrize("media, form", [
+    ("", "turtle"), ("text/html,*/*;q=0.8", "turtle"), ("application/n-triples", "nt"),
+    ("application/ld+json", "json-ld"), ("application/rdf+xml", "xml")])
+def test_description(media: str, form: str, tmp_path: Path) -> None:
+    """Without a query the service is described, with what the header of the file says."""
+    site = Site(tmp_path)
+    evil = '</script>"\\\n\u202e\x01' if form != "xml" else '</script>"\\\n\u202e'  # (XML has no U+0001)
+    hdt.rewrite(site.path, site.path, header=hdt.metadata(
+        site.path, title=evil, license="javascript:alert(1)", issued="2026-11-29"))
+    got = site.ask(HTTP_ACCEPT=media, HTTP_HOST="a.example:8080", SCRIPT_NAME="/x y")
+    assert got.status == 200 and got.headers["Cache-Control"] == "no-store"
+    assert form != "turtle" or "@prefix sd: " in got.text
+    found = rdflib.Graph().parse(data=got.text, format=form)
+    service = found.value(None, rdflib.RDF.type, rdflib.URIRef(SD + "Service"))
+    assert str(found.value(service, rdflib.URIRef(SD + "endpoint"))) == "http://a.example:8080/x%20y/odd"
+    graph = found.value(None, rdflib.RDF.type, rdflib.URIRef(SD + "Graph"))
+    title, license = (found.value(graph, rdflib.URIRef(TERMS + name)) for name in ("title", "license"))
+    assert (title, license) == (rdflib.Literal(evil), rdflib.URIRef("javascript:alert(1)"))
+    assert str(found.value(graph, rdflib.URIRef("http://rdfs.org/ns/void#triples"))) == "4"
+    head = site.ask("HEAD", HTTP_ACCEPT=media, HTTP_HOST="a.example:8080", SCRIPT_NAME="/x y")
+    assert (head.status, head.body) == (200, b"")
+    for host in ("", 'a>."\n', "x" * 300):
+        assert "endpoint" not in site.ask(HTTP_HOST=host, HTTP_ACCEPT="application/n-triples").text
+    site.application.close()
+
+
+def test_description_of_nothing(tmp_path: Path) -> None:
+    """Of a header that says nothing there is no metadata; a client that takes no RDF gets 406."""
+    site = Site(tmp_path)
+    hdt.rewrite(site.path, site.path, header="# nothing")
+    got = site.ask()
+    assert (got.status, TERMS in got.text, "SPARQL11Query" in got.text) == (200, False, True)
+    assert site.ask(HTTP_ACCEPT="image/png").status == 406
+    site.application.close()
 
 
 # ---- formats
@@ -321,7 +364,7 @@ def test_an_answer_that_stays_away(tmp_path: Path, monkeypatch: pytest.MonkeyPat
     """A process that writes half an answer is late, or has ended."""
     for then, error in (("sleep 60", Late), ("exit", Ended)):
         script = tmp_path / "worker"
-        script.write_text('#!/bin/sh\necho ready\nread line\necho \'{"length": 9}\'\nprintf half\n' + then)
+        script.write_text('#!/bin/sh\necho ready\nread line\necho taken\necho \'{"length": 9}\'\nprintf half\n' + then)
         script.chmod(0o755)
         monkeypatch.setattr(sys, "executable", str(script))
         worker, began = Worker(100), time.monotonic()
@@ -331,6 +374,25 @@ def test_an_answer_that_stays_away(tmp_path: Path, monkeypatch: pytest.MonkeyPat
             assert time.monotonic() - began < 30
         finally:
             worker.end()
+
+
+@pytest.mark.parametrize("script, size, error", [
+    ("read line; echo taken", 1, Ended), ("read line", 1, Gone), ("kill -9 $$", 1 << 20, Gone)])
+def test_a_process_that_ends_without_an_answer(
+    tmp_path: Path, monkeypatch: pytest.MonkeyPatch, script: str, size: int, error: type[Ended],
+) -> None:
+    """Another process may get a query unless this one said that it has it."""
+    file = tmp_path / "worker"
+    file.write_text(f"#!/bin/sh\necho ready\n{script}\n")
+    file.chmod(0o755)
+    monkeypatch.setattr(sys, "executable", str(file))
+    worker = Worker(100)
+    try:
+        with pytest.raises(Ended) as raised:
+            worker.ask({"query": "x" * size}, 60)
+        assert raised.type is error
+    finally:
+        worker.end()
 
 
 def test_memory_is_limited(tmp_path: Path) -> None:
@@ -346,22 +408,26 @@ def test_memory_is_limited(tmp_path: Path) -> None:
 
 
 def test_a_process_that_ends(tmp_path: Path) -> None:
-    """Where a process is killed, its query is answered 503, and another process is started."""
+    """An idle process that was killed is replaced at the next query; a query whose process ends is answered 503."""
     site = Site(tmp_path, processes=1)
+    free = site.application.workers._free.queue
     try:
-        worker = site.application.workers._free.get()
-        site.application.workers._free.put(worker)
-        assert worker is None and site.get("ASK {}").status == 200
-        worker = site.application.workers._free.get()
-        site.application.workers._free.put(worker)
+        assert free[-1] is None and site.get("ASK {}").status == 200
+        worker = free[-1]
         assert worker and worker._process.poll() is None
         assert len(json.loads(site.get(LARGE).body)["results"]["bindings"][0]["x"]["value"]) == 1 << 18
-        assert worker is site.application.workers._free.queue[-1]
-        os.kill(worker._process.pid, signal.SIGKILL)
-        worker._process.wait()
-        assert site.get("ASK {}").status == 503
-        assert site.get("ASK {}").status == 200
-        worker = site.application.workers._free.queue[-1]
+        assert worker is free[-1]
+        for wait in (True, False):  # (without waiting the pipe may still take the query)
+            os.kill(worker._process.pid, signal.SIGKILL)
+            if wait:
+                worker._process.wait()
+            assert site.get("ASK {}").status == 200
+            worker, before = free[-1], worker
+            assert worker and worker is not before and before._process.poll() is not None
+        threading.Timer(1, os.kill, (worker._process.pid, signal.SIGKILL)).start()
+        assert site.get(SLOW).status == 503
+        assert free[-1] is None and site.get("ASK {}").status == 200
+        worker = free[-1]
     finally:
         site.application.close()
     assert worker and worker._process.poll() is not None
@@ -396,6 +462,26 @@ def test_a_file_stays_open(site: Site) -> None:
     stores = Stores()
     store = stores.store(str(site.path))
     assert stores.store(str(site.path)) is store
+    store.close()
+
+
+def test_a_damaged_file_is_tried_once(tmp_path: Path, capsys: pytest.CaptureFixture[str]) -> None:
+    """A damaged file is not read again for each query; one that takes its place is."""
+    stores, path = Stores(), tmp_path / "a.hdt"
+    for text in (b"$HDT nonsense", b"$HDT other nonsense"):
+        path.write_bytes(text)
+        for _ in range(3):
+            with pytest.raises(Refusal):
+                stores.store(str(path))
+        path.unlink()
+    assert capsys.readouterr().err.count("can't be opened: ") == 2
+    shutil.copy(SAMPLES / "three.hdt", path)
+    store = stores.store(str(path))
+    assert len(store) == 3
+    shutil.copy(SAMPLES / "v1-head.hdt", tmp_path / "cut.hdt")
+    os.replace(tmp_path / "cut.hdt", path)
+    assert [stores.store(str(path)) for _ in range(3)] == [store] * 3
+    assert capsys.readouterr().err.count("can't be opened: ") == 1
     store.close()
 
 

@@ -61,6 +61,16 @@ def test_mypy(tmp_path: Path) -> None:
     assert found("mypy", "--strict", "--cache-dir", tmp_path, *python_files(*FOLDERS)) == []
 
 
+PRIVATE = re.compile(r"^ *(?:from|import) hdt\.([a-z]\w*)(?:\.| import )_[a-z]\w*", re.M)
+
+
+def test_private_modules() -> None:
+    """No package in python/hdt imports a private module of another one; those of hdt itself are for all."""
+    files = [*(TOP / "python/hdt").glob("*/*.py")]
+    assert [it for it in files if set(PRIVATE.findall(it.read_text())) - {it.parent.name}] == []
+    assert any(PRIVATE.search(it.read_text()) for it in files)
+
+
 # ---- with a kit that only makes files, and without one
 
 KIT = {
@@ -154,7 +164,8 @@ def test_build_and_dist(tree: Tree) -> None:
     assert tree.hdt().status == 2
     assert tree.tool("build").status == 0 and tree.hdt() == PROGRAM
     (tree.top / "crates/hdt/src/main.rt").write_text("#!/bin/sh\necho another program\n")
-    assert tree.tool("dist") == Result(2, b"", b"hdt: out/ is not built from the sources as they are: make\n")
+    told = "hdt: nothing is built of the sources as they are: out/ does not belong to the sources: make\n"
+    assert tree.tool("dist") == Result(2, b"", told.encode())
     assert tree.tool("build", "--link").status == 2  # (what was proved was of older sources)
     assert tree.hdt().status == 2
 
@@ -213,17 +224,16 @@ def test_differential(tmp_path: Path) -> None:
     assert differing == {(b"verify", b"out"), (b"verify", b"err"), (b"dump", b"files")}
 
 
+@pytest.mark.skipif(not Path("/usr/bin/time").exists(), reason="there is no /usr/bin/time")
 def test_measuring(tmp_path: Path) -> None:
     """Each tool prints its table; a program that fails is told."""
-    fake = tmp_path / "hdt"
-    fake.write_text('#!/bin/sh\n[ "$1" != build ] || cp "$2" "$3"\n')
-    fake.chmod(0o755)
-    speed, memory = tool("speed", "200", "--program", fake), tool("memory", "--scale", "0.00001")
-    assert [len(re.findall(rb"^\| hdt .*\d \|$", speed.out, re.M)), speed.err] == [3 * 13, b""]
+    memory = tool("memory", "--scale", "0.00001")
     assert [len(re.findall(rb"^\| .* \| 59 to 100 \|", memory.out, re.M)), memory.err] == [5, b""]
     table = (TOP / "docs/SIZING.md").read_text()
     assert [line for line in memory.out.decode().splitlines()[2:4] if line not in table] == []
-    words = ["-B", "-m", "tools.speed_python", str(SAMPLES / "three.hdt"), "--times", "10", "--rounds", "1"]
-    python = run([sys.executable, *words], cwd=TOP, env={"HDT_LIBRARY": str(SHARED_LIBRARY)})
-    assert [len(re.findall(rb"^\| [a-z].*\d \|$", python.out, re.M)), python.err] == [10 + 5, b""]
-    assert tool("speed", "1", "--program", "/usr/bin/false").err.startswith(b"speed: /usr/bin/false build ")
+    shutil.copy("/usr/bin/false", tmp_path / "hdt")
+    words = [sys.executable, "-B", "-m", "tools.memory", "--scale", "0.00001"]
+    assert run(words, cwd=TOP, env={"HDT_BUILT": str(tmp_path)}).err.startswith(b"memory: ")
+    python = {"HDT_LIBRARY": str(SHARED_LIBRARY), "PYTHONPATH": "python"}
+    speed = run([sys.executable, "-B", "python/speed.py", SAMPLES / "three.hdt", "--rounds", "1"], cwd=TOP, env=python)
+    assert [len(re.findall(rb"^\| [a-z].*\d \|$", speed.out, re.M)), speed.err] == [14, b""]

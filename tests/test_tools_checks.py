@@ -68,11 +68,8 @@ TABLE = """\
 | The numbers. | `one`, `more::{one, two}` | `is`, `more` | `one_is_two`, `two_is_one` (by its clause `more`) |
 | What is inside. | `Thing::inner` of `more.rs` | the one clause | `other_mutant` in low |
 """
-BLOCKS = "".join(f"```rust\n    let {it};\n```\n\n" for it in ("first = 1", "second = 2", "first = 1"))
 FILES = {
     "crates.txt": "# the crates\nlow:\ntoy: low\ntoy_tests: toy\nhdt_probe: toy\nexample: toy\n",
-    "README.md": BLOCKS,
-    "docs/MORE.md": BLOCKS,
     "crates/low/PROMISES.md": TABLE.split("| It")[0] + "| Nothing. | (none) | (none) | `other_mutant` |\n",
     "crates/low/src/lib.rt": "",
     "crates/low/wrong/010_other_mutant.edit": "",
@@ -90,7 +87,7 @@ FILES = {
     "crates/toy_tests/src/lib.rt": "#[test]\nfn all() {}\n",
     "crates/hdt_probe/src/main.rt": "fn main() {}\n",
     "crates/example/PROMISES.md": "# example\n",
-    "crates/example/src/main.rt": "fn main() {\n    let first = 1;\n    let second = 2;\n}\n",
+    "crates/example/src/main.rt": "fn main() {\n}\n",
 }
 PROMISES, SOURCE = "crates/toy/PROMISES.md", "crates/toy/src/more.rt"
 # What is changed of a repository whose promises are right, and what is said of it.
@@ -110,12 +107,6 @@ CHANGES: list[tuple[str, str, str, list[str]]] = [
     ("crates/toy/src/lib.rt", "two;", "three;", ["toy: the exported function three is in no row"]),
     (SOURCE, "    fn inner", "    pub fn outer() {}\n    fn inner", ["toy: the exported function outer is in no row"]),
     (SOURCE, "/// One.", 'pub extern "C" fn c_one() {\n}\n\n', ["toy: the exported function c_one is in no row"]),
-    ("crates/low/specs/Lib.antt", "low", "high", ["high: defined in low/specs/Lib.antt and toy/specs/Lib.antt"]),
-    ("crates/low/specs/Lib.antt", "low :", "higher (n : Nat) : Type\nlow :", [
-        "higher: defined in low/specs/Lib.antt and toy/specs/Lib.antt"]),
-    ("docs/MORE.md", "let second = 2", "let second  = 2", [
-        "docs/MORE.md: this is not in crates/example/src/main.rt:", "    let second  = 2;", ""]),
-    ("README.md", "```rust", "```text", ["README.md and docs/*.md have 3 Rust blocks, and not at least 5"]),
     ("crates/low/src/lib.rt", "", "", []),
 ]
 
@@ -127,9 +118,8 @@ def test_promises(tmp_path: Path, file: str, old: str, new: str, wanted: list[st
     top = write(tmp_path, {**FILES, file: FILES[file].replace(old, new) if old else FILES[file]})
     status, out, err = tool("promises", "--top", top)
     *lines, last = out.decode().splitlines()
-    failed = sum(": " in it or it.startswith("README") for it in wanted)
     assert (lines, status, err) == (wanted, int(bool(wanted)), b"")
-    assert re.fullmatch(rf"[1-9]\d* passed, {failed} failed", last)
+    assert re.fullmatch(rf"[1-9]\d* passed, {len(wanted)} failed", last)
 
 
 @pytest.mark.parametrize("name", ["low", "toy", "example"])
@@ -151,8 +141,8 @@ def test_counts(tmp_path: Path) -> None:
         f"| toy | {code} | 5 | 1 | 2 | 1 | 2 | 0 |",
         "| toy_tests | 0 | 0 | 0 | 0 | 0 | 0 | 1 |",
         "| hdt_probe | 1 | 0 | 0 | 0 | 0 | 0 | 0 |",
-        "| example | 4 | 0 | 0 | 0 | 0 | 0 | 0 |",
-        f"| together | {code + 5} | 8 | 1 | 2 | 1 | 3 | 1 |",
+        "| example | 2 | 0 | 0 | 0 | 0 | 0 | 0 |",
+        f"| together | {code + 3} | 8 | 1 | 2 | 1 | 3 | 1 |",
     ]
 
 
@@ -257,57 +247,33 @@ def test_definitions_of_a_function(defined: Path) -> None:
 
 # ---- contracts
 
-LIBRARY = """\
-pub use one::{a, b, d};
-
-/// What it does.
-pub fn a(x: u8) -> u8
-    requires small { x < 9 }
-    ensures is { result ≡ x }
-    ensures { x ≡ x }
-{
-    x
-}
-
-pub fn b(self: &Self) -> u8
-    ensures low { 1 ≤ result }
-    ensures high { result ≤ 9 }
-{
-    1
-}
-
-fn c() {}
-
-pub fn d() {}
-"""
-# What is changed in it: the last four change no contract, but for the name of `b`.
-CONTRACT_CHANGES = {
-    "is { result ≡ x }": "is { result ≤ x }",
-    "ensures { x ≡ x }": "ensures more { x ≡ x }",
-    "\npub fn d() {}\n": "",
-    "1 ≤ result }": "1 ≤\n        result } // why",
-    "    x\n}": "    x + 0\n}",
-    "{a, b, d}": "{a, bee, d}",
-    "fn b(": "fn bee(",
-}
+# What is changed in the repository of promises: the last two change no contract.
+CONTRACT_CHANGES = [
+    (SOURCE, "result.number ≡ 0 }", "result.number ≤ 0 }"),
+    (SOURCE, "ensures more { result", "ensures { result"),
+    (SOURCE, "new() -> Thing", "new() -> Self"),
+    ("crates/toy/src/lib.rt", "more::two;", "more::{two, three};"),
+    ("crates/toy/src/lib.rt", "{Thing, one}", "Thing"),
+    (SOURCE, "result ≡ 2 }", "result ≡\n        2 } // why"),
+    (SOURCE, "    2\n}", "    2 + 0\n}"),
+]
 CONTRACTS = "import sys; from pathlib import Path; from tools import contracts; contracts.TOP = Path(sys.argv.pop(1))"
 
 
 def test_contracts(tmp_path: Path) -> None:
     """Each clause that is gone, new or another is reported; whitespace, comments and bodies are not."""
-    library, definition = "crates/one/src/lib.rt", "abbrev pub Small : ℕ → Type 0\nSmall n = n < "
-    write(tmp_path, {library: LIBRARY, "crates/one/specs/Small.antt": f"{definition}10\n", "names": "b bee\n"})
-    git = ["git", "-C", str(tmp_path), "-c", "user.name=a", "-c", "user.email=a@example.org"]
+    git = ["git", "-C", str(write(tmp_path, FILES)), "-c", "user.name=a", "-c", "user.email=a@example.org"]
     for command in (["init", "-q"], ["add", "-A"], ["commit", "-qm", "old"]):
         subprocess.run([*git, *command], check=True)
     words = [sys.executable, "-B", "-c", f"{CONTRACTS}; sys.exit(contracts.main())", str(tmp_path), "HEAD"]
     assert run(words, cwd=TOP) == (0, b"\n3 functions, 0 differences\n", b"")
-    changed = LIBRARY
-    for old, new in CONTRACT_CHANGES.items():
-        assert changed.count(old) == 1
-        changed = changed.replace(old, new)
-    write(tmp_path, {library: changed, "crates/one/specs/Small.antt": f"-- why\n{definition}9\n"})
-    status, out, err = run([*words, "--definitions", "--names", tmp_path / "names"], cwd=TOP)
-    found = [it for it in out.decode().splitlines() if not it.startswith("    ")]
-    wanted = ["a: ensures is", "a: ensures 1", "a: ensures more", "d: gone", "Small: definition"]
-    assert (status, err, found) == (1, b"", [*wanted, "2 functions, 5 differences"])
+    told: list[str] = []
+    for file, old, new in CONTRACT_CHANGES:
+        text = (tmp_path / file).read_text()
+        assert text.count(old) == 1
+        (tmp_path / file).write_text(text.replace(old, new))
+        status, out, err = run(words, cwd=TOP)
+        told, before = [it for it in out.decode().splitlines() if not it.startswith("    ")], told
+    wanted = ["Thing::new: signature", "Thing::new: ensures is", "one: gone", "three: new", "two: ensures more"]
+    assert (status, err, told) == (1, b"", [*wanted, "two: ensures 1", "3 functions, 6 differences"])
+    assert before == told

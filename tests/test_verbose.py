@@ -9,7 +9,7 @@ from typing import NamedTuple
 
 import pytest
 
-from reference import hdt as model
+from reference import damaged, hdt as model
 from support import terminal_errors
 from support.built import BUILT, SAMPLES
 from support.program import Result, Word, hdt
@@ -313,10 +313,10 @@ def test_no_triples(tmp_path: Path) -> None:
 # ---- errors of files
 
 
-@pytest.mark.parametrize("name", [name for name in errors.FILES if name != "Unused"])
+@pytest.mark.parametrize("name", [name for name in damaged.FILES if name != "Unused"])
 def test_file(name: str, tmp_path: Path) -> None:
     """The path, the offset, and what the error means."""
-    (tmp_path / "bad.hdt").write_bytes(errors.FILES[name][1])
+    (tmp_path / "bad.hdt").write_bytes(damaged.FILES[name])
     first, place, *more = verbose("verify", "bad.hdt", cwd=tmp_path)
     assert place == f"  bad.hdt: byte {first.rpartition(' ')[2]}"
     wanted = explained(name, "file")
@@ -342,7 +342,7 @@ def test_look_ups(tmp_path: Path) -> None:
 
 def test_not_a_term(tmp_path: Path) -> None:
     """How the string is printed that is no term, and which option does without it."""
-    (tmp_path / "bad.hdt").write_bytes(errors.NOT_A_TERM)
+    (tmp_path / "bad.hdt").write_bytes(damaged.NOT_A_TERM)
     lines = ["hdt: object 3 is not a term", "  bad.hdt", "  object 3: x",
              "  hdt string FILE object 3 prints the string"]
     skipping = [*lines, "  --skip-non-terms leaves out its triples"]

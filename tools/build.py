@@ -36,13 +36,8 @@ class Failed(Exception):
 
 def toolchain(name: str, *words: str | Path) -> None:
     """Run one of the kit's LLVM tools by its name. Raises Failed."""
-    ran = subprocess.run(
-        [name, *map(str, words)],
-        executable=kit() / "toolchain/bin/clang",
-        stdout=subprocess.PIPE,
-        stderr=subprocess.STDOUT,
-        text=True,
-    )
+    command, clang = [name, *map(str, words)], kit() / "toolchain/bin/clang"
+    ran = subprocess.run(command, executable=clang, stdout=subprocess.PIPE, stderr=subprocess.STDOUT, text=True)
     if ran.returncode:
         raise Failed(f"{name} failed: {ran.stdout.strip()}")
 
@@ -70,20 +65,13 @@ def prove() -> None:
     log.parent.mkdir(exist_ok=True)
     sources = manifest.sources()
     began, done, whole = time.monotonic(), 0, len(crates())
-    print(
-        f"hdt: proving {whole} crates on {lanes()} processors; CONTRIBUTING.md says how long that takes",
-        file=sys.stderr,
-    )
-    environment = {**os.environ, "RT_JOBS": os.environ.get("RT_JOBS", str(lanes()))}
+    told = f"proving {whole} crates on {lanes()} processors; CONTRIBUTING.md says how long that takes"
+    print(f"hdt: {told}", file=sys.stderr)
+    environment = {"RT_JOBS": str(lanes()), **os.environ}
+    pipe, both = subprocess.PIPE, subprocess.STDOUT
     with open(log, "w") as kept:
         ran = subprocess.Popen(
-            ["rt", "ci"],
-            cwd=TOP,
-            stdout=subprocess.PIPE,
-            stderr=subprocess.STDOUT,
-            text=True,
-            errors="replace",
-            env=environment,
+            ["rt", "ci"], cwd=TOP, stdout=pipe, stderr=both, text=True, errors="replace", env=environment
         )
         assert ran.stdout
         for line in ran.stdout:

@@ -3,9 +3,9 @@
     python3 -m tools.completions            write completions/
     python3 -m tools.completions --check    check that these files are what would be written
 
-A command or an option that the program has is in the next files. An argument is completed by its name: paths (`PATHS`)
-to file names, one with possible values to these, and others to nothing, as the values of options. The program is that
-of the folder HDT_BUILT, else the one that belongs to the sources (tools/current).
+This makes the lines between `# of the help:` and `# end`; the others are written by hand. An argument is completed by
+its name: paths (`PATHS`) to file names, one with possible values to these, and others to nothing, as the values of
+options. The program is that of the folder HDT_BUILT, else the one that belongs to the sources (tools/current).
 """
 
 from __future__ import annotations
@@ -16,12 +16,11 @@ import sys
 from collections.abc import Callable
 from typing import NamedTuple
 
-from tools.repository import TOP, built, command_line
+from tools.repository import TOP, built, command_line, with_parts
 
 # The arguments that are paths.
 PATHS = {"FILE", "IN", "OUT", "PATHS"}
 FOLDER = TOP / "completions"
-NOTE = "Completes the words of hdt in {}. Made by tools/completions.py from the program's help."
 
 
 class Argument(NamedTuple):
@@ -34,9 +33,7 @@ class Argument(NamedTuple):
     @property
     def suffix(self) -> str:
         """The suffix of the files that are offered first; empty if it is no path."""
-        if self.name not in PATHS:
-            return ""
-        return "hdt" if "HDT" in self.help else "nt"
+        return "" if self.name not in PATHS else "hdt" if "HDT" in self.help else "nt"
 
 
 class Option(NamedTuple):
@@ -67,8 +64,7 @@ def printed(*words: str) -> str:
 def rows(text: str, title: str) -> list[tuple[str, str]]:
     """Return the rows below a title of a help text: what stands in the first column, and its help."""
     block = re.search(rf"^{title}:\n((?:  .*\n?)+)", text, re.M)
-    found = [re.split(r"  +", line.strip(), maxsplit=1) for line in (block[1].splitlines() if block else [])]
-    return [(it[0], it[1] if len(it) > 1 else "") for it in found]
+    return re.findall(r"^ +(\S+(?: \S+)*)(?: {2,}(.*))?$", block[1], re.M) if block else []
 
 
 def argument(name: str, help: str) -> Argument:
@@ -80,19 +76,15 @@ def argument(name: str, help: str) -> Argument:
 
 def option(words: str, help: str) -> Option:
     """Return an option by its words, `-m, --most <N>`, and its help."""
-    spelled, _, value = words.partition(" ")
-    if spelled.endswith(","):
-        longer = option(value, help)
-        return longer._replace(words=[spelled[:-1], *longer.words])
-    it = argument(value, help)
-    return Option([spelled], it.help, it.name)
+    it = argument(words.partition(" <")[2], help)
+    return Option(re.findall(r"(?<!\S)-[\w-]+", words), it.help, it.name)
 
 
 def command(name: str, help: str) -> Command:
     """Return a command of the program, or by an empty name the program."""
     if name == "help":
         return Command(name, help, [Argument("COMMAND", "", [it for it, _ in rows(printed("-h"), "Commands")])], [])
-    text = printed(name, "-h") if name else printed("-h")
+    text = printed(*filter(None, [name]), "-h")
     arguments = [argument(*row) for row in rows(text, "Arguments")]
     return Command(name, help, arguments, [option(*row) for row in rows(text, "Options")])
 
@@ -102,113 +94,28 @@ def commands() -> list[Command]:
     return [command("", ""), *(command(*row) for row in rows(printed("-h"), "Commands"))]
 
 
+# ---- what each shell is told: the parts of its file
+
+
 def value_options(all_commands: list[Command]) -> list[str]:
     """Return the words of the options that take a value."""
     return list(dict.fromkeys(word for it in all_commands for o in it.options if o.value for word in o.words))
 
 
-# ---- bash
-
-BASH = r"""# @NOTE@
-_hdt() {
-    local word=${COMP_WORDS[COMP_CWORD]} line=$COMP_LINE count=0 skip="" i
-    local -a words=()
-    # (bash cuts words at : and =, too: pieces without a blank between them are one word)
-    for ((i = 0; i <= COMP_CWORD; i++)); do
-        if ((i == 0)) || [[ $line == [[:blank:]]* ]]; then
-            words+=("${COMP_WORDS[i]}")
-        else
-            words[-1]+=${COMP_WORDS[i]}
-        fi
-        line=${line#*"${COMP_WORDS[i]}"}
-    done
-    local current=${words[-1]} options="" arguments=""
-    unset 'words[-1]'
-    compopt +o default
-    COMPREPLY=()
-    if ((${#words[@]} == 1)); then
-        mapfile -t COMPREPLY < <(compgen -W "@COMMANDS@" -- "$word")
-        return
-    fi
-    # The options of the command, and how each of its arguments is completed.
-    case ${words[1]} in
-@CASES@    esac
-    for i in "${words[@]:2}"; do
-        case $skip$i in
-        =*) skip="" ;;
-        @VALUES@) skip="=" ;;
-        -?*) ;;
-        *) count=$((count + 1)) ;;
-        esac
-    done
-    [ -z "$skip" ] || return
-    case $current in
-    -?*)
-        mapfile -t COMPREPLY < <(compgen -W "$options" -- "$word")
-        return
-        ;;
-    esac
-    read -ra words <<<"$arguments"
-    case ${words[count]-} in
-    "") ;;
-    .*)
-        # (files with the suffix and folders; without such a file all)
-        mapfile -t COMPREPLY < <(compgen -f -X "!*${words[count]}" -- "$word")
-        compopt -o filenames -o default
-        ((${#COMPREPLY[@]} == 0)) || mapfile -t -O ${#COMPREPLY[@]} COMPREPLY < <(compgen -d -- "$word")
-        ;;
-    *) mapfile -t COMPREPLY < <(compgen -W "${words[count]//|/ }" -- "$word") ;;
-    esac
-}
-complete -o default -F _hdt hdt
-"""
-
-
-def long_words(it: Command) -> list[str]:
+def long_words(it: Command) -> str:
     """Return the options of a command, each by its last and longest word."""
-    return [option.words[-1] for option in it.options]
+    return " ".join(option.words[-1] for option in it.options)
 
 
-def bash_argument(it: Argument) -> str:
-    """Return how an argument is completed in bash: a suffix of files, words with | between, or - for nothing."""
-    return f".{it.suffix}" if it.suffix else "|".join(it.choices) or "|"
-
-
-def bash(all_commands: list[Command]) -> str:
-    """Return the completions for bash."""
+def bash(all_commands: list[Command]) -> list[str]:
+    """Return the parts for bash. An argument is a suffix of files, words with | between, or | for nothing."""
     first, *others = all_commands
     cases = ""
     for it in others:
-        arguments = " ".join(map(bash_argument, it.arguments))
-        cases += f'    {it.name}) options="{" ".join(long_words(it))}" arguments="{arguments}" ;;\n'
-    return filled(
-        BASH,
-        "bash",
-        {
-            "COMMANDS": " ".join([*(it.name for it in others), *long_words(first)]),
-            "CASES": cases,
-            "VALUES": " | ".join(value_options(all_commands)),
-        },
-    )
-
-
-# ---- zsh
-
-ZSH = r"""#compdef hdt
-# @NOTE@
-local -a commands=(
-@COMMANDS@)
-if (( CURRENT == 2 )); then
-    _describe -t commands command commands
-    _arguments @OPTIONS@
-    return
-fi
-local command=$words[2]
-shift words
-(( CURRENT -= 1 ))
-case $command in
-@CASES@esac
-"""
+        arguments = " ".join(f".{arg.suffix}" if arg.suffix else "|".join(arg.choices) or "|" for arg in it.arguments)
+        cases += f'    {it.name}) options="{long_words(it)}" arguments="{arguments}" ;;\n'
+    offered = f"{' '.join(it.name for it in others)} {long_words(first)}"
+    return [f'    commands="{offered}"\n', cases, f'        {" | ".join(value_options(all_commands))}) skip="=" ;;\n']
 
 
 def zsh_word(text: str) -> str:
@@ -216,68 +123,30 @@ def zsh_word(text: str) -> str:
     return "'" + text.replace("'", r"'\''") + "'"
 
 
-def zsh_action(it: Argument) -> str:
-    """Return how an argument is completed in zsh."""
-    return f'_files -g "*.{it.suffix}"' if it.suffix else f"({' '.join(it.choices)})" if it.choices else " "
+def zsh_argument(number: int, it: Argument) -> str:
+    """Return the specification of an argument for `_arguments`."""
+    action = f'_files -g "*.{it.suffix}"' if it.suffix else f"({' '.join(it.choices)})" if it.choices else " "
+    return zsh_word(f"{number}:{it.name}:{action}")
 
 
 def zsh_option(it: Option) -> list[str]:
     """Return the specifications of an option for `_arguments`."""
     help = re.sub(r"([\[\]:\\])", r"\\\1", it.help)
-    value = f":{it.value}: " if it.value else ""
-    alone = f"({' '.join(it.words)})"
-    return [zsh_word(f"{alone}{word}{'=' if it.value else ''}[{help}]{value}") for word in it.words]
+    equals, value = ("=", f":{it.value}: ") if it.value else ("", "")
+    return [zsh_word(f"({' '.join(it.words)}){word}{equals}[{help}]{value}") for word in it.words]
 
 
-def zsh(all_commands: list[Command]) -> str:
-    """Return the completions for zsh."""
+def zsh(all_commands: list[Command]) -> list[str]:
+    """Return the parts for zsh."""
     first, *others = all_commands
     cases = ""
     for it in others:
         words = [word for option in it.options for word in zsh_option(option)]
-        words += [zsh_word(f"{n}:{arg.name}:{zsh_action(arg)}") for n, arg in enumerate(it.arguments, 1)]
+        words += [zsh_argument(number, arg) for number, arg in enumerate(it.arguments, 1)]
         cases += f"{it.name})\n    _arguments -s " + " \\\n        ".join(words) + " ;;\n"
-    return filled(
-        ZSH,
-        "zsh",
-        {
-            "COMMANDS": "".join(f"    {zsh_word(f'{it.name}:{it.help}')}\n" for it in others),
-            "OPTIONS": " ".join(word for option in first.options for word in zsh_option(option)),
-            "CASES": cases,
-        },
-    )
-
-
-# ---- fish
-
-FISH = r"""# @NOTE@
-# Whether the next word is this argument, from 1, of this command.
-function __hdt_argument --argument-names command number
-    set -l words (commandline -opc)
-    test "$words[2]" = "$command"; or return 1
-    set -e words[1..2]
-    set -l count 1
-    set -l skip
-    for word in $words
-        switch "$skip$word"
-            case '=*'
-                set skip
-            case @VALUES@
-                set skip =
-            case '-?*'
-            case '*'
-                set count (math $count + 1)
-        end
-    end
-    test -z "$skip" -a $count = $number
-end
-# Whether the word after the program's name is this command; without one, whether there is none yet.
-function __hdt_command
-    set -l words (commandline -opc)
-    test "$words[2]" = "$argv"
-end
-complete -c hdt -f
-@LINES@"""
+    names = "".join(f"    {zsh_word(f'{it.name}:{it.help}')}\n" for it in others)
+    options = " ".join(word for option in first.options for word in zsh_option(option))
+    return [names, f"    _arguments {options}\n", cases]
 
 
 def fish_word(text: str) -> str:
@@ -291,8 +160,8 @@ def fish_option(it: Option) -> str:
     return f"{' '.join(words)}{' -x' if it.value else ''} -d {fish_word(it.help)}"
 
 
-def fish(all_commands: list[Command]) -> str:
-    """Return the completions for fish."""
+def fish(all_commands: list[Command]) -> list[str]:
+    """Return the parts for fish."""
     first, *others = all_commands
     lines = [f"-n '__hdt_command' -a {it.name} -d {fish_word(it.help)}" for it in others]
     lines += [f"-n '__hdt_command' {fish_option(option)}" for option in first.options]
@@ -302,39 +171,28 @@ def fish(all_commands: list[Command]) -> str:
             offered = f"'(__fish_complete_suffix .{arg.suffix})'" if arg.suffix else fish_word(" ".join(arg.choices))
             if arg.suffix or arg.choices:
                 lines.append(f"-n '__hdt_argument {it.name} {number}' -k -a {offered}")
-    return filled(
-        FISH,
-        "fish",
-        {
-            "VALUES": " ".join(value_options(all_commands)),
-            "LINES": "".join(f"complete -c hdt {line}\n" for line in lines),
-        },
-    )
+    values = f"            case {' '.join(value_options(all_commands))}\n"
+    return [values, "".join(f"complete -c hdt {line}\n" for line in lines)]
 
 
-# ---- the files
-
-FILES: dict[str, Callable[[list[Command]], str]] = {"hdt.bash": bash, "_hdt": zsh, "hdt.fish": fish}
-
-
-def filled(template: str, shell: str, values: dict[str, str]) -> str:
-    """Return a template with its names in @ @ replaced."""
-    return re.sub("@([A-Z]+)@", lambda it: {"NOTE": NOTE.format(shell), **values}[it[1]], template)
+FILES: dict[str, Callable[[list[Command]], list[str]]] = {"hdt.bash": bash, "_hdt": zsh, "hdt.fish": fish}
 
 
 def main() -> int:
     """Run the command line."""
     parser = command_line("completions", __doc__)
     parser.add_argument("--check", action="store_true", help="check the files and write nothing")
-    check = parser.parse_args().check
-    texts = {name: make(commands()) for name, make in FILES.items()}
-    different = [name for name, text in texts.items() if (FOLDER / name).read_text() != text]
-    if not check:
-        for name in different:
-            (FOLDER / name).write_text(texts[name])
-    for name in different:
+    check, found, different = parser.parse_args().check, commands(), False
+    for name, parts_of in FILES.items():
+        old = (FOLDER / name).read_text()
+        new = with_parts(old, parts_of(found))
+        if new == old:
+            continue
+        different = True
         print(f"completions/{name} {'differs from the help: python3 -m tools.completions' if check else 'is written'}")
-    return int(check and bool(different))
+        if not check:
+            (FOLDER / name).write_text(new)
+    return int(check and different)
 
 
 if __name__ == "__main__":

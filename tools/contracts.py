@@ -2,8 +2,7 @@
 
 A function is the same if its type and its name are, whichever crate and file it is in. Reported are functions that are
 gone or new, and of the others each clause that is gone, new or has another text, and a signature that differs.
-Whitespace, comments and the order of clauses make no difference. A file of renames has two identifiers a line, the old
-one and the new one; the old text is compared as renamed. With --definitions the definitions in specs/ are compared too.
+Whitespace, comments and the order of clauses make no difference.
 
 The last line is 'N functions, M differences', and the status is 1 if there are differences.
 """
@@ -14,81 +13,97 @@ import re
 import subprocess
 import sys
 import tempfile
-from collections.abc import Iterable, Iterator
+from collections.abc import Iterator
 from pathlib import Path
+from typing import NamedTuple, Optional
 
-from tools import rattle_text
-from tools.promises import DEFINITION, exported
 from tools.repository import TOP, command_line
 
-# The first words of a clause.
-CLAUSE = re.compile(r"\b(requires|ensures)(?:\s*\*)?\s+(?:(\w+)\s+)?(?=\{)")
-WORD = re.compile(r"[A-Za-z_][\w'-]*")
+# Where an `impl`, a type or a function begins, as `rt fmt` lays them out.
+ITEM = re.compile(r'^(?=impl\b|(?:pub )?(?:struct|enum) | *(?:pub\S* )?(?:const )?(?:extern "C" )?fn )', re.M)
+IMPL = re.compile(r"impl(?:<[^>]*>)?\s+([\w:<>', ]+ for )?(\w+)")
+FUNCTION = re.compile(r'( *)(pub )?(?:pub\(crate\) )?(?:const )?(extern "C" )?fn (\w+)')
+CLAUSE = re.compile(r"^\s*(requires|ensures)\b(?: *\*)?(?:\s+(\w+))?\s*(?=\{)", re.M)
 
+# The texts of a crate's src/, by path; the parts of a contract, by their names.
 Texts = dict[str, str]
 Parts = dict[str, str]
 
 
-def texts_of(top: Path, kind: str) -> Texts:
-    """Return the files of all crates of a tree with this ending, by path."""
-    return {str(it.relative_to(top)): it.read_text() for it in sorted(top.glob(f"crates/*/*/**/*.{kind}"))}
+class Function(NamedTuple):
+    """A function: the type in whose block it is, if any; whether users of the crate see it; what is before its body.
+
+    Without a name, it is what a block has before its functions.
+    """
+
+    path: str
+    owner: str
+    name: str
+    is_exported: bool
+    head: str
+    clauses: str
+
+    def parts(self) -> Parts:
+        """Return the signature, and the clauses by kind and label: those without a label are numbered."""
+        parts: Parts = {"signature": plain(self.head.partition(f"fn {self.name}")[2])}
+        for text in re.split(r"^(?=\s*(?:requires|ensures)\b)", self.clauses, flags=re.M):
+            if clause := CLAUSE.match(text):
+                label = clause[2] or str(sum(it.startswith(clause[1]) for it in parts))
+                parts[f"{clause[1]} {label}"] = plain(text[clause.end() :])
+        return parts
+
+
+def sources(crate: Path) -> Texts:
+    """Return the texts of a crate's code, without its tests, by path."""
+    files = [it for it in sorted(crate.glob("src/**/*.rt")) if not it.stem.endswith("tests")]
+    return {str(it.relative_to(crate)): it.read_text() for it in files}
+
+
+def exported(texts: Texts) -> Optional[set[str]]:
+    """Return the names that a library's root file exports, or nothing for a program, which exports all."""
+    if "src/main.rt" in texts:
+        return None
+    used = re.findall(r"^pub use [\w:]*?(\{[^}]*\}|\w+);", texts.get("src/lib.rt", ""), re.M)
+    return set(re.findall(r"\w+", " ".join(used)))
+
+
+def functions(texts: Texts) -> Iterator[Function]:
+    """Give the functions of a crate, and what its blocks have before theirs; a program shows all that is public."""
+    names = exported(texts)
+    for path, text in texts.items():
+        owner = ""
+        for part in ITEM.split(re.sub(r"//.*", "", text)):
+            if block := IMPL.match(part):
+                owner = block[2]
+                is_view = block[1] == "Model for " and (names is None or owner in names)
+                yield Function(path, owner, "", is_view, "", part)
+            elif function := FUNCTION.match(part):
+                indent, public, foreign, name = function.groups()
+                own = owner if indent else ""
+                is_exported = bool(public) and (names is None or (own or name) in names)
+                is_shown = is_exported or bool(foreign) or path == "src/main.rt"
+                yield Function(path, own, name, is_shown, *head_and_clauses(part))
+
+
+def head_and_clauses(function: str) -> tuple[str, str]:
+    """Return the text of a function before its clauses, and the clauses; its body begins with a line `{` then."""
+    body = re.search(r"^ *\{\}?$", function, re.M)
+    clause = CLAUSE.search(function[: body.start()]) if body else None
+    if not body or not clause:
+        return function.partition("{\n")[0].partition("{}")[0], ""
+    return function[: clause.start()], function[clause.start() : body.start()]
 
 
 def plain(text: str) -> str:
     """Return a text without comments, with one space for any whitespace."""
-    return " ".join(re.sub(r"^\s*(?://|--).*$", "", text, flags=re.M).split())
+    return " ".join(re.sub(r"^\s*--.*$", "", text, flags=re.M).split())
 
 
-def under(names: dict[str, str], found: Iterable[tuple[str, Parts]]) -> dict[str, Parts]:
-    """Return contracts or definitions with each identifier that has a new name under that."""
-
-    def renamed(text: str) -> str:
-        return WORD.sub(lambda it: names.get(it[0], it[0]), text)
-
-    return {renamed(name): {renamed(part): renamed(text) for part, text in parts.items()} for name, parts in found}
-
-
-def parts_of(head: str) -> Parts:
-    """Return the signature of a function, and its clauses by kind and label: those without a label are numbered."""
-    parts: Parts = {}
-    first = CLAUSE.search(head)
-    parts["signature"] = plain(head[: first.start()] if first else head)
-    at = first.start() if first else len(head)
-    while clause := CLAUSE.search(head, at):
-        items = rattle_text.tokens(head[clause.end() :])
-        end = rattle_text.after_block(items, 0)
-        at = clause.end() + items[end - 1][0] + 1
-        label = clause[2] or str(sum(it.startswith(clause[1]) for it in parts))
-        parts[f"{clause[1]} {label}"] = plain(head[clause.end() : at])
-    return parts
-
-
-def contracts(texts: Texts) -> Iterator[tuple[str, Parts]]:
-    """Give the exported functions of the crates: type and name, and the parts of the contract."""
-    crates = sorted({it.split("/")[1] for it in texts})
-    for crate in crates:
-        own = {it.split("/", 2)[2]: text for it, text in texts.items() if it.split("/")[1] == crate}
-        names = exported(own)
-        for text in own.values():
-            for function, start, _ in rattle_text.functions(text):
-                *owners, name = function.split("/")
-                if name not in names:
-                    continue
-                of = rattle_text.owner_of(owners[-1].split(" ")[1:])[0] if owners else ""
-                head = text[:start].rpartition(f"fn {name}")
-                if re.search(r"\bpub (extern \"C\" )?$", head[0].rpartition("\n")[2]):
-                    yield f"{of}::{name}" if of else name, parts_of(head[2])
-
-
-def definitions(texts: Texts) -> Iterator[tuple[str, Parts]]:
-    """Give the definitions in specs/, laws aside: the name, and the lines up to the next blank line."""
-    for path, text in texts.items():
-        if "/specs/" not in path or "/Laws" in path:
-            continue
-        for block in re.split(r"\n\s*\n", text):
-            found = DEFINITION.search(block)
-            if found:
-                yield found[1], {"definition": plain(block)}
+def contracts(crate: Texts) -> Iterator[tuple[str, Parts]]:
+    """Give the functions that a library exports: type and name, and the parts of the contract."""
+    for it in functions(crate) if exported(crate) is not None else ():
+        if it.name and it.is_exported:
+            yield f"{it.owner}::{it.name}" if it.owner else it.name, it.parts()
 
 
 def differences(old: dict[str, Parts], new: dict[str, Parts]) -> Iterator[str]:
@@ -107,20 +122,13 @@ def main() -> int:
     """Compare; return the exit status."""
     words = command_line("contracts", __doc__)
     words.add_argument("revision", metavar="REVISION", help="the earlier commit")
-    words.add_argument("--names", type=Path, metavar="FILE", help="what was renamed since then")
-    words.add_argument("--definitions", action="store_true", help="compare the definitions in specs/ too")
-    given = words.parse_args()
-    names = dict(line.split() for line in given.names.read_text().splitlines() if line) if given.names else {}
-    found: list[str] = []
+    archive = ["git", "-C", str(TOP), "archive", words.parse_args().revision, "crates"]
     with tempfile.TemporaryDirectory() as folder:
-        archive = ["git", "-C", str(TOP), "archive", given.revision, "crates"]
         data = subprocess.run(archive, check=True, stdout=subprocess.PIPE).stdout
         subprocess.run(["tar", "-x", "-C", folder], input=data, check=True)
-        new = dict(contracts(texts_of(TOP, "rt")))
-        found += differences(under(names, contracts(texts_of(Path(folder), "rt"))), new)
-        if given.definitions:
-            old = under(names, definitions(texts_of(Path(folder), "antt")))
-            found += differences(old, dict(definitions(texts_of(TOP, "antt"))))
+        crates = [sorted((top / "crates").iterdir()) for top in (Path(folder), TOP)]
+        old, new = (dict(it for crate in some for it in contracts(sources(crate))) for some in crates)
+    found = list(differences(old, new))
     print("\n".join(found))
     print(f"{len(new)} functions, {len(found)} differences")
     return int(bool(found))

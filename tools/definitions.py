@@ -23,8 +23,8 @@ from collections.abc import Iterator
 from pathlib import Path
 from typing import NamedTuple, Optional
 
-from tools import repository
-from tools.repository import TOP, command_line
+from tools import contracts
+from tools.repository import TOP, command_line, crates, print_table
 
 # A definition: its crate, its module in specs/, and its name.
 Name = tuple[str, str, str]
@@ -42,11 +42,6 @@ VARIABLES = re.compile(
 )
 # A field that a record is made with.
 FIELD = re.compile(r"[\w'-]+(?= =(?: |$))", re.M)
-IMPL = re.compile(r"impl(?:<[^>]*>)?\s+([\w:<>', ]+ for )?(\w+)")
-FUNCTION = re.compile(r'( *)(pub )?(?:pub\(crate\) )?(?:const )?(extern "C" )?fn (\w+)')
-CLAUSE = re.compile(r"\s*(?:requires|ensures)\b")
-# Where an `impl`, a type or a function begins.
-ITEM = re.compile(r'^(?=impl\b|(?:pub )?(?:struct|enum) | *(?:pub\S* )?(?:const )?(?:extern "C" )?fn )', re.M)
 
 
 def named(text: str, variables: str = "") -> Iterator[str]:
@@ -119,7 +114,7 @@ def blocks(text: str) -> dict[str, list[str]]:
 def definitions(top: Path) -> dict[Name, Definition]:
     """Return each definition in specs/ of each crate."""
     found: dict[Name, Definition] = {}
-    for crate in repository.crates(top):
+    for crate in crates(top):
         specs = top / "crates" / crate / "specs"
         for file in specs.rglob("*.antt"):
             module, text = ".".join(file.relative_to(specs).with_suffix("").parts), file.read_text()
@@ -129,53 +124,21 @@ def definitions(top: Path) -> dict[Name, Definition]:
     return found
 
 
-def exported(crate: Path) -> Optional[set[str]]:
-    """Return the names that a library's lib.rt exports, or nothing for a program, which exports all."""
-    if (crate / "src/main.rt").exists():
-        return None
-    lib = crate / "src/lib.rt"
-    text = lib.read_text() if lib.exists() else ""
-    return set(WORD.findall(" ".join(re.findall(r"^pub use [\w:]*?(\{[^}]*\}|\w+);", text, re.M | re.S))))
-
-
-def head_and_clauses(function: str) -> tuple[str, str]:
-    """Return the text of a function before its clauses, and the clauses; its body begins with a line `{` then."""
-    lines = function.split("\n")
-    first = next((i for i, line in enumerate(lines) if CLAUSE.match(line) or line.endswith("{")), len(lines))
-    end = next((i for i, line in enumerate(lines) if line.strip() in ("{", "{}")), first)
-    return "\n".join(lines[:first]), "\n".join(lines[first:end])
-
-
-def contracts(crate: Path, only: str = "") -> Iterator[Name]:
+def named_by_contracts(crate: Path, only: str = "") -> Iterator[Name]:
     """Give what the clauses of a crate's exported functions and the views of its types name, or one function's."""
-    names = exported(crate)
-    for file in (crate / "src").rglob("*.rt"):
-        if file.stem.endswith("tests"):
-            continue
-        text, owner = re.sub(r"//.*", "", file.read_text()), ""
-        imported = imports(text)
-        for part in ITEM.split(text):
-            is_shown, head, clauses = False, "", part
-            if block := IMPL.match(part):
-                owner = block[2]
-                is_shown = not only and block[1] == "Model for " and (names is None or owner in names)
-            elif function := FUNCTION.match(part):
-                indent, public, foreign, name = function.groups()
-                is_exported = bool(public) and (names is None or (owner if indent else name) in names)
-                is_shown = bool(foreign) or is_exported or names is None and file.stem == "main"
-                if only:
-                    is_shown = only == (f"{owner}::{name}" if indent else name)
-                head, clauses = head_and_clauses(part)
-            if is_shown:
-                parameters = " ".join(re.findall(r"\b(\w+): ", head))
-                yield from (imported[word] for word in named(clauses, parameters) if word in imported)
+    texts = contracts.sources(crate)
+    imported = {path: imports(text) for path, text in texts.items()}
+    for it in contracts.functions(texts):
+        if only == (f"{it.owner}::{it.name}" if it.owner else it.name) if only else it.is_exported:
+            words = named(it.clauses, " ".join(re.findall(r"\b(\w+): ", it.head)))
+            yield from (imported[it.path][word] for word in words if word in imported[it.path])
 
 
 def reached(found: dict[Name, Definition], top: Path, only: str = "") -> set[Name]:
     """Return the definitions that contracts of exported functions reach, or the contract of one function."""
     crate_of_only, _, function = only.partition("::")
-    crates = [crate_of_only] if only else repository.crates(top)
-    left = [it for crate in crates for it in contracts(top / "crates" / crate, function)]
+    some = [crate_of_only] if only else crates(top)
+    left = [it for crate in some for it in named_by_contracts(top / "crates" / crate, function)]
     seen: set[Name] = set()
     while left:
         at = left.pop()
@@ -185,23 +148,18 @@ def reached(found: dict[Name, Definition], top: Path, only: str = "") -> set[Nam
     return seen
 
 
-def print_table(found: dict[Name, Definition], seen: set[Name], top: Path) -> None:
-    """Print a table in Markdown with a row for each crate, and their sums."""
+COLUMNS = ["definitions reached", "their lines", "comments", "inside", "their lines", "laws", "their lines"]
+
+
+def row(crate: str, found: dict[Name, Definition], seen: set[Name]) -> list[int]:
+    """Return the numbers of a crate's row."""
+    numbers: list[int] = []
     laws = {at for at in found if at not in seen and at[1].startswith("Laws.")}
-    total = [0] * 7
-    print("| crate | definitions reached | their lines | comments | inside | their lines | laws | their lines |")
-    print("|---|---|---|---|---|---|---|---|")
-    for crate in repository.crates(top):
-        row: list[int] = []
-        for part in (seen, set(found) - seen - laws, laws):
-            own = [found[at] for at in part if at[0] == crate]
-            row += [len(own), sum(len(it.lines) for it in own)]
-            if part is seen:
-                row.append(sum(it.comments() for it in own))
-        total = [a + b for a, b in zip(total, row)]
-        if any(row):
-            print(f"| {crate} | {' | '.join(f'{it:,}' for it in row)} |")
-    print(f"| together | {' | '.join(f'{it:,}' for it in total)} |")
+    for part in (seen, set(found) - seen - laws, laws):
+        own = [found[at] for at in part if at[0] == crate]
+        numbers += [len(own), sum(len(it.lines) for it in own)]
+        numbers += [sum(it.comments() for it in own)] if part is seen else []
+    return numbers
 
 
 def main() -> int:
@@ -222,7 +180,8 @@ def main() -> int:
         lines, comments = sum(len(found[at].lines) for at in seen), sum(found[at].comments() for at in seen)
         print(f"{len(seen)} definitions, {lines} lines, {comments} of them comments")
     else:
-        print_table(found, seen, given.top)
+        rows = {crate: row(crate, found, seen) for crate in crates(given.top)}
+        print_table(COLUMNS, {crate: numbers for crate, numbers in rows.items() if any(numbers)})
     return 0
 
 

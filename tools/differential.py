@@ -25,7 +25,6 @@ from reference import hdt as reference
 from tools.repository import command_line
 
 SECONDS = 60
-ROLES = ["subject", "predicate", "object"]
 Strings = tuple[bytes, bytes, bytes]
 
 
@@ -51,18 +50,15 @@ class Outcome(NamedTuple):
 
 def iri(draw: random.Random) -> bytes:
     """Return an IRI; some are equal up to their last bytes, some have other characters than ASCII."""
-    prefix = draw.choice(
-        [b"u:", b"http://example.org/", b"http://example.org/resource/a-long-path/", "http://é/".encode()]
-    )
+    prefix = draw.choice([b"u:", *(f"http://{it}/".encode() for it in ("a.org", "a.org/resource/a-long-path", "é"))])
     return prefix + b"%d" % draw.randrange(draw.choice([3, 40, 3000]))
 
 
 def literal(draw: random.Random) -> bytes:
     """Return a literal as a dictionary string."""
-    text = draw.choice(
-        [b"", b"x", b'a"b\\c', b"line\nfeed\r\t", "€ 𝄞".encode(), b"%d" % draw.randrange(5000), b"y" * 300]
-    )
-    return b'"' + text + b'"' + draw.choice([b"", b"", b"@en", b"@de-AT-x", b"^^<u:t>", b"^^<http://example.org/type>"])
+    texts = [b"", b"x", b'a"b\\c', b"line\nfeed\r\t", "€ 𝄞".encode(), b"%d" % draw.randrange(5000), b"y" * 300]
+    suffixes = [b"", b"", b"@en", b"@de-AT-x", b"^^<u:t>", b"^^<http://example.org/type>"]
+    return b'"' + draw.choice(texts) + b'"' + draw.choice(suffixes)
 
 
 def triples(draw: random.Random) -> list[Strings]:
@@ -80,16 +76,9 @@ def triples(draw: random.Random) -> list[Strings]:
 def damaged(draw: random.Random, data: bytes) -> bytes:
     """Return bytes with a few changed, cut or added."""
     for _ in range(draw.randrange(1, 4)):
-        at = draw.randrange(len(data) + 1)
-        change = draw.randrange(4)
-        if change == 0:
-            data = data[:at]
-        elif change == 1:
-            data = data[:at] + bytes([draw.randrange(256)]) + data[at + 1 :]
-        elif change == 2:
-            data = data[:at] + bytes([draw.randrange(256)]) + data[at:]
-        else:
-            data = data[:at] + data[at + draw.randrange(1, 9) :]
+        at, byte = draw.randrange(len(data) + 1), bytes([draw.randrange(256)])
+        rests = [b"", byte + data[at + 1 :], byte + data[at:], data[at + draw.randrange(1, 9) :]]
+        data = data[:at] + draw.choice(rests)
     return data
 
 
@@ -122,147 +111,95 @@ def file(draw: random.Random, graph: list[Strings]) -> bytes:
 
 # Requests
 
+# Command lines, each as likely as another one: `[a b]` is there once in four times, `(a|b)` is one of these, and a word
+# of `drawn` is drawn.
+REQUESTS = """answer a.hdt RAW [--numbers] [--count] [--most N] [--skip-non-terms] [--verbose]
+build a.nt OUT [--block-size SIZE] [--base BASE]
+build a.nt OUT [--block-size SIZE] [--base BASE]
+count a.hdt ROLE [--raw] [--top N] [--verbose]
+dump a.hdt [--skip-non-terms] [--verbose]
+explain NUMBER
+find a.hdt S P O RAW [--numbers] [--count] [--most N] [--skip-non-terms] [--verbose] [--quiet]
+find a.hdt S P O RAW [--numbers] [--count] [--most N] [--skip-non-terms] [--verbose] [--quiet]
+head a.hdt
+info a.hdt [--json] [--verbose]
+lint a.nt [--keep] [--most N] [--verbose]
+merge a.hdt b.hdt OUT [--block-size SIZE] [--base BASE]
+number a.hdt RAW (subject s|predicate p|object o)
+rewrite a.hdt OUT [--block-size SIZE]
+split (a.nt|a.nt|a.nt b.nt|a.nt missing.nt) (--of 1/3|--of 2/2|--of 0/2|parts --parts 3|--parts 2) [--blank-nodes WORD]
+string a.hdt ROLE ID
+strings a.hdt ROLE [--terms] [--verbose] [PREFIX]
+verify a.hdt [--tight] [--terms] [--progress] [--no-progress] [--verbose]
+(|--version|--help|find|find a.hdt ?|no|head no|count a.hdt x)""".split("\n")
+ROLES = ["subject", "predicate", "object"]
+# What is drawn of a few.
+DRAWN = {
+    "BASE": ["http://example.org/é", "relative", "u:x y"],
+    "ID": ["0", "1", "2", "7", "100", str(10**19)],
+    "N": ["0", "1", "3", "1000"],
+    "NUMBER": [str(it) for it in range(90)],
+    "OUT": ["out.hdt", "out.hdt", "old.hdt", "/dev/stdout", "missing/out.hdt"],
+    "ROLE": ROLES,
+    "SIZE": ["1", "3", "100", "65535", "0", "65536", "x"],
+    "WORD": ["one", "apart", "x"],
+}
+
 
 def term(draw: random.Random, graph: list[Strings], role: int) -> bytes:
     """Return a string that may be one of the graph's in this role."""
     return draw.choice([draw.choice(graph)[role], draw.choice(graph)[role], iri(draw), literal(draw), b"", b"?"])
 
 
-def spelled(draw: random.Random, string: bytes, raw: bool) -> str:
+def spelled(string: bytes, raw: bool) -> str:
     """Return a string as an argument: itself, or as a term of N-Triples."""
-    if raw:
-        return os.fsdecode(string)
     try:
-        return os.fsdecode(ntriples.put_term(ntriples.string_term(string)))
+        return os.fsdecode(string if raw else ntriples.put_term(ntriples.string_term(string)))
     except ntriples.NotATerm:
         return os.fsdecode(string)
 
 
-def pattern(draw: random.Random, graph: list[Strings], raw: bool) -> list[str]:
-    """Return subject, predicate and object of a request; about half of them are `?`."""
-    return ["?" if draw.random() < 0.5 else spelled(draw, term(draw, graph, role), raw) for role in range(3)]
+def drawn(draw: random.Random, graph: list[Strings], word: str, raw: bool) -> str:
+    """Return what stands for a word of REQUESTS; a subject, predicate or object in capitals is `?` in half of them."""
+    if word in DRAWN:
+        return draw.choice(DRAWN[word])
+    if word == "PREFIX":
+        return "--prefix=" + os.fsdecode(term(draw, graph, draw.randrange(3))[: draw.randrange(12)])
+    if word.lower() not in ("s", "p", "o"):
+        return word
+    return "?" if word.isupper() and draw.random() < 0.5 else spelled(term(draw, graph, "spo".index(word.lower())), raw)
 
 
-def options(draw: random.Random, names: list[str]) -> list[str]:
-    """Return some of these options."""
-    chosen = []
-    for name in names:
-        if draw.random() < 0.25:
-            chosen += [name, str(draw.choice([0, 1, 3, 1000]))] if name in ("--most", "--top") else [name]
-    return chosen
+def words_of(draw: random.Random, graph: list[Strings], row: str, raw: bool) -> list[str]:
+    """Return the words of a row of REQUESTS."""
+    words: list[str] = []
+    for it in re.findall(r"\[.*?\]|\(.*?\)|\S+", row):
+        if it[0] == "(":
+            words += words_of(draw, graph, draw.choice(it[1:-1].split("|")), raw)
+        elif it[0] == "[":
+            words += words_of(draw, graph, it[1:-1], raw) if draw.random() < 0.25 else []
+        elif it != "RAW":
+            words.append(drawn(draw, graph, it, raw))
+        elif raw:
+            words.append("--raw")
+    return words
 
 
 def requests_of(draw: random.Random, graph: list[Strings], raw: bool) -> bytes:
     """Return the standard input of `answer`."""
-    between = "\t" if raw else " "
-    lines = [
-        between.join(pattern(draw, graph, raw)).replace("\n", "\\n") + draw.choice(["", "" if raw else " ."])
-        for _ in range(draw.randrange(6))
-    ]
+    patterns = [[drawn(draw, graph, it, raw).replace("\n", "\\n") for it in "SPO"] for _ in range(draw.randrange(6))]
+    lines = [("\t" if raw else " ").join(it) + draw.choice(["", "" if raw else " ."]) for it in patterns]
     text = os.fsencode("\n".join([*lines, draw.choice(["", "# a comment", "x"])]))
     return damaged(draw, text) if draw.random() < 0.2 else text
 
 
-def making(draw: random.Random, command: str, source: str) -> list[str]:
-    """Return the arguments of `build` or `rewrite`."""
-    out = draw.choice(["out.hdt", "out.hdt", "old.hdt", "/dev/stdout", "missing/out.hdt"])
-    words = [command, source, out]
-    if draw.random() < 0.4:
-        words += ["--block-size", draw.choice(["1", "3", "100", "65535", "0", "65536", "x"])]
-    if command == "build" and draw.random() < 0.3:
-        words += ["--base", draw.choice(["http://example.org/é", "relative", "u:x y"])]
-    return words
-
-
-COMMANDS = {
-    "answer": 1,
-    "build": 2,
-    "count": 1,
-    "dump": 1,
-    "explain": 1,
-    "find": 2,
-    "head": 1,
-    "info": 1,
-    "lint": 1,
-    "number": 1,
-    "rewrite": 1,
-    "split": 1,
-    "string": 1,
-    "strings": 1,
-    "usage": 1,
-    "verify": 1,
-}
-USAGES: list[list[str]] = [
-    [],
-    ["--version"],
-    ["--help"],
-    ["find"],
-    ["find", "a.hdt", "?"],
-    ["nothing"],
-    ["head", "missing.hdt"],
-    ["strings", "a.hdt", "verb"],
-]
-FINDING = ["--numbers", "--count", "--most", "--skip-non-terms", "--verbose"]
-
-
-def about_terms(draw: random.Random, command: str, graph: list[Strings], raw: bool) -> list[str]:
-    """Return the arguments of a command that takes a role."""
-    role = draw.randrange(3)
-    words = [command, "a.hdt", ROLES[role]]
-    if command == "count":
-        return words + options(draw, ["--raw", "--top", "--verbose"])
-    if command == "strings":
-        prefix = os.fsdecode(term(draw, graph, role)[: draw.randrange(12)])
-        return words + options(draw, ["--terms", "--verbose"]) + draw.choice([[], [], [f"--prefix={prefix}"]])
-    if command == "string":
-        return [*words, str(draw.choice([0, 1, 2, 7, 100, 10**19]))]
-    return [command, "a.hdt", *["--raw"][: int(raw)], ROLES[role], spelled(draw, term(draw, graph, role), raw)]
-
-
-def about_lines(draw: random.Random, command: str) -> list[str]:
-    """Return the arguments of a command that reads N-Triples and prints."""
-    if command == "lint":
-        return [command, "a.nt", *options(draw, ["--keep", "--most", "--verbose"])]
-    words = [command, *draw.choice([["a.nt"], ["a.nt"], ["a.nt", "b.nt"], ["a.nt", "missing.nt"]])]
-    parts = [["--of", "1/3"], ["--of", "2/2"], ["--of", "0/2"], ["parts", "--parts", "3"], ["--parts", "2"]]
-    words += draw.choice(parts)
-    return words + draw.choice([[], [], ["--blank-nodes", draw.choice(["one", "apart", "x"])]])
-
-
-def arguments(draw: random.Random, command: str, graph: list[Strings], raw: bool) -> list[str]:
-    """Return the arguments of a request."""
-    if command in ("count", "number", "string", "strings"):
-        return about_terms(draw, command, graph, raw)
-    if command in ("build", "rewrite"):
-        return making(draw, command, "a.nt" if command == "build" else "a.hdt")
-    if command in ("lint", "split"):
-        return about_lines(draw, command)
-    if command == "find":
-        words = [command, "a.hdt", *pattern(draw, graph, raw), *["--raw"][: int(raw)]]
-        return words + options(draw, [*FINDING, "--quiet"])
-    if command == "explain":
-        return [command, str(draw.randrange(90))]
-    of_file = {
-        "answer": [*FINDING, *["--raw"] * 4],
-        "dump": ["--skip-non-terms", "--verbose"],
-        "info": ["--json", "--verbose"],
-        "verify": ["--tight", "--terms", "--progress", "--no-progress", "--verbose"],
-    }
-    if command == "usage":
-        return draw.choice(USAGES)
-    return [command, "a.hdt", *options(draw, of_file.get(command, []))]
-
-
 def request(draw: random.Random) -> Request:
     """Return a request."""
-    graph = triples(draw)
+    graph, other, raw = triples(draw), triples(draw), draw.random() < 0.4
     files = {"a.nt": document(draw, graph), "a.hdt": file(draw, graph), "old.hdt": b"old"}
-    raw = draw.random() < 0.4
-    command = draw.choices(list(COMMANDS), list(COMMANDS.values()))[0]
-    words = arguments(draw, command, graph, raw)
-    if "b.nt" in words:
-        files["b.nt"] = document(draw, triples(draw))
-    stdin = requests_of(draw, graph, "--raw" in words) if command == "answer" else b""
+    words = words_of(draw, graph, draw.choice(REQUESTS), raw)
+    files |= {it: make(draw, other) for it, make in (("b.nt", document), ("b.hdt", file)) if it in words}
+    stdin = requests_of(draw, graph, raw) if words[:1] == ["answer"] else b""
     return Request([word.replace("\0", "") for word in words], stdin, files)
 
 
@@ -275,27 +212,22 @@ def outcome(program: Path, asked: Request) -> Outcome:
         folder = Path(name)
         for path, data in asked.files.items():
             (folder / path).write_bytes(data)
-        done = subprocess.run(
-            [program, *asked.words], input=asked.stdin, capture_output=True, cwd=folder, timeout=SECONDS
-        )
+        words = [str(program), *asked.words]
+        done = subprocess.run(words, input=asked.stdin, capture_output=True, cwd=folder, timeout=SECONDS)
         found = {str(path.relative_to(folder)): path.read_bytes() for path in folder.rglob("*") if path.is_file()}
     return Outcome(done.returncode, done.stdout, done.stderr, found)
 
 
-def compared(number: int, old: Path, new: Path, seed: int, skip: list[str], ignore: list[str]) -> tuple[str, str]:
+def compared(number: int, old: Path, new: Path, seed: int, ignore: list[str]) -> tuple[str, str]:
     """Run both programs on request `number`: its command with its status, and the difference or nothing."""
     asked = request(random.Random(seed * 1_000_003 + number))
-    command = asked.words[0] if asked.words else "nothing"
-    if command in skip:
-        return "skipped", ""
     before, after = outcome(old, asked), outcome(new, asked)
     if any(re.search(it.encode(), before.err + before.out) for it in ignore):
         return "ignored", ""
-    kind = f"{command} {before.status}"
-    if before == after:
-        return kind, ""
+    kind = f"{asked.words[0] if asked.words else 'nothing'} {before.status}"
     fields = [name for name in Outcome._fields if getattr(before, name) != getattr(after, name)]
-    return kind, f"request {number}: {asked.words} differs in {', '.join(fields)}: {shown(before)} and {shown(after)}"
+    told = f"request {number}: {asked.words} differs in {', '.join(fields)}: {shown(before)} and {shown(after)}"
+    return kind, told if fields else ""
 
 
 def shown(it: Outcome) -> str:
@@ -310,30 +242,14 @@ def main() -> int:
     parser.add_argument("new", type=Path, metavar="NEW", help="the program that is compared with it")
     parser.add_argument("--requests", type=int, default=2000, metavar="N", help="how many requests (2000)")
     parser.add_argument("--seed", type=int, default=1, metavar="N", help="another seed gives other requests (1)")
-    parser.add_argument("--skip", nargs="*", default=[], metavar="COMMAND", help="leave these commands out")
-    parser.add_argument(
-        "--ignore",
-        nargs="*",
-        default=[],
-        metavar="PATTERN",
-        help="leave requests out for which OLD prints one of these",
-    )
+    parser.add_argument("--ignore", nargs="*", default=[], metavar="PATTERN",
+                        help="leave requests out for which OLD prints one of these")
     given = parser.parse_args()
-    work = partial(
-        compared,
-        old=given.old.resolve(),
-        new=given.new.resolve(),
-        seed=given.seed,
-        skip=given.skip,
-        ignore=given.ignore,
-    )
-    kinds: Counter[str] = Counter()
-    differences = []
+    old, new = given.old.resolve(), given.new.resolve()
+    work = partial(compared, old=old, new=new, seed=given.seed, ignore=given.ignore)
     with ProcessPoolExecutor(len(os.sched_getaffinity(0))) as pool:
-        for kind, difference in pool.map(work, range(given.requests), chunksize=16):
-            kinds[kind] += 1
-            if difference:
-                differences.append(difference)
+        found = list(pool.map(work, range(given.requests), chunksize=16))
+    kinds, differences = Counter(kind for kind, _ in found), [difference for _, difference in found if difference]
     for kind, count in sorted(kinds.items()):
         print(f"{count:6} {kind}")
     for difference in differences[:50]:

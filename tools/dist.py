@@ -18,12 +18,9 @@ def main() -> int:
     """Run the command line."""
     command_line("dist", __doc__).parse_args()
     try:
-        made = manifest.read(manifest.BUILT)
+        made = manifest.current(manifest.BUILT)
     except (OSError, ValueError) as why:
-        print(f"hdt: nothing is built: {why}", file=sys.stderr)
-        return 2
-    if made.sources != manifest.sources() or manifest.altered(manifest.BUILT):
-        print("hdt: out/ is not built from the sources as they are: make", file=sys.stderr)
+        print(f"hdt: nothing is built of the sources as they are: {why}: make", file=sys.stderr)
         return 2
     to = manifest.SHIPPED / manifest.PLATFORM
     shutil.rmtree(to, ignore_errors=True)

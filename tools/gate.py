@@ -29,20 +29,14 @@ Counts = tuple[int, int]
 
 # What checks the scripts and packages; a user who runs the tests does without.
 MORE_PACKAGES = """aspell aspell-en codespell flake8 git lintian mypy python3-typeshed raptor2-utils serdi shellcheck
-    default-jdk-headless libapache-jena-java libjna-java junit5 python3-tqdm python3-zstandard zstd"""
+    default-jdk-headless libapache-jena-java libjna-java junit5 python3-tqdm python3-zstandard time zstd"""
 
 
 def run(*words: str, env: Mapping[str, str] | None = None) -> Counts:
     """Run a command, show what it prints, and return the counts of its last line; one failure if it ends otherwise."""
-    ran = subprocess.Popen(
-        words,
-        cwd=TOP,
-        stdout=subprocess.PIPE,
-        stderr=subprocess.STDOUT,
-        text=True,
-        errors="replace",
-        env={**os.environ, **(env or {})},
-    )
+    whole = {**os.environ, **(env or {})}
+    pipe, both = subprocess.PIPE, subprocess.STDOUT
+    ran = subprocess.Popen(words, cwd=TOP, stdout=pipe, stderr=both, text=True, errors="replace", env=whole)
     assert ran.stdout
     last = ""
     for line in ran.stdout:
@@ -51,11 +45,6 @@ def run(*words: str, env: Mapping[str, str] | None = None) -> Counts:
     found = re.match(r"(\d+) (?:passed|refused), (\d+) failed", last)
     passed, failed = (int(found[1]), int(found[2])) if found else (0, 1)
     return passed, max(failed, int(ran.wait() != 0))
-
-
-def module(name: str, *words: str) -> Counts:
-    """Run a module of this package as a command."""
-    return run(sys.executable, "-m", f"tools.{name}", *words)
 
 
 def proofs() -> Counts:
@@ -89,10 +78,8 @@ def dist() -> Counts:
     if shipped.sources != made.sources:
         wrong.append("dist/ is not made of the tree's sources")
     if shipped.kit == made.kit:
-        names = sorted({*shipped.files, *made.files})
-        wrong += [
-            f"{it} is not what was just proved and built" for it in names if shipped.files.get(it) != made.files.get(it)
-        ]
+        differing = (it for it in {*shipped.files, *made.files} if shipped.files.get(it) != made.files.get(it))
+        wrong += [f"{it} is not what was just proved and built" for it in sorted(differing)]
     else:
         print(f"dist: made with {shipped.kit}, and this kit is {made.kit}: not compared byte for byte; both are tested")
     for found in wrong:
@@ -113,17 +100,11 @@ def tests() -> Counts:
     return passed + good, failed + bad
 
 
-def processor_seconds() -> float:
-    """Return the CPU seconds of all commands that have ended."""
-    used = resource.getrusage(resource.RUSAGE_CHILDREN)
-    return used.ru_utime + used.ru_stime
-
-
 PARTS: dict[str, Callable[[], Counts]] = {
     "rt ci": proofs,
     "link": link,
-    "mutants": lambda: module("mutants", "--costs"),
-    "promises": lambda: module("promises"),
+    "mutants": lambda: run(sys.executable, "-m", "tools.mutants"),
+    "promises": lambda: run(sys.executable, "-m", "tools.promises"),
     "dist": dist,
     "tests": tests,
 }
@@ -139,14 +120,15 @@ def main() -> int:
     passed = failed = 0
     table = ["| part | minutes by the clock | CPU minutes | passed | failed |", "|---|---|---|---|---|"]
     for name in given.parts or PARTS:
-        clock, processor = time.monotonic(), processor_seconds()
+        clock, processor = time.monotonic(), sum(resource.getrusage(resource.RUSAGE_CHILDREN)[:2])
         print(f"== {name}", flush=True)
         try:
             good, bad = PARTS[name]()
         except (NoKit, build.Failed, OSError, ValueError) as why:
             print(f"{name}: {why}")
             good, bad = 0, 1
-        minutes, cpu = (time.monotonic() - clock) / 60, (processor_seconds() - processor) / 60
+        minutes = (time.monotonic() - clock) / 60
+        cpu = (sum(resource.getrusage(resource.RUSAGE_CHILDREN)[:2]) - processor) / 60  # (of commands that have ended)
         table.append(f"| {name} | {minutes:.1f} | {cpu:.1f} | {good:,} | {bad:,} |")
         passed, failed = passed + good, failed + bad
         if bad:

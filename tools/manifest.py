@@ -10,8 +10,8 @@ from __future__ import annotations
 import hashlib
 import re
 import subprocess
-from dataclasses import dataclass, field
 from pathlib import Path
+from typing import NamedTuple
 
 from tools.repository import TOP
 
@@ -20,14 +20,13 @@ SHIPPED = TOP / "dist"
 BUILT = TOP / "out"
 
 
-@dataclass
-class Manifest:
+class Manifest(NamedTuple):
     """What a MANIFEST says. `files` has the checksum and the size in bytes of each file, by its name."""
 
     kit: str
     glibc: str
     sources: str
-    files: dict[str, tuple[str, int]] = field(default_factory=dict)
+    files: dict[str, tuple[str, int]]
 
     def text(self) -> str:
         """Return the manifest as it is written."""
@@ -42,36 +41,28 @@ def checksum(path: Path) -> str:
 
 def sources() -> str:
     """Return the checksum of the tree's sources, as `tools/current --sources` computes it."""
-    return subprocess.run(
-        [TOP / "tools/current", "--sources"], check=True, stdout=subprocess.PIPE, text=True
-    ).stdout.strip()
-
-
-def glibc_of(files: list[Path]) -> str:
-    """Return the greatest version of glibc whose symbols these files name, as `2.34`."""
-    found = {
-        (int(major), int(minor)) for it in files for major, minor in re.findall(rb"GLIBC_(\d+)\.(\d+)", it.read_bytes())
-    }
-    return "{}.{}".format(*max(found, default=(2, 17)))
+    words = [str(TOP / "tools/current"), "--sources"]
+    return subprocess.run(words, check=True, stdout=subprocess.PIPE, text=True).stdout.strip()
 
 
 def describe(folder: Path, kit: str) -> Manifest:
-    """Return the manifest of the files in `folder`/PLATFORM, made with this kit of the tree's sources as they are."""
-    files = sorted(it for it in (folder / PLATFORM).iterdir() if it.is_file())
-    told = {f"{PLATFORM}/{it.name}": (checksum(it), it.stat().st_size) for it in files}
-    return Manifest(kit, glibc_of(files), sources(), told)
+    """Return the manifest of the files in `folder`/PLATFORM, made with this kit of the tree's sources as they are.
+
+    Its glibc is the greatest version whose symbols these files name.
+    """
+    files = {f"{PLATFORM}/{it.name}": it.read_bytes() for it in (folder / PLATFORM).iterdir() if it.is_file()}
+    named = [pair for data in files.values() for pair in re.findall(rb"GLIBC_(\d+)\.(\d+)", data)]
+    major, minor = max([(int(one), int(other)) for one, other in named], default=(2, 17))
+    told = {name: (hashlib.sha256(data).hexdigest(), len(data)) for name, data in sorted(files.items())}
+    return Manifest(kit, f"{major}.{minor}", sources(), told)
 
 
 def read(folder: Path) -> Manifest:
     """Read the manifest of a folder. Raises OSError, and ValueError where it is no manifest."""
     rows = [line.split(" ", 1) for line in (folder / "MANIFEST").read_text().splitlines() if " " in line]
     values = {word: value for word, value in rows if word != "file"}
-    files = {
-        name: (checksum, int(size))
-        for word, value in rows
-        if word == "file"
-        for checksum, size, name in [value.split(" ", 2)]
-    }
+    parts = [value.split(" ", 2) for word, value in rows if word == "file"]
+    files = {name: (checksum, int(size)) for checksum, size, name in parts}
     try:
         return Manifest(values["kit"], values["glibc"], values["sources"], files)
     except KeyError as missing:
@@ -80,9 +71,13 @@ def read(folder: Path) -> Manifest:
 
 def altered(folder: Path) -> list[str]:
     """Return the files of the folder's manifest that are missing or altered."""
-    files = read(folder).files
-    return [
-        name
-        for name, (wanted, _) in files.items()
-        if not (folder / name).is_file() or checksum(folder / name) != wanted
-    ]
+    files = read(folder).files.items()
+    return [it for it, (was, _) in files if not (folder / it).is_file() or checksum(folder / it) != was]
+
+
+def current(folder: Path) -> Manifest:
+    """Return the manifest of a folder whose files belong to the tree's sources. Raises OSError and ValueError."""
+    made = read(folder)
+    if made.sources != sources() or altered(folder):
+        raise ValueError(f"{folder.name}/ does not belong to the sources")
+    return made

@@ -44,7 +44,8 @@ import sys
 import tempfile
 import threading
 import time
-from collections.abc import Iterable, Iterator
+from collections import defaultdict
+from collections.abc import Iterable
 from concurrent.futures import ThreadPoolExecutor
 from datetime import date
 from functools import lru_cache
@@ -95,18 +96,16 @@ class Crate(repository.Crate):
 
     def inputs(self) -> str:
         """Return the checksum of all but the mutant that a judgement stands on."""
-        whole = hashlib.sha256()
-        for part in ("src", "specs", "proofs"):
-            for file in sorted(it for it in (self.folder / part).rglob("*") if it.is_file()):
-                read = without_comments(file.name, file.read_text())
-                whole.update(repr((str(file.relative_to(self.folder)), read)).encode())
-        for name in self.below():
-            folder = self.top / "crates" / name
-            for file in sorted(folder.glob("specs/**/*.antt")):
-                read = without_comments(file.name, file.read_text())
-                whole.update(repr((name, str(file.relative_to(folder)), read)).encode())
-            for file in sorted(folder.glob("src/**/*.rt")):
-                whole.update(repr((name, str(file.relative_to(folder)), interface(file.read_text()))).encode())
+        whole, below = hashlib.sha256(), {name: self.top / "crates" / name for name in self.below()}
+        for name, folder in {"": self.folder, **below}.items():
+            for part in ("specs/**/*.antt", "src/**/*.rt") if name else ("src/**/*", "specs/**/*", "proofs/**/*"):
+                for file in sorted(it for it in folder.glob(part) if it.is_file()):
+                    text, place = file.read_text(), str(file.relative_to(folder))
+                    if name:
+                        read = interface(text) if file.suffix == ".rt" else without_comments(file.name, text)
+                        whole.update(repr((name, place, read)).encode())
+                    else:
+                        whole.update(repr((place, without_comments(file.name, text))).encode())
         return whole.hexdigest()
 
     def with_mutants(self, mutants: list[Mutant]) -> dict[str, str]:
@@ -116,12 +115,7 @@ class Crate(repository.Crate):
         texts = {}
         for path in {path for it in mutants for path, _, _ in it.bodies}:
             rest, bodies = self.parts[path]
-            changed = {
-                (number, name): body
-                for it in mutants
-                for (file, number, name), body in it.bodies.items()
-                if file == path
-            }
+            changed = {at[1:]: body for it in mutants for at, body in it.bodies.items() if at[0] == path}
             texts[path] = rattle_text.joined(rest, bodies | changed)
         return texts
 
@@ -135,14 +129,14 @@ class Mutant:
         self.texts: dict[str, str] = {}
         self.bodies: dict[tuple[str, int, str], str] = {}
         self.functions: set[str] = set()
-        self.is_alone, self.seconds = False, 0.0
+        self.is_alone = False
 
     def inputs(self, of_crate: str) -> str:
         """Return the checksum of all that a judgement of this mutant stands on."""
         return hashlib.sha256(of_crate.encode() + self.file.read_bytes()).hexdigest()
 
-    def pairs(self) -> Iterator[tuple[str, str, str]]:
-        """Give each change: the file's path, the old text and the new one. Raises BadMutant."""
+    def apply(self) -> None:
+        """Make the changed texts. Raises BadMutant."""
         path = old = ""
         for line in self.file.read_text().split("\n"):
             if line.startswith("file: "):
@@ -152,20 +146,14 @@ class Mutant:
             elif line.startswith("new:"):
                 if not path or not old:
                     raise BadMutant("a 'new:' line comes before any 'file:' or 'old:' line")
-                yield path, old, line[4:].removeprefix(" ")
-                old = ""
+                if path not in self.crate.texts:
+                    raise BadMutant(f"there is no file {path} below src/")
+                text = self.texts.get(path, self.crate.texts[path])
+                if text.count(old) != 1:
+                    raise BadMutant(f"an 'old:' text is in {path} {text.count(old)} times, and not once")
+                self.texts[path], old = text.replace(old, line[4:].removeprefix(" ")), ""
         if old:
             raise BadMutant("the last 'old:' line has no 'new:' line")
-
-    def apply(self) -> None:
-        """Make the changed texts. Raises BadMutant."""
-        for path, old, new in self.pairs():
-            if path not in self.crate.texts:
-                raise BadMutant(f"there is no file {path} below src/")
-            text = self.texts.get(path, self.crate.texts[path])
-            if text.count(old) != 1:
-                raise BadMutant(f"an 'old:' text is in {path} {text.count(old)} times, and not once")
-            self.texts[path] = text.replace(old, new)
         if all(self.crate.texts[path] == text for path, text in self.texts.items()):
             raise BadMutant("it changes nothing")
 
@@ -181,16 +169,12 @@ class Mutant:
             if rest != was_rest or bodies.keys() != was.keys() or CYCLE.search(text):
                 self.is_alone, self.bodies, self.functions = True, {}, set()
                 return
-            changed = {
-                (path, number, name): body for (number, name), body in bodies.items() if body != was[number, name]
-            }
-            self.bodies |= changed
+            self.bodies |= {(path, *at): body for at, body in bodies.items() if body != was[at]}
         for path, _, name in self.bodies:
             found = rattle_text.names_of(self.crate.name, path, name, checked)
             if len(found) != 1:
-                raise BadMutant(
-                    f"which function of the check is {name} of {path}? It has {', '.join(found) or 'no such'}"
-                )
+                has = ", ".join(found) or "no such"
+                raise BadMutant(f"which function of the check is {name} of {path}? It has {has}")
             self.functions.add(found[0])
 
 
@@ -220,10 +204,7 @@ class Record:
 # An error that follows from another one.
 FOLLOWS = re.compile(r"declarations? that depends? on|imports? .* was not|which was (?:rejected|not admitted)")
 # What a proof file says if only a name is gone, or a step of the function.
-SHAPE = re.compile(
-    r"has no field|is not in scope|has no `|is no name|has no goal|there is no such|cannot be imported|"
-    r"does not export"
-)
+SHAPE = re.compile("has no (field|`|goal)|not in scope|is no name|there is no such|cannot be imported|does not export")
 IN_PROOFS = re.compile(r"(?:\./)?proofs/(\S+?)\.antt:\d+:\d+: error: (.*)")
 OPEN_GOAL = re.compile(r"note: src/\S+: (?:it is not proved that|`search` found no proof) .*?\((`[^`]+`)\)")
 LEFT_OPEN = re.compile(r"did not prove (`.*`)")
@@ -232,8 +213,8 @@ LEFT_OPEN = re.compile(r"did not prove (`.*`)")
 class Verdict:
     """What a check said of a tree: of each function whether it is proved, and why it is refused by itself."""
 
-    def __init__(self, crate: Crate, status: int, lines: list[str], costs: dict[str, float]) -> None:
-        self.status, self.lines, self.costs, self.seconds = status, lines, costs, sum(costs.values())
+    def __init__(self, crate: Crate, status: int, lines: list[str], seconds: float) -> None:
+        self.status, self.lines, self.seconds = status, lines, seconds
         self.proved: dict[str, bool] = {}
         self.goals: dict[str, list[str]] = {}
         self.shapes: dict[str, list[str]] = {}
@@ -278,59 +259,21 @@ class Verdict:
         return next((it for it in self.lines if "error" in it), self.lines[-1])[:200]
 
 
-def of_functions(kept: dict[str, list[str]], names: set[str]) -> dict[str, str]:
-    """Return the first reason of each of the functions named, and of the closures in them."""
-    return {it: why[0] for it, why in kept.items() if outer_function(it) in names}
-
-
 def outer_function(name: str) -> str:
     """Return the function that a closure of a check is in: `C::m::f` of `C::m::fn::f::g`."""
     module, _, inner = name.partition("::fn::")
     return f"{module}::{inner.split('::')[0]}" if inner else name
 
 
-def seconds_of(process: int) -> float:
-    """Return the CPU seconds of a process and of those that it has waited for."""
-    try:
-        fields = Path(f"/proc/{process}/stat").read_text().rpartition(")")[2].split()
-    except OSError:
-        return 0.0
-    return sum(int(it) for it in fields[11:15]) / os.sysconf("SC_CLK_TCK")
-
-
-def run_check(words: list[str], folder: str) -> tuple[int, list[str], dict[str, float]]:
-    """Return status and lines of a check, and the CPU seconds of each function's proof."""
-    ran = subprocess.Popen(
-        words,
-        cwd=folder,
-        stdin=subprocess.DEVNULL,
-        stdout=subprocess.PIPE,
-        stderr=subprocess.STDOUT,
-        text=True,
-        errors="replace",
-    )
+def run_check(words: list[str], folder: str) -> tuple[int, list[str], float]:
+    """Return status, lines and CPU seconds of a check."""
+    nothing, pipe, both = subprocess.DEVNULL, subprocess.PIPE, subprocess.STDOUT
+    ran = subprocess.Popen(words, cwd=folder, stdin=nothing, stdout=pipe, stderr=both, text=True, errors="replace")
     assert ran.stdout
-    lines: list[str] = []
-    costs: dict[str, float] = {}
-    before = 0.0
-    for line in ran.stdout:
-        if found := re.match(r"checked (\S+), \d+ of \d+", line):
-            now = seconds_of(ran.pid)
-            costs[found[1]], before = costs.get(found[1], 0.0) + now - before, now
-        else:
-            lines.append(line.rstrip("\n"))
+    lines = ran.stdout.read().splitlines()
     _, status, usage = os.wait4(ran.pid, 0)
     ran.returncode = os.waitstatus_to_exitcode(status)
-    costs[""] = usage.ru_utime + usage.ru_stime - before
-    return ran.returncode, lines or ["it said nothing"], costs
-
-
-def link_or_copy(one: str, other: str) -> None:
-    """Link a module, which a check replaces and never changes; copy any other file."""
-    if one.endswith(".oantt"):
-        os.link(one, other)
-    else:
-        shutil.copy2(one, other)
+    return ran.returncode, lines or ["it said nothing"], usage.ru_utime + usage.ru_stime
 
 
 def check(crate: Crate, texts: dict[str, str], kept: Path) -> Verdict:
@@ -338,6 +281,13 @@ def check(crate: Crate, texts: dict[str, str], kept: Path) -> Verdict:
 
     `kept` gains work only if no text is given.
     """
+
+    def link_or_copy(one: str, other: str) -> None:
+        if one.endswith(".oantt"):  # (a check replaces a module, and never changes it)
+            os.link(one, other)
+        else:
+            shutil.copy2(one, other)
+
     with tempfile.TemporaryDirectory(prefix="hdt-mutants-") as room:
         for part in ("src", "specs", "proofs"):
             if (crate.folder / part).is_dir():
@@ -345,14 +295,12 @@ def check(crate: Crate, texts: dict[str, str], kept: Path) -> Verdict:
         for path, text in texts.items():
             Path(room, "crate", path).write_text(text)
         if texts:
-            shutil.copytree(kept, f"{room}/kept", copy_function=link_or_copy)
-            kept = Path(room, "kept")
-        words = [*crate.rattle("check"), "--jobs", "1", "--progress", "--incremental", str(kept)]
-        status, lines, costs = run_check(words, f"{room}/crate")
-        if status == -signal.SIGKILL:
-            # (most likely for memory)
-            status, lines, costs = run_check(words, f"{room}/crate")
-    return Verdict(crate, status, lines, costs)
+            kept = Path(shutil.copytree(kept, f"{room}/kept", copy_function=link_or_copy))
+        words = [*crate.rattle("check"), "--jobs", "1", "--incremental", str(kept)]
+        ran = run_check(words, f"{room}/crate")
+        if ran[0] == -signal.SIGKILL:  # (most likely for memory)
+            ran = run_check(words, f"{room}/crate")
+    return Verdict(crate, *ran)
 
 
 # ---- judging
@@ -376,18 +324,16 @@ class Trial:
     """A run of this command, and what came of it."""
 
     def __init__(self, given: argparse.Namespace) -> None:
-        self.given, self.lanes, self.printing = given, threading.Semaphore(given.jobs), threading.Lock()
+        self.given, self.lanes, self.lock = given, threading.Semaphore(given.jobs), threading.RLock()
         self.refused: dict[str, tuple[str, str]] = {}
         self.failed: list[str] = []
-        self.seconds: dict[str, float] = {}
-        self.judged: list[Mutant] = []
+        self.seconds: defaultdict[str, float] = defaultdict(float)
         # The inputs that each crate had when its mutants were begun.
         self.inputs: dict[Crate, str] = {}
-        self.writing = threading.Lock()
 
     def say(self, text: str) -> None:
         """Print a line."""
-        with self.printing:
+        with self.lock:
             print(text, flush=True)
 
     def fail(self, label: str, why: str) -> None:
@@ -399,8 +345,8 @@ class Trial:
         """Run one check when a lane is free."""
         with self.lanes:
             verdict = check(crate, texts, kept)
-        with self.printing:
-            self.seconds[crate.name] = self.seconds.get(crate.name, 0.0) + verdict.seconds
+        with self.lock:
+            self.seconds[crate.name] += verdict.seconds
         return verdict
 
     def tree(self, crate: Crate, tree: list[Mutant], kept: Path) -> list[Mutant]:
@@ -409,28 +355,23 @@ class Trial:
         changed = {name for it in tree for name in it.functions}
         refused = [] if tree[0].is_alone else [*verdict.goals, *verdict.shapes]
         strange = [it for it in refused if outer_function(it) not in changed]
-        judges, why = verdict.is_judged() and not strange, ""
-        if not judges:
-            reason = f"{strange[0]} is refused, which no mutant changes" if strange else verdict.first_error()
-            why = f"; it judges nothing: {reason}"
-        self.say(f"-- {crate.name}: a tree of {len(tree)}, {verdict.seconds:.0f} CPU seconds{why}")
-        for it in tree:
-            it.seconds += sum(cost for name, cost in verdict.costs.items() if outer_function(name) in it.functions)
-            if it.is_alone:
-                it.seconds = verdict.seconds
+        judges, why = verdict.is_judged() and not strange, verdict.first_error()
+        why = f"{strange[0]} is refused, which no mutant changes" if strange else why
+        said = "" if judges else f"; it judges nothing: {why}"
+        self.say(f"-- {crate.name}: a tree of {len(tree)}, {verdict.seconds:.0f} CPU seconds{said}")
         left = [it for it in tree if not self.judge(it, verdict, judges, len(tree) == 1)]
         self.write(crate, [it for it in tree if it not in left])
         return left
 
     def judge(self, mutant: Mutant, verdict: Verdict, judges: bool, is_last: bool) -> bool:
         """Say what a tree says of a mutant, and return whether it says anything."""
-        if mutant.is_alone:
-            goals = {it: why[0] for it, why in verdict.goals.items()}
-            goals |= {"a lemma": it for it in verdict.lemmas[:1]}
-            shapes = {it: why[0] for it, why in verdict.shapes.items()}
-        else:
-            goals = of_functions(verdict.goals, mutant.functions)
-            shapes = of_functions(verdict.shapes, mutant.functions)
+
+        def own(kept: dict[str, list[str]]) -> dict[str, str]:
+            """Return the first reason of each of the mutant's functions, and of the closures in them; alone, of all."""
+            return {it: kept[it][0] for it in kept if mutant.is_alone or outer_function(it) in mutant.functions}
+
+        lemmas = {"a lemma": it for it in verdict.lemmas[:1]} if mutant.is_alone else {}
+        goals, shapes = own(verdict.goals) | lemmas, own(verdict.shapes)
         if judges and goals:
             name, why = next(iter(goals.items()))
             self.refused[mutant.label] = name, why[:110]
@@ -442,26 +383,12 @@ class Trial:
         elif not verdict.is_judged():
             self.fail(mutant.label, f"BAD MUTANT: it did not reach the prover: {verdict.first_error()}")
         elif shapes:
-            self.fail(
-                mutant.label,
-                f"SHOWS NOTHING: {next(iter(shapes))} is refused only because a proof written by hand "
-                "no longer fits its body: give the mutant another form",
-            )
+            only = "only because a proof written by hand no longer fits its body: give the mutant another form"
+            self.fail(mutant.label, f"SHOWS NOTHING: {next(iter(shapes))} is refused {only}")
         else:
             names = ", ".join(sorted(mutant.functions)) or "any goal"
             self.fail(mutant.label, f"NOT REFUSED by {names}: no goal of its own fails; {verdict.first_error()}")
         return True
-
-    def read(self, mutants: list[Mutant], checked: Iterable[str]) -> list[Mutant]:
-        """Return the mutants that can be judged; the others fail."""
-        good = []
-        for mutant in mutants:
-            try:
-                mutant.read(checked)
-                good.append(mutant)
-            except (BadMutant, OSError, UnicodeDecodeError) as why:
-                self.fail(mutant.label, f"BAD MUTANT: {why}")
-        return good
 
     def crate(self, crate: Crate, mutants: list[Mutant], kept: Path) -> None:
         """Judge mutants of a crate, over the work of a check of the unchanged crate."""
@@ -471,10 +398,14 @@ class Trial:
         self.say(f"-- {crate.name}: unchanged, {base.seconds:.0f} CPU seconds")
         if base.status or not base.lines[-1].startswith("logic=proved"):
             return self.fail(crate.name, f"it is not proved without a mutant: {base.first_error()}")
-        left = self.read(mutants, base.proved)
+        left, most = [], self.given.most
+        for mutant in mutants:
+            try:
+                mutant.read(base.proved)
+                left.append(mutant)
+            except (BadMutant, OSError, UnicodeDecodeError) as why:
+                self.fail(mutant.label, f"BAD MUTANT: {why}")
         self.write(crate, [it for it in mutants if it not in left])
-        self.judged += left
-        most = self.given.most
         while left:
             trees = trees_of(left, most)
             with ThreadPoolExecutor(len(trees)) as pool:
@@ -497,7 +428,7 @@ class Trial:
 
     def write(self, crate: Crate, judged: list[Mutant]) -> None:
         """Write judgements into the crate's record, unless its sources have changed. An interrupted run keeps them."""
-        with self.writing:
+        with self.lock:
             of_crate = crate.inputs()
             if of_crate != self.inputs[crate] or self.given.folder != "wrong":
                 return
@@ -511,13 +442,6 @@ class Trial:
                     record.entries.pop(mutant.name, None)
             record.write(it.name for it in crate.mutants("wrong", ""))
 
-    def say_costs(self) -> None:
-        """Print the CPU seconds of the crates, and the dearest mutants by the proofs of their functions."""
-        for name, seconds in sorted(self.seconds.items(), key=lambda it: -it[1]):
-            self.say(f"{seconds:7.0f} CPU seconds for {name}")
-        for mutant in sorted(self.judged, key=lambda it: -it.seconds)[:20]:
-            self.say(f"{mutant.seconds:7.1f} CPU seconds for {mutant.label}")
-
 
 def drawn(mutants: list[Mutant], seed: str) -> list[Mutant]:
     """Return a sample of at least SAMPLE of the mutants, from as few crates as that takes.
@@ -525,36 +449,23 @@ def drawn(mutants: list[Mutant], seed: str) -> list[Mutant]:
     Each judged crate has to be proved once more, so the crate of the mutant that the seed draws first gives as many as
     it has. A mutant of a crate that is larger than the sample is as likely as any other of these.
     """
-
-    def order(it: Mutant) -> bytes:
-        return hashlib.sha256(f"{seed} {it.label}".encode()).digest()
-
-    wanted = math.ceil(len(mutants) * SAMPLE)
-    found: list[Mutant] = []
-    left = sorted(mutants, key=order)
-    while len(found) < wanted:
-        crate = left[0].crate
-        found += [it for it in left if it.crate is crate][: wanted - len(found)]
-        left = [it for it in left if it.crate is not crate]
-    return found
+    left = sorted(mutants, key=lambda it: hashlib.sha256(f"{seed} {it.label}".encode()).digest())
+    crates = list(dict.fromkeys(it.crate.name for it in left))
+    return sorted(left, key=lambda it: crates.index(it.crate.name))[: math.ceil(len(mutants) * SAMPLE)]
 
 
 def commit(top: Path) -> str:
     """Return the commit that is checked out, or nothing if there is none."""
-    try:
-        ran = subprocess.run(
-            ["git", "-C", str(top), "rev-parse", "HEAD"], stdout=subprocess.PIPE, stderr=subprocess.DEVNULL, text=True
-        )
-    except OSError:
+    words = ["git", "-C", str(top), "rev-parse", "HEAD"]
+    if not shutil.which("git"):
         return ""
-    return ran.stdout.strip()
+    return subprocess.run(words, stdout=subprocess.PIPE, stderr=subprocess.DEVNULL, text=True).stdout.strip()
 
 
 def most_jobs() -> int:
     """Return how many checks run side by side: one a processor, as memory allows."""
     found = re.search(r"MemAvailable:\s+(\d+)", Path("/proc/meminfo").read_text())
-    memory = int(found[1]) * 1024 if found else CHECK_BYTES
-    return max(1, min(len(os.sched_getaffinity(0)), memory // CHECK_BYTES))
+    return max(1, min(len(os.sched_getaffinity(0)), int(found[1]) * 1024 // CHECK_BYTES if found else 1))
 
 
 def words_given() -> argparse.Namespace:
@@ -562,10 +473,7 @@ def words_given() -> argparse.Namespace:
     words = command_line("mutants", __doc__)
     words.add_argument("crates", nargs="*", metavar="CRATE", help="crates of crates.txt (all)")
     words.add_argument("--all", action="store_true", help="judge every mutant, also those judged for the same inputs")
-    words.add_argument(
-        "--list", action="store_true", help="judge nothing; say which are not judged for the sources as they are"
-    )
-    words.add_argument("--costs", action="store_true", help="list the dearest mutants, and what each crate took")
+    words.add_argument("--list", action="store_true", help="judge nothing; say which are not judged for these sources")
     words.add_argument("--only", default="", metavar="WORD", help="the mutants whose name the regular expression finds")
     words.add_argument("--folder", default="wrong", metavar="NAME", help="the mutants of crates/CRATE/NAME (wrong)")
     words.add_argument("--jobs", type=int, default=most_jobs(), metavar="N", help="N checks at a time")
@@ -583,13 +491,10 @@ def chosen(crates: list[Crate], given: argparse.Namespace) -> tuple[dict[Crate, 
         known = [] if given.all else [it for it in mutants if record.has(it, of_crate)]
         work[crate] = [it for it in mutants if it not in known]
         current += known
-    if not given.list and not given.only:
-        for mutant in drawn(current, commit(given.top)):
-            work[mutant.crate].append(mutant)
-    judged = sum(len(it) for it in work.values())
-    return {crate: mutants for crate, mutants in work.items() if mutants}, sum(
-        len(it.mutants(given.folder, given.only)) for it in crates
-    ) - judged
+    sample = [] if given.list or given.only else drawn(current, commit(given.top))
+    for mutant in sample:
+        work[mutant.crate].append(mutant)
+    return {crate: mutants for crate, mutants in work.items() if mutants}, len(current) - len(sample)
 
 
 def main() -> int:
@@ -602,23 +507,24 @@ def main() -> int:
     names = [it for it in reversed(uses) if it in (given.crates or uses)]
     crates = [it for it in (Crate(name, given.top) for name in names) if it.mutants(given.folder, given.only)]
     work, others = chosen(crates, given)
+    count = sum(map(len, work.values()))
     if given.list:
-        for mutant in (it for some in work.values() for it in some):
-            trial.say(mutant.label)
-        trial.say(f"{sum(map(len, work.values()))} to judge, {others} judged for these inputs")
+        print(*(it.label for some in work.values() for it in some), sep="\n", end="\n" if work else "")
+        print(f"{count} to judge, {others} judged for these inputs")
         return 0
-    trial.say(f"-- {sum(map(len, work.values()))} to judge; {others} were judged for the same inputs")
+    trial.say(f"-- {count} to judge; {others} were judged for the same inputs")
     try:
         trial.all(work)
     except NoKit as why:
         print(f"mutants: {why}", file=sys.stderr)
         return 2
-    if given.costs:
-        trial.say_costs()
-    trial.say(f"-- {sum(trial.seconds.values()) / 60:.1f} CPU minutes, {(time.time() - began) / 60:.1f} by the clock")
+    for name, seconds in trial.seconds.items():
+        print(f"-- {name}: {seconds:.0f} CPU seconds in all")
+    minutes = sum(trial.seconds.values()) / 60
+    print(f"-- {minutes:.1f} CPU minutes, {(time.time() - began) / 60:.1f} by the clock")
     if trial.failed:
-        trial.say(f"FAILED: {' '.join(sorted(trial.failed))}")
-    trial.say(f"{len(trial.refused)} refused, {len(trial.failed)} failed")
+        print(f"FAILED: {' '.join(sorted(trial.failed))}")
+    print(f"{len(trial.refused)} refused, {len(trial.failed)} failed")
     return 1 if trial.failed or not trial.refused else 0
 
 

@@ -137,41 +137,23 @@ def joined(rest: str, bodies: dict[tuple[int, str], str]) -> str:
     return "".join(a + b for a, b in zip(rest.split("\0"), [*bodies.values(), ""]))
 
 
-def without_parameters(words: list[str]) -> list[str]:
-    """Return the words of a type or a trait without its type arguments."""
-    depth = 0
-    plain: list[str] = []
-    for word in words:
-        depth += (word == "<") - (word == ">")
-        if depth == 0 and word != ">":
-            plain.append(word)
-    return plain
-
-
-def inside(words: list[str], name: str) -> list[str]:
-    """Return the type arguments of a trait's name, as `hdt_wire`, `Fault` of `From<hdt_wire::Fault>`."""
-    found: list[str] = []
-    depth = 0
-    for word in words[words.index(name) + 1 :]:
-        depth += (word == "<") - (word == ">")
-        if depth == 0:
-            break
-        if depth == 1 and WORD.match(word):
-            found.append(word)
-    return found
+def names_in(text: str) -> list[str]:
+    """Return the names in the words of a type or a trait, without those of its type arguments, and lifetimes."""
+    while text != (shorter := re.sub(r"<[^<>]*>", "", text)):
+        text = shorter
+    return [it for it in re.findall(r"(?<![\w'])[A-Za-z_]\w*", text) if it not in ("mut", "dyn")]
 
 
 def owner_of(words: list[str]) -> tuple[str, str]:
     """Return how a check names the type or impl with this head: the usual name, and that with the trait's arguments."""
-    words = words[: words.index("where")] if "where" in words else words
-    plain = without_parameters(words)
-    if "for" not in plain:
-        return next((it for it in plain if WORD.match(it)), ""), ""
-    at = plain.index("for")
-    trait = [it for it in plain[:at] if WORD.match(it)][-1]
-    own = [it for it in plain[at + 1 :] if WORD.match(it) and it not in ("mut", "dyn")][-1]
+    head = f" {' '.join(words)} ".partition(" where ")[0]
+    trait, is_for, own = head.rpartition(" for ")
+    if not is_for:
+        return next(iter(names_in(own)), ""), ""
+    name, usual = names_in(trait)[-1], names_in(own)[-1] + names_in(trait)[-1]
     # `impl From<hdt_wire::Fault> for Fault` is FaultFromHdt_wireFault
-    return f"{own}{trait}", own + trait + "".join(it[0].upper() + it[1:] for it in inside(words, trait))
+    inside = names_in(f"{trait} ".rpartition(f" {name} ")[2].strip().removeprefix("<").removesuffix(">"))
+    return usual, usual + "".join(it[0].upper() + it[1:] for it in inside)
 
 
 def names_of(crate: str, path: str, name: str, checked: Iterable[str]) -> list[str]:
@@ -190,8 +172,6 @@ def names_of(crate: str, path: str, name: str, checked: Iterable[str]) -> list[s
         if whole in checked:
             return [whole]
     # An impl may stand in another file than its type, by whose module the check calls it.
-    found = [it for it in checked if of and it.endswith(f"::{of}::{last}") and "::fn::" not in it]
+    named = [it for it in checked if of and it.endswith(f"::{last}") and "::fn::" not in it]
     start = "::".join([crate, *module, of])
-    return found or [
-        it for it in checked if of and it.startswith(start) and it.endswith(f"::{last}") and "::fn::" not in it
-    ]
+    return [it for it in named if it.endswith(f"::{of}::{last}")] or [it for it in named if it.startswith(start)]

@@ -10,7 +10,6 @@ to sign, as SHA256SUMS.asc beside it.
 
 from __future__ import annotations
 
-import argparse
 import hashlib
 import json
 import shutil
@@ -21,7 +20,7 @@ from pathlib import Path
 from typing import Any
 
 from tools import manifest
-from tools.repository import TOP, below, crates
+from tools.repository import TOP, below, command_line, crates
 
 NAME = "tickmarl-hdt"
 FOLDER = TOP / "out/release"
@@ -44,36 +43,28 @@ def output(*words: str | Path) -> str:
     return done.stdout.strip()
 
 
-def shipped() -> manifest.Manifest:
-    """Return the manifest of dist/, which belongs to a clean checkout. Raises Failed."""
-    if output("git", "status", "--porcelain"):
-        raise Failed("the checkout has changes that are not committed")
-    try:
-        made = manifest.read(manifest.SHIPPED)
-    except (OSError, ValueError) as why:
-        raise Failed(f"dist/: {why}") from None
-    if made.sources != manifest.sources() or manifest.altered(manifest.SHIPPED):
-        raise Failed("dist/ does not belong to the sources: make dist")
-    return made
-
-
 def spdx_id(name: str) -> str:
     """Return an identifier of SPDX."""
     return "SPDXRef-" + "".join(it if it.isalnum() else "-" for it in name)
 
 
+def entry(of: str, unknown: str, /, **more: Any) -> dict[str, Any]:
+    """Return the entry of a package or a file of which nothing is known but what is given."""
+    return {"SPDXID": spdx_id(of), **dict.fromkeys(unknown.split(), "NOASSERTION"), **more}
+
+
 def package(name: str, **more: str) -> dict[str, Any]:
-    """Return the entry of a package of which nothing is known but what is given."""
-    unknown = dict.fromkeys(("downloadLocation", "licenseConcluded", "licenseDeclared", "copyrightText"), "NOASSERTION")
-    return {"SPDXID": spdx_id(name), "name": name, "filesAnalyzed": False, **unknown, **more}
+    """Return the entry of a package."""
+    unknown = "downloadLocation licenseConcluded licenseDeclared copyrightText"
+    return entry(name, unknown, name=name, filesAnalyzed=False, **more)
 
 
 def file_entry(path: Path) -> dict[str, Any]:
     """Return the entry of a file of dist/. Raises OSError."""
     data = path.read_bytes()
     sums = [{"algorithm": it, "checksumValue": hashlib.new(it.lower(), data).hexdigest()} for it in ("SHA1", "SHA256")]
-    return {"SPDXID": spdx_id(path.name), "fileName": f"./{path.relative_to(TOP)}", "checksums": sums,
-            "licenseConcluded": "NOASSERTION", "copyrightText": "NOASSERTION"}
+    unknown = "licenseConcluded copyrightText"
+    return entry(path.name, unknown, fileName=f"./{path.relative_to(TOP)}", checksums=sums)
 
 
 def bill_of_materials(made: manifest.Manifest, version: str, created: str) -> dict[str, Any]:
@@ -113,7 +104,12 @@ def bill_of_materials(made: manifest.Manifest, version: str, created: str) -> di
 
 def make(folder: Path) -> None:
     """Make all files of a release in a folder. Raises Failed, OSError."""
-    made = shipped()
+    if output("git", "status", "--porcelain"):
+        raise Failed("the checkout has changes that are not committed")
+    try:
+        made = manifest.current(manifest.SHIPPED)
+    except (OSError, ValueError) as why:
+        raise Failed(f"{why}: make dist") from None
     version = output(manifest.SHIPPED / manifest.PLATFORM / "hdt", "--version").split()[-1]
     created = output("env", "TZ=UTC", "git", "log", "-1", "--date=format-local:%Y-%m-%dT%H:%M:%SZ", "--format=%cd")
     for kind in ("wheel", "deb"):
@@ -128,9 +124,7 @@ def make(folder: Path) -> None:
 
 def main() -> int:
     """Run the command line."""
-    argparse.ArgumentParser(
-        prog="python3 -m tools.release", description=__doc__, formatter_class=argparse.RawDescriptionHelpFormatter
-    ).parse_args()
+    command_line("release", __doc__).parse_args()
     unfinished = FOLDER.with_suffix(".unfinished")
     try:
         shutil.rmtree(unfinished, ignore_errors=True)

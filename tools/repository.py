@@ -4,6 +4,7 @@ from __future__ import annotations
 
 import argparse
 import os
+import re
 import shutil
 import subprocess
 import sys
@@ -11,6 +12,10 @@ from functools import lru_cache
 from pathlib import Path
 
 TOP = Path(__file__).resolve().parent.parent
+
+
+# What is made in a file that is else written by hand: the lines between `# of the help:`, say, and `# end`.
+MADE = re.compile(r'^( *(?:#|\.\\") of [^\n]*:\n).*?^( *(?:#|\.\\") end\n)', re.M | re.S)
 
 
 class NoKit(Exception):
@@ -21,6 +26,21 @@ def command_line(name: str, text: str | None) -> argparse.ArgumentParser:
     """Return the parser of the command line of a tool with this name and this documentation."""
     form = argparse.RawDescriptionHelpFormatter
     return argparse.ArgumentParser(prog=f"python3 -m tools.{name}", description=text, formatter_class=form)
+
+
+def with_parts(text: str, parts: list[str]) -> str:
+    """Return the text of a file with these parts, in their order, in place of the lines that are made in it."""
+    left = iter(parts)
+    new, count = MADE.subn(lambda it: it[1] + next(left) + it[2], text)
+    assert count == len(parts)
+    return new
+
+
+def print_table(columns: list[str], rows: dict[str, list[int]]) -> None:
+    """Print a table in Markdown with a row for each crate, and their sums."""
+    print(f"| crate | {' | '.join(columns)} |\n{'|---' * (len(columns) + 1)}|")
+    for name, row in {**rows, "together": [sum(it) for it in zip(*rows.values())]}.items():
+        print(f"| {name} | {' | '.join(f'{it:,}' for it in row)} |")
 
 
 @lru_cache(maxsize=None)
@@ -94,10 +114,8 @@ class Crate:
         """
         words = ["rattle", command, "--crate-name", self.name, self.root]
         for name in ["std", *self.uses[self.name]]:
-            words += [
-                "--extern",
-                f"{name}={self.library(name) if name in self.uses else kit() / 'rlibs' / f'{name}.rlib'}",
-            ]
+            library = self.library(name) if name in self.uses else kit() / f"rlibs/{name}.rlib"
+            words += ["--extern", f"{name}={library}"]
         words += ["-L", f"dependency={kit()}/rlibs"]
         for name in self.below():
             words += ["-L", f"dependency={self.library(name).parent}"]

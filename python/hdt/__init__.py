@@ -8,21 +8,20 @@
         for subject, predicate, object in graph.find(p="http://example.org/name"):
             print(subject, object)
 
-A term is a dictionary string everywhere, as `str`: an IRI without its brackets (`http://a/b`), a blank node with its
-label (`_:b`), a literal with its quotes and without escapes, followed by nothing, a tag or a datatype (`"x"`, `"x"@en`,
-`"1"^^<http://www.w3.org/2001/XMLSchema#integer>`). Calls also take a `Term`, or a URIRef, BNode or Literal of rdflib,
-for its string. A search for `<http://a/b>`, with brackets, or for `""` or `"?"` raises ValueError: None is any.
-`Term` takes such a string apart, and makes N-Triples of it and back. `Graph.text` gives N-Triples.
+A term is a dictionary string, a `str`: an IRI without brackets (`http://a/b`), a blank node with its label (`_:b`), a
+literal with its quotes and without escapes, followed by nothing, a language tag or a datatype (`"x"`, `"x"@en`,
+`"1"^^<http://www.w3.org/2001/XMLSchema#integer>`). Calls also take a `Term`, which makes N-Triples of such a string and
+back, or a URIRef, BNode or Literal of rdflib. In a pattern None matches any term; `""`, `"?"` and `<http://a/b>`, with
+brackets, raise ValueError.
 
-Threads may share a graph: their calls run at the same time.
+A role is `"subject"`, `"predicate"` or `"object"`; another word raises ValueError. The strings of a role have IDs from
+1, by which `Graph.ids` finds triples. Older names of its searches, as `Graph.find_ids`, still work. Threads may share a
+graph. Results have classes with a `help` of their own: `Counts`, `Ids`, `IdArray`.
 
-A role is `"subject"`, `"predicate"` or `"object"`; another one raises ValueError. The strings of a role have IDs from
-1, by which triples are found and counted, too.
-
-Files of 64 MiB and more are mapped, not read (`open` says more): such a file must not change while a graph of it is
-open or a call reads it. Exceptions: `Fault` (the file is not valid), `LineFault` (the text isn't N-Triples),
-`NoTriples`, all three with the `path`, `NotATerm`, all of them ValueError; MemoryError; OSError of files. After an
-exception a graph is as it was.
+Files of 64 MiB and more are mapped, not read: such a file must not change while a graph of it is open or a call reads
+it (`open` says more). Exceptions: `Fault` (not a valid HDT file), `LineFault` (not N-Triples), `NoTriples`, all three
+with the `path`, and `NotATerm`, all of them ValueError; MemoryError; OSError of files. After an exception a graph is as
+it was.
 
 `__version__` is the version of the package, `LIBHDT_VERSION` that of the library, as "1.2".
 """
@@ -34,6 +33,7 @@ from ._calls import Counts, Path, Role
 from ._faults import ConversionFault, Fault, LineFault, NoConverter, NotATerm, NoTriples
 from ._files import rewrite, verify
 from ._graph import Graph
+from ._id_searches import Ids
 from ._ids import IdArray
 from ._library import VERSION
 from ._merging import merge
@@ -47,6 +47,7 @@ __all__ = [
     "Fault",
     "Graph",
     "IdArray",
+    "Ids",
     "LineFault",
     "NoConverter",
     "NoTriples",
@@ -61,9 +62,14 @@ __all__ = [
     "rewrite",
     "verify",
 ]
-__version__ = "2.0.0"
+__version__ = "2.1.0"
 LIBHDT_VERSION = VERSION
 
 for _name in __all__:
     if _name not in ("Path", "Role"):
         globals()[_name].__module__ = __name__  # (so they are shown and pickled by their public names)
+
+
+def __dir__() -> list[str]:
+    """All names, but for the classes of results, which have a `help` of their own."""
+    return [name for name in globals() if name not in ("Counts", "IdArray", "Ids", "__dir__")]

@@ -18,14 +18,22 @@ from . import ConversionFault, Counts, LineFault, NoConverter, NoTriples, _progr
 from ._build import check_header, is_plain
 from ._convert import CONVERTERS
 from ._files import are_one
+from ._metadata import Header
 from ._syntaxes import SUFFIXES, TITLES
 
-# The options of `build` that the program doesn't have.
+# The options of `build` that the program doesn't have; those of the header, with what they take.
 _MORE = ("syntax", "blank_nodes", "graphs", "converter", "largest_text")
+_METADATA = {
+    "title": "TEXT", "description": "TEXT", "license": "IRI", "publisher": "IRI", "creator": "IRI", "source": "IRI",
+    "issued": "DATE", "created": "DATE", "modified": "DATE",
+}  # fmt: skip
 _DESCRIPTION = f"""\
 Build an HDT file from RDF: files, folders, or - for standard input. Names end with {' '.join(SUFFIXES)},
 and then perhaps .gz .bz2 .xz .zst; any other name is N-Triples. Turtle and TriG are converted by serdi, RDF/XML by
 rapper, if they are installed, all else by rdflib. OUT is replaced only if all inputs could be read to their end.
+
+With --title and the options after it, each of which may be given again, the header describes the graph by properties of
+Dublin Core and numbers of VoID. IRI may be a text, too. DATE is as 2026-11-29.
 
 On success, print `built` and six counts: the triples, the strings of the sections shared, subjects, predicates and
 objects, and the bytes of the file. If OUT is -, the file goes to standard output, and the counts to standard error.
@@ -62,6 +70,10 @@ def _parser() -> argparse.ArgumentParser:
     add("--blank-nodes", choices=["apart", "one"], help="whether a label is one node in all inputs")
     add("--graphs", choices=["merge"], help="build the union of named graphs, which are an error else")
     add("--converter", choices=CONVERTERS, help="convert by this program")
+    for name, what in _METADATA.items():
+        words = ["--license", "--licence"] if name == "license" else [f"--{name}"]
+        add(*words, action="append", metavar=what, help=f"dcterms:{name} in the header")
+    add("--header", metavar="FILE", help="N-Triples for the header, as they are")
     add("--progress", action="store_true", help="report the bytes read on standard error, also if it is no terminal")
     add("--no-progress", action="store_true", help="show no progress on a terminal")
     add("--verbose", action="store_true", help="explain an error of N-Triples")
@@ -74,7 +86,8 @@ def main(words: Optional[Sequence[str]] = None) -> int:
     if given[:1] != ["build"]:
         return _as_program(given)
     options = _parser().parse_args(given[1:])
-    if len(options.inputs) == 1 and not any(getattr(options, name) is not None for name in _MORE):
+    more = (*_MORE, *_METADATA, "header")
+    if len(options.inputs) == 1 and not any(getattr(options, name) is not None for name in more):
         if options.inputs[0] == "-" or is_plain(options.inputs[0], None):
             return _as_program(given)
     return _status_of(options)
@@ -102,17 +115,41 @@ def _usage(why: str) -> NoReturn:
     _parser().error(why)
 
 
+def _check(options: Any) -> None:
+    """End with a usage error for options that can't be."""
+    if any(name != "-" and are_one(name, options.out) for name in (*options.inputs, options.header or "-")):
+        _usage("OUT is one of the inputs")
+    if [*options.inputs, options.header].count("-") > 1:
+        _usage("standard input can be read once")
+    if options.header is not None and _metadata_of(options):
+        _usage("--header is the whole header")
+    try:
+        check_header("x:" if options.base is None else options.base, header=Header(None, _metadata_of(options)))
+    except ValueError as error:
+        _usage(str(error))
+
+
+def _metadata_of(options: Any) -> dict[str, list[str]]:
+    """The arguments of `hdt.metadata`."""
+    return {name: getattr(options, name) for name in _METADATA if getattr(options, name) is not None}
+
+
+def _header_of(options: Any) -> Optional[bytes]:
+    """The text of --header. Raises LineFault with its path, OSError."""
+    if options.header is None:
+        return None
+    with open(0 if options.header == "-" else options.header, "rb", closefd=options.header != "-") as file:
+        text = file.read()
+    try:
+        check_header("x:", header=Header(text, None))
+    except LineFault as fault:
+        raise LineFault(fault.reason, fault.line, fault.column, options.header) from None
+    return text
+
+
 def _status_of(options: Any) -> int:
     """Build, and return the status."""
-    if any(name != "-" and are_one(name, options.out) for name in options.inputs):
-        _usage("OUT is one of the inputs")
-    if options.inputs.count("-") > 1:
-        _usage("standard input can be read once")
-    if options.base is not None:
-        try:
-            check_header(options.base)
-        except ValueError as error:
-            _usage(str(error))
+    _check(options)
     try:
         _build(options)
         return 0
@@ -137,6 +174,7 @@ def _build(options: Any) -> None:
     inputs = [sys.stdin.buffer if name == "-" else name for name in options.inputs]
     shows = options.progress or sys.stderr.isatty() and not options.no_progress
     words = {name: getattr(options, name) for name in ("base", "block_size", "longest_line", *_MORE)}
+    words.update(header=_header_of(options), metadata=_metadata_of(options) or None)
     if options.out != "-":
         counts = build(inputs, options.out, progress=shows, **words)
         _print(counts, os.path.getsize(options.out), sys.stdout)

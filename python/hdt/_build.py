@@ -8,7 +8,7 @@ from __future__ import annotations
 import operator
 import os
 import tempfile
-from collections.abc import Generator, Iterable, Iterator
+from collections.abc import Generator, Iterable, Iterator, Mapping
 from contextlib import closing
 from typing import IO, Any, NamedTuple, Optional, Union, cast
 
@@ -20,6 +20,7 @@ from ._faults import LineFault, NoTriples
 from ._files import are_one, built, data_of, longest_of, replace
 from ._library import Made
 from ._mapped import Mapped
+from ._metadata import Header
 from ._progress import Meter, Progress
 from ._quads import Graphs
 from ._sources import Input, Source, sources_of
@@ -53,17 +54,19 @@ def build(
     converter: Optional[str] = None,
     largest_text: Optional[int] = None,
     progress: Progress = False,
+    metadata: Optional[Mapping[str, Any]] = None,
+    header: Union[str, bytes, None] = None,
 ) -> Counts:
     """Build an HDT file from RDF, and return its counts. The output is replaced atomically, only if all went well.
 
-    `nt_path` is a path; a folder, for the files below it whose names have a suffix of those below; a binary file that
-    is open; triples, as those of `Graph.find` or of an rdflib graph: tuples of dictionary strings, `Term`s, terms of
-    rdflib or, if the predicate is in brackets, terms of N-Triples, or lines of N-Triples; or an iterable of such.
+    `nt_path` is a path; a folder, for the files below it that have a suffix of those below; a binary file that is open;
+    triples, as those of `Graph.find` or of an rdflib graph: tuples of dictionary strings, `Term`s, terms of rdflib or,
+    if the predicate is in brackets, terms of N-Triples, or lines of N-Triples; or an iterable of such.
 
     The suffix of a name says the syntax, else `syntax`: `"ntriples"` (.nt, and any other name), `"turtle"` (.ttl),
     `"trig"`, `"nquads"` (.nq), `"rdfxml"` (.rdf, .owl, .xml), `"jsonld"`, `"n3"`. After it may be .gz, .bz2, .xz or
-    .zst. Turtle and TriG are converted by the program serdi, RDF/XML by rapper, if they are installed; else, and the
-    other syntaxes always, by rdflib. `converter` is the one to use. What a document refers to is not fetched.
+    .zst. serdi converts Turtle and TriG, rapper RDF/XML, if they are installed; else, and for the other syntaxes,
+    rdflib does. `converter` is the one to use. What a document refers to is not fetched.
 
     `base` is the absolute IRI, without brackets, that names the file in its header (http://example.org/dataset if it is
     None), and that relative IRIs are resolved by; without it, by the file: IRI of the input. `block_size` is the number
@@ -72,15 +75,16 @@ def build(
     they are the same, which needs N-Triples or N-Quads. Labels of a single input stay, but for what the converter does.
     Named graphs are an error, unless `graphs="merge"` takes the union of all graphs.
 
-    A line with more than `longest_line` bytes, without its end, is an error (`TooLong`, in the column after these
-    bytes), as are inputs whose N-Triples have more than `largest_text` bytes: give both for documents of strangers. At
-    most 1 MiB of text after these bytes is looked at. `progress` is True, for a bar of tqdm, if that is installed, or
-    lines on standard error; or a function of the bytes that were read and of their number, or None. The build comes
-    after it.
+    Limit documents of strangers: a line with more than `longest_line` bytes, without its end, is an error (`TooLong`,
+    in the column after these bytes), as are inputs whose N-Triples have more than `largest_text` bytes. At most 1 MiB
+    of text after these bytes is looked at. `progress` is True, for a bar (by tqdm, if installed) on standard error; or
+    a function of the bytes that were read and of their number, or None. The build comes after it. `metadata` has
+    arguments of `hdt.metadata` by their names, as `{"title": "Examples"}`, and `header` is a header itself, as of
+    `rewrite`.
 
-    Errors: `LineFault` for N-Triples and N-Quads, with path and line, `ConversionFault` for other syntaxes,
-    `NoTriples`, ValueError for options, named graphs, or an input that is the output, `NoConverter`, TypeError,
-    MemoryError, OSError, also for damaged archives, and what iterables, files and `progress` raise.
+    Errors: `LineFault` for N-Triples and N-Quads, with path and line, and for a header, `ConversionFault` for other
+    syntaxes, `NoTriples`, ValueError for options, named graphs, or an input that is the output, `NoConverter`,
+    TypeError, MemoryError, OSError, also for damaged archives, and what iterables, files and `progress` raise.
 
     The time is that of sorting the strings and the triples, and of the converter. One N-Triples file is in memory, or
     mapped, with what is built. Other inputs are read in pieces, and written as N-Triples to a file without a name in
@@ -99,19 +103,35 @@ def build(
     check_converter(converter)
     if largest_text is not None and operator.index(largest_text) < 0:
         raise ValueError("the largest text is negative")
-    header = _BASE if base is None else base
+    output = _Output(out_path, _BASE if base is None else base, block_size, Header(header, metadata))
+    check_header(output.base, block_size, output.header)
     if largest_text is None and not progress and is_plain(nt_path, syntax):
-        return _of_ntriples(cast(Path, nt_path), out_path, header, block_size, longest_line)
+        return _of_ntriples(cast(Path, nt_path), output, longest_line)
     longest_of(longest_line, "")
-    check_header(header, block_size)
     options = _Options(base, longest_line, largest_text, blank_nodes, graphs, converter)
-    return _of_sources(sources_of(nt_path, syntax), out_path, header, block_size, options, progress)
+    return _of_sources(sources_of(nt_path, syntax), output, options, progress)
 
 
-def check_header(base: str, block_size: int = 16) -> None:
-    """Raises ValueError for a base or a block size that the library refuses, before any work."""
-    with Made() as made:
+class _Output(NamedTuple):
+    """What is to be made: the path, the name in the header, the strings of a block, the header."""
+
+    path: Path
+    base: str
+    block_size: int
+    header: Header
+
+    def take(self, made: Made) -> None:
+        """Replace the file at the path by one that was built, with its header."""
+        with Made() as other:
+            replace(self.path, self.header.put(made, other).view())
+
+
+def check_header(base: str, block_size: int = 16, header: Optional[Header] = None) -> None:
+    """Raises ValueError for a base or a block size that the library refuses, LineFault for a header, before work."""
+    with Made() as made, Made() as other:
         built(b"<x:> <x:> <x:> .\n", made, base, block_size)
+        if header is not None:
+            header.put(made, other)
 
 
 def is_plain(given: Any, syntax: Optional[str]) -> bool:
@@ -127,33 +147,31 @@ def _check_output(path: Optional[str], out_path: Path) -> None:
         raise ValueError("the input and the output are one file")
 
 
-def _of_ntriples(path: Path, out_path: Path, base: str, block_size: int, longest_line: Optional[int]) -> Counts:
+def _of_ntriples(path: Path, output: _Output, longest_line: Optional[int]) -> Counts:
     """Build the file of one N-Triples file."""
-    _check_output(os.fsdecode(path), out_path)
+    _check_output(os.fsdecode(path), output.path)
     lines = longest_of(longest_line, path)
     with Made() as made:
-        counts = built(data_of(path, lines=lines)[0], made, base, block_size, path)
-        replace(out_path, made.view())
+        counts = built(data_of(path, lines=lines)[0], made, output.base, output.block_size, path)
+        output.take(made)
     return counts
 
 
-def _of_sources(
-    sources: list[Source], out_path: Path, base: str, block_size: int, options: _Options, progress: Progress
-) -> Counts:
+def _of_sources(sources: list[Source], output: _Output, options: _Options, progress: Progress) -> Counts:
     """Build the file of any inputs."""
     for it in sources:
-        _check_output(it.path, out_path)
+        _check_output(it.path, output.path)
     sizes = [it.size for it in sources]
     meter = Meter(progress, None if None in sizes else sum(map(int, filter(None, sizes))))
-    with closing(meter), _scratch(out_path) as text:
-        size = _Writer(text, out_path, options, meter).write(sources)
+    with closing(meter), _scratch(output.path) as text:
+        size = _Writer(text, output.path, options, meter).write(sources)
         meter.end()
         if not size:
             raise NoTriples(path=sources[0].name if len(sources) == 1 else None)
         with Made() as made:
             with Mapped(text.fileno()) as lines:
-                counts = built(lines, made, base, block_size)
-            replace(out_path, made.view())
+                counts = built(lines, made, output.base, output.block_size)
+            output.take(made)
     return counts
 
 

@@ -2,39 +2,40 @@
 
 from __future__ import annotations
 
+import ctypes
 from typing import Any, Optional
 
-# The reasons of docs/FORMAT.md, from 1.
-REASONS = (
-    "Truncated OverlongNumber NumberTooLarge NotHdt WrongKind Check16 WrongFormat HeaderLength TripleOrder Check8 "
-    "Check32 SequenceKind Width BitsKind SectionKind BlockSize BlockCount BlockPlace PrefixTooLong PackedLength "
-    "NotUtf8 StringsNotAscending SectionsOverlap NoTriples LengthsDiffer LastMark MarkCount SubjectRange "
-    "PredicateRange ObjectRange PredicatesNotAscending ObjectsNotAscending TrailingBytes Unused"
-).split()
-# The reasons of docs/NTRIPLES.md, from 1.
-LINE_REASONS = "Syntax NotUtf8 BadEscape RelativeIri IriCharacter ZeroCharacter Read OutOfMemory TooLong".split()
+from ._documented import Documented
+from ._library import library
+
+_NAME_ROOM = 32  # HDT_NAME_ROOM of c/hdt.h
+
+
+def _name(call: Any, reason: int) -> str:
+    """The name of a reason by a call of the library; "Unknown" for a number that it has no name for."""
+    room = ctypes.create_string_buffer(_NAME_ROOM)
+    call(reason if 0 <= reason < 2**32 else 0, room, _NAME_ROOM - 1)
+    return room.value.decode() or "Unknown"
 
 
 def _of(path: Optional[str], what: str) -> str:
     return what if path is None else f"{path}: {what}"
 
 
-class Fault(ValueError):
+class Fault(ValueError, metaclass=Documented):
     """The input is not a valid HDT file.
 
     `reason` is the number of its first error in docs/FORMAT.md, `name` that reason's name, and `place` its byte offset.
     `path` is that of the file, None for bytes.
 
-    >>> try:
-    ...     hdt.verify("graph.nt")
-    ... except hdt.Fault as fault:
-    ...     print(fault.path, fault.reason, fault.name, fault.place)
-    graph.nt 4 NotHdt 0
+    >>> hdt.verify("graph.nt")
+    Traceback (most recent call last):
+    hdt.Fault: graph.nt: fault 4 NotHdt at 0
     """
 
     def __init__(self, reason: int, place: int, path: Optional[str] = None) -> None:
         self.reason = reason
-        self.name = REASONS[reason - 1]
+        self.name = _name(library.hdt_reason_name, reason)
         self.place = place
         self.path = path
         super().__init__(_of(path, f"fault {reason} {self.name} at {place}"))
@@ -43,22 +44,20 @@ class Fault(ValueError):
         return type(self), (self.reason, self.place, self.path)
 
 
-class LineFault(ValueError):
+class LineFault(ValueError, metaclass=Documented):
     """The input is not valid N-Triples.
 
     `reason` is the number of its first error in docs/NTRIPLES.md, `name` that reason's name; `line` and `column` say
     where it is, both from 1. Columns count bytes. `path` is that of the text, None for bytes.
 
-    >>> try:
-    ...     hdt.build("graph.hdt", "other.hdt")
-    ... except hdt.LineFault as fault:
-    ...     print(fault)
-    graph.hdt: line 1 column 1: 1 Syntax
+    >>> hdt.build("graph.hdt", "other.hdt")
+    Traceback (most recent call last):
+    hdt.LineFault: graph.hdt: line 1 column 1: 1 Syntax
     """
 
     def __init__(self, reason: int, line: int, column: int, path: Optional[str] = None) -> None:
         self.reason = reason
-        self.name = LINE_REASONS[reason - 1]
+        self.name = _name(library.hdt_text_reason_name, reason)
         self.line = line
         self.column = column
         self.path = path
@@ -68,7 +67,7 @@ class LineFault(ValueError):
         return type(self), (self.reason, self.line, self.column, self.path)
 
 
-class NoTriples(ValueError):
+class NoTriples(ValueError, metaclass=Documented):
     """A text without triples, of which no file is made. `path` is that of the text, None for several texts.
 
     >>> hdt.build("/dev/null", "other.hdt")
@@ -81,11 +80,10 @@ class NoTriples(ValueError):
         super().__init__(_of(path, what))
 
 
-class NotATerm(ValueError):
+class NotATerm(ValueError, metaclass=Documented):
     """A string of a graph that has no form in N-Triples: the one with this `number`, its ID, in this `role`.
 
-    >>> error = hdt.NotATerm("object", 3)
-    >>> print(error)
+    >>> print(hdt.NotATerm("object", 3))
     object 3 is not a term
     """
 
@@ -98,17 +96,15 @@ class NotATerm(ValueError):
         return type(self), (self.role, self.number)
 
 
-class ConversionFault(ValueError):
+class ConversionFault(ValueError, metaclass=Documented):
     """An input that isn't N-Triples could not be converted, as it is faulty or the converter failed.
 
     `path` names the input (None for a file without a name), `line` its line, None if the converter doesn't say it.
     `converter` is the name of the program, and `message` what it said.
 
-    >>> try:
-    ...     hdt.build("graph.nt", "other.hdt", syntax="jsonld")
-    ... except hdt.ConversionFault as fault:
-    ...     print(fault)
-    graph.nt: line 1: rdflib: Expecting value: line 1 column 1 (char 0)
+    >>> hdt.build("graph.nt", "other.hdt", syntax="jsonld")
+    Traceback (most recent call last):
+    hdt.ConversionFault: graph.nt: line 1: rdflib: Expecting value: line 1 column 1 (char 0)
     """
 
     def __init__(self, path: Optional[str], line: Optional[int], converter: str, message: str) -> None:
@@ -120,7 +116,7 @@ class ConversionFault(ValueError):
         return type(self), (self.path, self.line, self.converter, self.message)
 
 
-class NoConverter(RuntimeError):
+class NoConverter(RuntimeError, metaclass=Documented):
     """Nothing here can read an input: the message names its syntax or compression, and packages that can.
 
     >>> print(hdt.NoConverter("a.ttl: reading Turtle needs serdi, rapper or rdflib"))

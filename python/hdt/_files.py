@@ -17,6 +17,7 @@ from ._library import Lent, Made, Report, Verdict, library
 from ._lines import LongestLine
 
 _MAPPED = 64 * 1024 * 1024  # bytes: files of this size and more are mapped
+MANIFEST = "manifest.json"  # the file by which a folder is a graph in parts
 
 
 class Identity(NamedTuple):
@@ -134,9 +135,7 @@ def _checked(block_size: int) -> int:
 
 
 def verify(path: Path, tight: bool = False) -> Counts:
-    """Validate a whole file and return its counts.
-
-    With `tight` it is also an error if a string isn't used by a triple in the role of its section.
+    """Validate a whole file and return its counts. With `tight` unused strings are an error, too.
 
     Errors: `Fault` with the first error and its byte offset, MemoryError, OSError. The time is linear in the file; with
     `tight`, memory is linear in the triples and strings.
@@ -187,10 +186,8 @@ def rewrite(
     """Write the canonical file of a file's triples, with its header and without unused strings; return its counts.
 
     `block_size` is 16 if it is None. With `header`, N-Triples about the graph as those of `metadata`, only the header
-    is replaced, by this text as it is: nothing is encoded again, so there can be no block size, and all other bytes
-    stay, but for the header's length and the CRC over it. It may be empty.
-
-    The output is replaced atomically, as by `build`; both paths may be the same.
+    is replaced, by this text as it is, which may be empty: there can be no block size, and all other bytes stay, but
+    for the header's length and the CRC over it. The output is replaced atomically; both paths may be the same.
 
     Errors: `Fault` as of `verify`; `LineFault`, without a path, if the header is not N-Triples; ValueError for the
     block size; TypeError if it is no integer; MemoryError; OSError. The time is linear in the file, but for sorting the
@@ -204,20 +201,24 @@ def rewrite(
         raise ValueError("a new header replaces nothing else: there can be no block size")
     size = _block_size(16 if block_size is None else block_size)
     with Made() as made:
-        with Lent(data_of(in_path)[0]) as lent:
-            counts = _rewritten(lent, made, size, header, in_path)
+        data = data_of(in_path)[0]
+        counts = _rewritten(data, made, size, in_path) if header is None else with_header(data, made, header, in_path)
         replace(out_path, made.view())
     return counts
 
 
-def _rewritten(lent: Lent, made: Made, block_size: int, header: Union[str, bytes, None], path: Path) -> Counts:
-    """Rewrite a file, or replace only its header, and return its counts. Raises what `rewrite` does."""
+def _rewritten(data: Any, made: Made, block_size: int, path: Path) -> Counts:
+    """Rewrite a file, and return its counts. Raises what `rewrite` does."""
     verdict = Verdict()
-    if header is None:
+    with Lent(data) as lent:
         library.hdt_rewrite(lent.address, lent.size, block_size, made, verdict)
-        return counts_of(verdict, path)
-    report = Report()
-    with Lent(encoded(header) if isinstance(header, str) else header) as text:
+    return counts_of(verdict, path)
+
+
+def with_header(data: Any, made: Made, header: Union[str, bytes], path: Optional[Path] = None) -> Counts:
+    """Replace only the header of a file, and return its counts. Raises what `rewrite` does."""
+    verdict, report = Verdict(), Report()
+    with Lent(data) as lent, Lent(encoded(header) if isinstance(header, str) else header) as text:
         library.hdt_with_header(lent.address, lent.size, text.address, text.size, made, verdict, report)
     counts_of(verdict, path)
     return counts_of(report)

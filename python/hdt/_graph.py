@@ -12,35 +12,36 @@ from typing import IO, Any, Optional, Union
 from ._calls import Counts, Given, IdTriple, Part, Path, Role, StringTriple
 from ._calls import encoded, matched, pattern_of, role_number, triple_of, window
 from ._columns import Columns
+from ._documented import Documented
 from ._faults import Fault
 from ._files import Identity, data_of
 from ._handle import OpenHandle
-from ._ids import IdArray, rows
+from ._id_searches import Ids
+from ._ids import IdArray
 from ._library import library
 from ._terms import Term, string_of
 
 
-class Graph(OpenHandle):
-    """An open file. Threads may share one: their calls, and those of their iterators, run at the same time.
+class Graph(OpenHandle, metaclass=Documented):
+    """An open file: `open` opens a path, `Graph(data)` the bytes of any object with the buffer protocol.
 
-    (One iterator is for one thread at a time.) A call that begins while others run may need memory for another handle
-    of the graph, about a kilobyte, which later calls use, too: if there is none, it raises MemoryError. A process and
-    those that it forks may share a graph, also if other threads are in calls at the fork.
+    Those bytes are borrowed, not copied: they must not change while the graph is open. Errors: those of `open`,
+    TypeError.
 
-    `open` opens a path. `Graph(data)` opens bytes, any object with the buffer protocol: they are borrowed, not copied,
-    and must not change while the graph is open. Errors: those of `open`, TypeError.
+    Its length is the number of its triples; iterating gives them as `find` does; `(s, p, o) in graph` looks for one. A
+    pattern is three terms, of which None is any; calls of `ids` take IDs, too. `""`, `"?"`, and a string in brackets
+    that the file lacks raise ValueError. (If a file of another program has `""` or `"?"`, `number` gives its ID.) Once
+    a graph is closed, every call but `close` raises ValueError.
 
-    Its length is the number of its triples; iterating gives them as `find` does. `(s, p, o) in graph` looks for one.
-    A pattern is three parts, of which None is any: dictionary strings, `Term`s, terms of rdflib, and in calls on IDs
-    also IDs. `""` and `"?"` raise ValueError, and so does a string in brackets, `<u:a>`, that the file lacks:
-    dictionary strings have none. (A file of another program may have `""` or `"?"`: search for them by IDs, which
-    `number` gives.) Once a graph is closed, every call but `close` raises ValueError.
+    Threads may share a graph, but not an iterator: their calls run at the same time. A call beside others may need
+    another handle, a kilobyte that later calls use, too; without memory for it, it raises MemoryError. A forked process
+    shares the graphs of its parent, also if other threads were in calls.
 
     A graph can't be copied. One that `open` made is pickled as its path and options: it opens the file again, and
     raises ValueError there if the path leads to another file by then, or the file was written to.
 
-    >>> with hdt.open("graph.hdt") as graph:
-    ...     print(graph, ("u:a", "u:p", "u:b") in graph, next(iter(graph)))
+    >>> graph = hdt.open("graph.hdt")  # the graph of all examples below
+    >>> print(graph, ("u:a", "u:p", "u:b") in graph, next(iter(graph)))
     <hdt.Graph of 3 triples: graph.hdt> True ('u:a', 'u:p', 'u:b')
     >>> with open("graph.hdt", "rb") as file: len(hdt.Graph(file.read()))
     3
@@ -62,13 +63,13 @@ class Graph(OpenHandle):
         return graph
 
     def close(self) -> None:
-        """Close it and free its memory, after the calls that run in other threads.
+        """Close it and free its memory, after the calls that run in other threads; later ones raise ValueError.
 
-        Calls that begin meanwhile or later raise ValueError. A second call does nothing but to wait for the same ones.
+        A second call only waits for the same ones.
 
-        >>> graph = hdt.open("graph.hdt")
-        >>> graph.close()
-        >>> graph
+        >>> other = hdt.open("graph.hdt")
+        >>> other.close()
+        >>> other
         <hdt.Graph, closed>
         """
         self._end()
@@ -107,8 +108,7 @@ class Graph(OpenHandle):
     def counts(self) -> Counts:
         """The counts of the file, as `verify` gives them. Constant time.
 
-        >>> with hdt.open("graph.hdt") as graph:
-        ...     graph.counts.predicates
+        >>> graph.counts.predicates
         2
         """
         self._check_open()
@@ -118,17 +118,15 @@ class Graph(OpenHandle):
     def header(self) -> bytes:
         """The header of the file, as bytes: N-Triples as a rule, but nothing checks it. Linear time.
 
-        >>> with hdt.open("graph.hdt") as graph:
-        ...     graph.header.splitlines()[-1]
+        >>> graph.header.splitlines()[-1]
         b'<http://a/> <http://rdfs.org/ns/void#triples> "3" .'
         """
         return self._put(library.hdt_header) or b""
 
     def count(self, role: Role) -> int:
-        """How many strings a role has; their IDs are 1 to that. Constant time. Raises ValueError for another word.
+        """How many strings a role has; their IDs are 1 to that. Constant time. Raises ValueError.
 
-        >>> with hdt.open("graph.hdt") as graph:
-        ...     graph.count("object")
+        >>> graph.count("object")
         3
         """
         return self._count(role_number(role))
@@ -140,21 +138,18 @@ class Graph(OpenHandle):
 
         Errors: ValueError for the role, TypeError. It takes a binary search and the strings of a block.
 
-        >>> with hdt.open("graph.hdt") as graph:
-        ...     graph.number("object", '"x"'), graph.number("object", "u:none")
+        >>> graph.number("object", '"x"'), graph.number("object", "u:none")
         (3, None)
         """
         string = encoded(string_of(term))
         return self._number(role_number(role), string)
 
     def string(self, role: Role, n: int) -> str:
-        """The string with ID n in a role.
+        """The string with ID n in a role. It decodes a block of strings; `strings` is faster for many.
 
-        Errors: IndexError if n isn't 1 to `count(role)`, ValueError for the role, TypeError. It decodes a block of
-        strings; `strings` is faster for many.
+        Errors: IndexError if n isn't 1 to `count(role)`, ValueError for the role, TypeError.
 
-        >>> with hdt.open("graph.hdt") as graph:
-        ...     graph.string("object", 3)
+        >>> graph.string("object", 3)
         '"x"'
         """
         string = self._string(role_number(role), operator.index(n))
@@ -163,13 +158,11 @@ class Graph(OpenHandle):
         return string.decode()
 
     def strings(self, role: Role, ids: Iterable[int]) -> list[str]:
-        """The strings with these IDs in a role, in their order.
+        """The strings with these IDs in a role, in their order. Errors: those of `string`.
 
-        Errors: IndexError if one of them isn't 1 to `count(role)`, ValueError for the role, TypeError. It is one call
-        of the library, which decodes each block of strings once if the IDs ascend: so sort many of them.
+        It is one call of the library, which decodes each block of strings once if the IDs ascend: so sort many of them.
 
-        >>> with hdt.open("graph.hdt") as graph:
-        ...     graph.strings("object", [1, 3]), graph.strings("subject", range(1, 3))
+        >>> graph.strings("object", [1, 3]), graph.strings("subject", range(1, 3))
         (['u:a', '"x"'], ['u:a', 'u:b'])
         """
         place = role_number(role)
@@ -181,12 +174,11 @@ class Graph(OpenHandle):
         return strings
 
     def terms(self, role: Role) -> Iterator[str]:
-        """Iterate over all strings of a role, in the order of their IDs. Raises ValueError for another word.
+        """Iterate over all strings of a role, in the order of their IDs, in linear time. Raises ValueError.
 
-        They are looked up in portions of up to 4,096, fewer if they are long. The time is linear in the strings.
+        They are looked up in portions of up to 4,096, fewer if they are long.
 
-        >>> with hdt.open("graph.hdt") as graph:
-        ...     list(graph.terms("object"))
+        >>> list(graph.terms("object"))
         ['u:a', 'u:b', '"x"']
         """
         return chain.from_iterable(self._portions_of_all(role_number(role), self.count(role)))
@@ -197,8 +189,7 @@ class Graph(OpenHandle):
         A role has two sections, each with ascending strings: first what is a subject and an object, then what is only
         one of them. Errors: ValueError for the role, TypeError. It takes about as long as `number`.
 
-        >>> with hdt.open("graph.hdt") as graph:
-        ...     graph.ids_with_prefix("u:", "object"), graph.ids_with_prefix('"', "object")
+        >>> graph.ids_with_prefix("u:", "object"), graph.ids_with_prefix('"', "object")
         ([range(1, 3)], [range(3, 4)])
         """
         return self._with_prefix(role_number(role), encoded(prefix))
@@ -208,31 +199,37 @@ class Graph(OpenHandle):
 
         All are counted at once, in time that is at most linear in the triples, times a logarithm.
 
-        >>> with hdt.open("graph.hdt") as graph:
-        ...     dict(graph.predicates())
+        >>> dict(graph.predicates())
         {'u:p': 2, 'u:q': 1}
         """
         return zip(self.terms("predicate"), self._by_predicate())
 
     # ---- searches
 
+    @property
+    def ids(self) -> Ids:
+        """The searches by IDs: `find`, `matching`, `page` and `array`, which take and give IDs. Constant time.
+
+        >>> graph.ids.matching(s=1), list(graph.ids.find(s=1, p="u:p"))
+        (2, [(1, 1, 2)])
+        """
+        return Ids(self)
+
     def matching(self, s: Given = None, p: Given = None, o: Given = None) -> int:
         """How many triples `find` gives. Raises TypeError. It takes at most a scan of them, and often less.
 
-        >>> with hdt.open("graph.hdt") as graph:
-        ...     graph.matching(), graph.matching(p="u:p")
+        >>> graph.matching(), graph.matching(p="u:p")
         (3, 2)
         """
         return self._matching(self._checked(matched(s, p, o)))
 
     def matching_ids(self, s: Part = None, p: Part = None, o: Part = None) -> int:
-        """How many triples `find_ids` gives for these parts, in the time of `matching`. Raises TypeError.
+        """The older name of `ids.matching`, deprecated. Arguments and time are the same. Errors: as there.
 
-        >>> with hdt.open("graph.hdt") as graph:
-        ...     graph.matching_ids(p=1), graph.matching_ids(1, "u:q"), graph.matching_ids(9)
-        (2, 1, 0)
+        >>> graph.matching_ids(1, "u:q")
+        1
         """
-        return self._matching(self._checked(pattern_of(s, p, o)))
+        return self.ids.matching(s, p, o)
 
     def __contains__(self, triple: object) -> bool:
         terms = triple_of(triple)
@@ -243,15 +240,14 @@ class Graph(OpenHandle):
     ) -> Iterator[StringTriple]:
         """Iterate over the triples that have each given term, in the order of the file, each once.
 
-        Terms are dictionary strings, both the given ones and those of the triples; None matches any. The first `start`
-        matches are left out, and at most `limit` are given. Errors: TypeError, ValueError for a negative number.
+        They are tuples of dictionary strings. The first `start` matches are left out, and at most `limit` are given.
+        Errors: TypeError, ValueError for a negative number.
 
         The time is linear in the triples, those left out and the graph's strings; the first triples come at once. It
-        keeps the IDs and strings of a portion of the triples (of up to 65,536, fewer if strings are long, or of a 64th
-        as many as the graph has strings), and those of roles with few strings (up to a million that take 64 MiB).
+        keeps IDs and strings of up to 65,536 triples (fewer if strings are long, or a 64th of the number of strings),
+        and those of roles with few strings (up to a million that take 64 MiB).
 
-        >>> with hdt.open("graph.hdt") as graph:
-        ...     list(graph.find("u:a")), list(graph.find(limit=1, start=2))
+        >>> list(graph.find("u:a")), list(graph.find(limit=1, start=2))
         ([('u:a', 'u:p', 'u:b'), ('u:a', 'u:q', '"x"')], [('u:b', 'u:p', 'u:a')])
         """
         self._check_open()
@@ -264,33 +260,24 @@ class Graph(OpenHandle):
     def find_ids(
         self, s: Part = None, p: Part = None, o: Part = None, *, limit: Optional[int] = None, start: int = 0
     ) -> Iterator[IdTriple]:
-        """Iterate over the triples of `find` as the IDs of their strings. Parts are strings, IDs, or any.
+        """The older name of `ids.find`, deprecated. Arguments and time are the same. Errors: as there.
 
-        An ID that no string of the role has matches nothing. Errors: those of `find`. The time is linear in the triples
-        and those left out. It keeps 24 bytes for each triple of a portion of up to 4,096.
-
-        >>> with hdt.open("graph.hdt") as graph:
-        ...     list(graph.find_ids(p="u:p")), list(graph.find_ids(s=2, p=1))
-        ([(1, 1, 2), (2, 1, 1)], [(2, 1, 1)])
+        >>> list(graph.find_ids(s=2, p=1))
+        [(2, 1, 1)]
         """
-        self._check_open()
-        pages = self._pages(self._checked(pattern_of(s, p, o)), *window(start, limit))
-        return chain.from_iterable(map(rows, pages))
+        return self.ids.find(s, p, o, limit=limit, start=start)
 
     find_numbers = find_ids
 
     def id_array(
         self, s: Part = None, p: Part = None, o: Part = None, *, limit: Optional[int] = None, start: int = 0
     ) -> IdArray:
-        """The triples of `find_ids` in one array, which numpy takes without a copy.
+        """The older name of `ids.array`, deprecated. Arguments and time are the same. Errors: as there.
 
-        Errors: those of `find_ids`, MemoryError. It counts the matches, then writes them: 24 bytes each.
-
-        >>> with hdt.open("graph.hdt") as graph:
-        ...     graph.id_array().column("predicate").tolist()
-        [1, 2, 1]
+        >>> graph.id_array()
+        <hdt.IdArray of 3 triples>
         """
-        return IdArray(self._page_of_all(self._checked(pattern_of(s, p, o)), *window(start, limit)))
+        return self.ids.array(s, p, o, limit=limit, start=start)
 
     def page(
         self, s: Given = None, p: Given = None, o: Given = None, *, start: int = 0, limit: int = 100
@@ -300,8 +287,7 @@ class Graph(OpenHandle):
         The position of a triple is its index in the file, from 0. The second value is that of the next match, or None
         if there are no more; `limit=0` gives that of the first. A page takes the same time anywhere. Errors: as `find`.
 
-        >>> with hdt.open("graph.hdt") as graph:
-        ...     graph.page(p="u:p", limit=1), graph.page(p="u:p", limit=1, start=2)
+        >>> graph.page(p="u:p", limit=1), graph.page(p="u:p", limit=1, start=2)
         (([('u:a', 'u:p', 'u:b')], 2), ([('u:b', 'u:p', 'u:a')], None))
         """
         pattern, (first, most) = self._checked(matched(s, p, o)), window(start, operator.index(limit))
@@ -311,15 +297,12 @@ class Graph(OpenHandle):
     def page_ids(
         self, s: Part = None, p: Part = None, o: Part = None, *, start: int = 0, limit: int = 100
     ) -> tuple[list[IdTriple], Optional[int]]:
-        """A page of the triples of `find_ids`, as `page`, and in its time. Errors: those of `find`.
+        """The older name of `ids.page`, deprecated. Arguments and time are the same. Errors: as there.
 
-        >>> with hdt.open("graph.hdt") as graph:
-        ...     graph.page_ids(limit=2), graph.page_ids(limit=2, start=2)
-        (([(1, 1, 2), (1, 2, 3)], 2), ([(2, 1, 1)], None))
+        >>> graph.page_ids(limit=2)
+        ([(1, 1, 2), (1, 2, 3)], 2)
         """
-        first, most = window(start, operator.index(limit))
-        ids, following = self._page(self._checked(pattern_of(s, p, o)), first, most or 0)
-        return list(rows(ids)), following
+        return self.ids.page(s, p, o, start=start, limit=limit)
 
     def position(
         self, s: Part = None, p: Part = None, o: Part = None, *, skip: int = 0, start: int = 0
@@ -329,32 +312,28 @@ class Graph(OpenHandle):
         It is for `page`. Errors: those of `find`. The time is linear in `skip`, but that of a page if the parts that
         are given are the first ones.
 
-        >>> with hdt.open("graph.hdt") as graph:
-        ...     graph.position(p="u:p", skip=1), graph.position("u:a", skip=2), graph.position(p="u:p", start=1)
+        >>> graph.position(p="u:p", skip=1), graph.position("u:a", skip=2), graph.position(p="u:p", start=1)
         (2, None, 2)
         """
         return self._position(self._checked(pattern_of(s, p, o)), window(skip, None)[0], window(start, None)[0])
 
     def text(self, s: Given = None, p: Given = None, o: Given = None) -> str:
-        """Return the triples of `find` as N-Triples, one a line.
+        """Return the triples of `find` as N-Triples, one a line. `text_pieces` and `write_text` take less memory.
 
         Errors: `NotATerm` if a string has no form in N-Triples, which only files of other programs have; TypeError,
-        MemoryError. `text_pieces` and `write_text` keep little in memory.
+        MemoryError.
 
-        >>> with hdt.open("graph.hdt") as graph:
-        ...     print(graph.text("u:a"), end="")
-        <u:a> <u:p> <u:b> .
-        <u:a> <u:q> "x" .
+        >>> graph.text("u:b")
+        '<u:b> <u:p> <u:a> .\\n'
         """
         return self._text(self._checked(matched(s, p, o)))
 
     def page_text(
         self, s: Part = None, p: Part = None, o: Part = None, *, start: int = 0, limit: int = 100
     ) -> tuple[str, Optional[int]]:
-        """The triples of `page_ids` as N-Triples, and the next start. It takes the time of `page`. Errors: as `text`.
+        """The triples of `ids.page` as N-Triples, and the next start. It takes the time of `page`. Errors: as `text`.
 
-        >>> with hdt.open("graph.hdt") as graph:
-        ...     graph.page_text(p="u:p", limit=1)
+        >>> graph.page_text(p="u:p", limit=1)
         ('<u:a> <u:p> <u:b> .\\n', 2)
         """
         first, most = window(start, operator.index(limit))
@@ -366,8 +345,7 @@ class Graph(OpenHandle):
         Errors: those of `text`; `NotATerm` comes after the pieces before. It keeps one piece, which looks up its own
         strings: the time is that of `page` for each.
 
-        >>> with hdt.open("graph.hdt") as graph:
-        ...     sum(map(len, graph.text_pieces()))
+        >>> sum(map(len, graph.text_pieces()))
         58
         """
         self._check_open()
@@ -378,12 +356,7 @@ class Graph(OpenHandle):
 
         Errors: those of `text_pieces`, and what the file raises. It takes the time and the memory of `text_pieces`.
 
-        >>> import io
-        >>> written = io.BytesIO()
-        >>> with hdt.open("graph.hdt") as graph:
-        ...     graph.write_text(written, o='"x"')
-        >>> written.getvalue()
-        b'<u:a> <u:q> "x" .\\n'
+        >>> with open("some.nt", "wb") as file: graph.write_text(file, o='"x"')
         """
         is_text = isinstance(file, io.TextIOBase)
         for piece in self.text_pieces(s, p, o):

@@ -8,9 +8,10 @@ from collections.abc import Iterable, Iterator
 from typing import Any, Optional
 
 from . import _library
-from ._calls import ROLES, Pattern, bracketed, encoded, is_bracketed, pattern_of
+from ._calls import ROLES, IdTriple, Pattern, bracketed, encoded, is_bracketed, packed_ids, pattern_of
 from ._faults import NotATerm
 from ._handles import Handles
+from ._ids import rows
 from ._library import Made, Ranges, TextResult, library
 
 _PORTION = 4_096  # strings of a role that are looked up at once at most,
@@ -140,6 +141,18 @@ class OpenHandle(Handles):
         got = self._asked(library.hdt_page, pattern.packed, min(start, _LARGEST), *places) or 0
         del page[3 * got :]
         return page, None if following[0] == _library.ABSENT else following[0]
+
+    def _first_ids(
+        self, s: Optional[int], p: Optional[int], o: Optional[int], room: int
+    ) -> tuple[list[IdTriple], bool]:
+        """The first matches of IDs that this graph gave, at most `room`, and whether there are more.
+
+        It is for callers that make thousands of small searches: `page_ids`, which checks, takes half as long again.
+        """
+        page = _ZERO * (3 * room + 1)  # (the position of the next match is behind them)
+        at = page.buffer_info()[0]
+        got = self._asked(library.hdt_page, packed_ids(s, p, o), 0, at, room, at + 24 * room) or 0
+        return list(rows(page[: 3 * got])), page[-1] != _library.ABSENT
 
     def _position(self, pattern: Pattern, skip: int, start: int = 0) -> Optional[int]:
         """The position of the match after the first `skip` ones from a position on; None if there are no more.

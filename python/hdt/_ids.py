@@ -7,6 +7,7 @@ from collections.abc import Iterator, Sequence
 from typing import Any, Union, overload
 
 from ._calls import IdTriple, Role, role_number
+from ._documented import DocumentedABC
 
 
 def rows(ids: array.array[int]) -> Iterator[IdTriple]:
@@ -15,14 +16,14 @@ def rows(ids: array.array[int]) -> Iterator[IdTriple]:
     return zip(each, each, each)
 
 
-class IdArray(Sequence[IdTriple]):
-    """Triples of IDs, 24 bytes each, without an object for each ID. `Graph.id_array` makes it.
+class IdArray(Sequence[IdTriple], metaclass=DocumentedABC):
+    """Triples of IDs, 24 bytes each, without an object for each ID. `Graph.ids.array` makes it.
 
     It is a sequence of tuples; a slice is another one, with a copy. `array` has the IDs of its rows one after another,
     and lends them by the buffer protocol. `numpy.asarray` takes it as rows of three, without a copy.
 
     >>> with hdt.open("graph.hdt") as graph:
-    ...     ids = graph.id_array("u:a")
+    ...     ids = graph.ids.array("u:a")
     >>> ids
     <hdt.IdArray of 2 triples>
     >>> list(ids), ids[-1], ids.array.tolist()
@@ -78,8 +79,7 @@ class IdArray(Sequence[IdTriple]):
     def column(self, role: Role) -> array.array[int]:
         """The IDs of a role, in the order of the triples, as a new array. Linear time. Raises ValueError.
 
-        >>> with hdt.open("graph.hdt") as graph:
-        ...     graph.id_array().column("object")
+        >>> graph.ids.array().column("object")
         array('Q', [2, 3, 1])
         """
         return self.array[role_number(role) :: 3]

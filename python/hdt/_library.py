@@ -172,6 +172,8 @@ def _load() -> Any:
         ("hdt_with_header", [*bytes_of, *bytes_of, made, verdict, report], None),
         ("hdt_free", [made], None),
         ("hdt_version", [], ctypes.c_uint32),
+        ("hdt_reason_name", [ctypes.c_uint32, room, size], number),
+        ("hdt_text_reason_name", [ctypes.c_uint32, room, size], number),
     ):
         try:
             call = getattr(loaded, name)

@@ -90,20 +90,17 @@ def merge(
 ) -> Counts:
     """Merge files, by their paths, and open graphs into one file of all their triples, and return its counts.
 
-    Each triple is in the file once. The order of the inputs makes no difference: the file is the one that `build` makes
-    of the triples as one text. So a blank node label in two inputs is one node. `base` and `block_size` are those of
-    `build`. The output is replaced atomically, as by `build`, and may be one of the inputs. Graphs stay open.
-    `progress` is that of `build`: it is told the bytes of the files that are open, for each input. The merge comes
-    after it.
+    The file is the one that `build` makes of the triples as one text, so a blank node label in two inputs is one node.
+    `base` and `block_size` are those of `build`. The output is replaced atomically, and may be one of the inputs.
+    Graphs stay open. `progress` is that of `build`, of the bytes of the files that are open; the merge comes after it.
 
     Errors: `Fault` with the path of an input and its first error; ValueError for the options and for a closed graph;
     `NoTriples` if there are no inputs; TypeError; MemoryError; OSError; what `progress` raises. The time is linear in
-    the inputs, with their strings decoded, except for sorting. All inputs are open at once. Memory beside them: the
-    strings of each, front-coded, with 24 bytes each, and once more the distinct ones; 24 bytes for each triple of each
-    input; and the file.
+    the inputs, with their strings decoded, except for sorting. Memory beside the inputs, which are all open: their
+    strings, front-coded, with 24 bytes each, and once more the distinct ones; 5 to 9 bytes for each triple of each
+    input, and as much for sorting, with 24 MB; and the file.
 
-    >>> with hdt.open("graph.hdt") as graph:
-    ...     hdt.merge([graph, "graph.hdt"], "merged.hdt")
+    >>> hdt.merge([graph, "graph.hdt"], "merged.hdt")
     Counts(triples=3, shared=2, subjects=0, predicates=2, objects=1)
     """
     if isinstance(inputs, (str, bytes, os.PathLike, Graph)):

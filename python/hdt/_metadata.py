@@ -6,10 +6,12 @@ import datetime
 import re
 from collections.abc import Callable, Iterable, Iterator, Mapping
 from contextlib import ExitStack
-from typing import Optional, Union
+from typing import Any, Optional, Union
 
 from ._calls import Path
+from ._files import with_header
 from ._graph import Graph
+from ._library import Made
 from ._terms import Term
 
 # A text, a date or a time, or a term.
@@ -17,13 +19,15 @@ Value = Union[str, datetime.date, Term]
 # One value, or several.
 Values = Union[Value, Iterable[Value]]
 
-_RDF_TYPE = "http://www.w3.org/1999/02/22-rdf-syntax-ns#type"
+RDF_TYPE = "http://www.w3.org/1999/02/22-rdf-syntax-ns#type"
 _HDT_DATASET = "http://purl.org/HDT/hdt#Dataset"
 _VOID = "http://rdfs.org/ns/void#"
-_DCTERMS = "http://purl.org/dc/terms/"
+DCTERMS = "http://purl.org/dc/terms/"
 _XSD = "http://www.w3.org/2001/XMLSchema#"
+# The classes of a dataset, the likeliest of the graph itself first.
+DATASETS = (_HDT_DATASET, _VOID + "Dataset", "http://www.w3.org/ns/dcat#Dataset")
 _BASE = "http://example.org/dataset"
-_NAMED = re.compile(rf"<([^>]*)> <{re.escape(_RDF_TYPE)}> <{re.escape(_HDT_DATASET)}> \.")
+_NAMED = re.compile(rf"<([^>]*)> <{re.escape(RDF_TYPE)}> <{re.escape(_HDT_DATASET)}> \.")
 _IRI = re.compile(r"[A-Za-z][A-Za-z0-9+.-]*:[^\x00-\x20<>\"{}|^`\\]+")
 _DATE = re.compile(r"\d{4}-\d\d-\d\d")
 
@@ -50,6 +54,7 @@ _PROPERTIES: dict[str, Callable[[str], Term]] = {
     "publisher": _node,
     "creator": _node,
     "source": _node,
+    "issued": _day,
     "created": _day,
     "modified": _day,
 }
@@ -79,7 +84,7 @@ def _each(values: Optional[Values]) -> Iterator[Value]:
 
 def _classes(graph: Graph) -> int:
     """How many different objects the property rdf:type has."""
-    return len({number for _, _, number in graph.find_ids(p=_RDF_TYPE)})
+    return len({number for _, _, number in graph.find_ids(p=RDF_TYPE)})
 
 
 def _void(graph: Graph) -> Iterator[tuple[str, Term]]:
@@ -110,6 +115,7 @@ def metadata(
     publisher: Optional[Values] = None,
     creator: Optional[Values] = None,
     source: Optional[Values] = None,
+    issued: Optional[Values] = None,
     created: Optional[Values] = None,
     modified: Optional[Values] = None,
     properties: Optional[Mapping[str, Values]] = None,
@@ -122,27 +128,65 @@ def metadata(
     and of classes, the objects of rdf:type. The first ones are those of the file's strings, so `rewrite` a file first
     if it has strings that no triple uses. The time is that of `open` and linear in the triples with rdf:type.
 
-    The other arguments are properties of Dublin Core, each with a value or several. A value is a `Term`, a date or a
-    time, or a text. A text that is an absolute IRI is one for `license`, `publisher`, `creator` and `source`; for
-    `created` and `modified` 2026-11-29 is a date; other texts are plain literals. `properties` has more, by their IRIs;
-    their texts are literals.
-
-    Errors: `Fault` as of `open`, ValueError for texts that are no terms, TypeError, MemoryError, OSError.
+    The other arguments, which `build` takes, too, are properties of Dublin Core, each with a value or several: `Term`s,
+    dates, times or texts. A text that is an absolute IRI is one for `license`, `publisher`, `creator` and `source`; for
+    `issued`, `created` and `modified` 2026-11-29 is a date; other texts are plain literals. `properties` has more, by
+    their IRIs; their texts are literals. Errors: `Fault` as of `open`, ValueError for texts that are no terms,
+    TypeError, MemoryError, OSError.
 
     >>> text = hdt.metadata("graph.hdt", title="Examples", license="https://creativecommons.org/publicdomain/zero/1.0/")
     >>> hdt.rewrite("graph.hdt", "described.hdt", header=text).triples
     3
-    >>> print(text.splitlines()[2])
-    <http://a/> <http://rdfs.org/ns/void#triples> "3"^^<http://www.w3.org/2001/XMLSchema#integer> .
     """
-    given = locals()
+    given = {name: value for name, value in locals().items() if name not in ("graph", "base")}
+    lines = _lines(given)
     with ExitStack() as kept:
         opened = graph if isinstance(graph, Graph) else kept.enter_context(Graph._of_file(graph, None))
-        subject = Term("iri", _name_of(opened) if base is None else base)
-        pairs = [(_RDF_TYPE, Term("iri", _HDT_DATASET)), (_RDF_TYPE, Term("iri", _VOID + "Dataset")), *_void(opened)]
+        text = _text(opened, base, lines)
+    return text
+
+
+def _lines(given: Mapping[str, Any]) -> list[str]:
+    """The lines of keywords of `metadata`, without their subject. Raises TypeError, ValueError."""
+    if unknown := set(given) - {*_PROPERTIES, "properties"}:
+        names = ", ".join([*_PROPERTIES, "properties"])
+        raise TypeError(f"metadata has no {min(unknown)!r}: it may have {names}")
+    pairs: list[tuple[str, Term]] = []
     for name, of_text in _PROPERTIES.items():
-        pairs += [(_DCTERMS + name, _term(value, of_text)) for value in _each(given[name])]
-    for iri, values in (properties or {}).items():
+        pairs += [(DCTERMS + name, _term(value, of_text)) for value in _each(given.get(name))]
+    for iri, values in (given.get("properties") or {}).items():
         pairs += [(iri, _term(value, _literal)) for value in _each(values)]
-    named = subject.format_ntriples()
-    return "".join(f"{named} {Term('iri', iri).format_ntriples()} {it.format_ntriples()} .\n" for iri, it in pairs)
+    return list(map(_line, pairs))
+
+
+def _line(pair: tuple[str, Term]) -> str:
+    """A property and its value as N-Triples."""
+    return f"{Term('iri', pair[0]).format_ntriples()} {pair[1].format_ntriples()} .\n"
+
+
+def _text(graph: Graph, base: Optional[str], lines: Iterable[str]) -> str:
+    """The header of a graph: what it is, its numbers, and lines about it."""
+    named = Term("iri", _name_of(graph) if base is None else base).format_ntriples()
+    kinds = [(RDF_TYPE, Term("iri", _HDT_DATASET)), (RDF_TYPE, Term("iri", _VOID + "Dataset"))]
+    return "".join(f"{named} {line}" for line in (*map(_line, [*kinds, *_void(graph)]), *lines))
+
+
+class Header:
+    """The header that a file gets as it is built: a text, or what keywords of `metadata` say."""
+
+    def __init__(self, text: Union[str, bytes, None], keywords: Optional[Mapping[str, Any]]) -> None:
+        """Raises ValueError for both, or for values that are no terms, TypeError."""
+        if text is not None and keywords is not None:
+            raise ValueError("a header is given as a text or by metadata, not by both")
+        self._text, self._lines = text, None if keywords is None else _lines(keywords)
+
+    def put(self, made: Made, other: Made) -> Made:
+        """Write a built file with the header to `other`, or as it is without a header. Raises LineFault."""
+        text = self._text
+        if self._lines is not None:
+            with Graph(made.view()) as graph:
+                text = _text(graph, None, self._lines)
+        if text is None:
+            return made
+        with_header(made.view(), other, text)
+        return other

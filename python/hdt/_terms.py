@@ -7,6 +7,8 @@ import sys
 from dataclasses import dataclass
 from typing import Literal, Optional, Union
 
+from ._documented import Documented
+
 Kind = Literal["iri", "blank", "literal"]
 
 _XSD_STRING = "http://www.w3.org/2001/XMLSchema#string"
@@ -75,7 +77,7 @@ def _unescaped_iri(text: str) -> str:
 
 
 @dataclass(frozen=True)
-class Term:
+class Term(metaclass=Documented):
     """A term: an IRI, a blank node or a literal. Terms with the same fields are equal. Its calls take linear time.
 
     `kind` is `"iri"`, `"blank"` or `"literal"`. `lexical` is the IRI, the label without `_:`, or the text of the
@@ -114,9 +116,7 @@ class Term:
 
     @classmethod
     def parse(cls, string: str) -> Term:
-        """Take a dictionary string apart.
-
-        Raises ValueError for the string of no term, which other programs may write, and TypeError.
+        """Take a dictionary string apart. Raises TypeError, and ValueError for a string that is no term.
 
         >>> hdt.Term.parse('"1"^^<http://www.w3.org/2001/XMLSchema#integer>').lexical
         '1'
@@ -146,9 +146,7 @@ class Term:
 
     @classmethod
     def parse_ntriples(cls, text: str) -> Term:
-        """Read a term of N-Triples, without anything around it; docs/NTRIPLES.md has the grammar.
-
-        The datatype xsd:string is dropped, as RDF 1.1 says of plain literals. Raises ValueError.
+        """Read a term of N-Triples, without anything around it. The datatype xsd:string is dropped. Raises ValueError.
 
         >>> hdt.Term.parse_ntriples("<http://a/b>").format()
         'http://a/b'

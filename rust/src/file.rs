@@ -106,8 +106,8 @@ pub fn build(text: &[u8], base: &str, block_size: u16) -> Result<(Bytes, Counts)
 ///
 /// The order of the graphs makes no difference. A blank node label in two graphs is one node, as in one text. `base` and
 /// `block_size` are those of [`build`]. Time is linear in the graphs, with their strings decoded, except for sorting.
-/// Memory: the strings of each graph, front-coded, with 24 bytes each, and once more the distinct ones; 24 bytes for each
-/// triple of each graph; and the file.
+/// Memory: the strings of each graph, front-coded, with 24 bytes each, and once more the distinct ones; 5 to 9 bytes for
+/// each triple of each graph, and as much for sorting, with 24 MB; and the file.
 ///
 /// # Errors
 ///

@@ -18,7 +18,8 @@ class Block(NamedTuple):
 
 def documents() -> list[str]:
     """The documents' names."""
-    paths = (path for folder in ("", "docs/", "tests/") for path in sorted(TOP.glob(f"{folder}*.md")))
+    folders = "", "crates/example/", "docs/", "tests/"
+    paths = (path for folder in folders for path in sorted(TOP.glob(f"{folder}*.md")))
     return [str(path.relative_to(TOP)) for path in paths]
 
 

@@ -8,11 +8,13 @@ from support.package_mutants import judge
 
 FORMATS, HOSTILE, TRIPLES = "tests/test_formats.py", "tests/test_formats_hostile.py", "tests/test_formats_triples.py"
 COMMAND, COMPAT, INSTALL = "tests/test_formats_command.py", "tests/test_compat.py", "tests/test_install.py"
+HEADER = "tests/test_header_python.py"
 ORDERS = {
     "_triples": [TRIPLES, FORMATS], "_process": [HOSTILE, FORMATS], "_compressed": [HOSTILE, FORMATS],
     "__main__": [COMMAND], "_program": [COMMAND], "compat": [COMPAT],
     "_blocks": [FORMATS, HOSTILE, "tests/test_parts.py", "tests/test_parts_hostile.py"],
-    "_mapped": ["tests/test_parts.py", FORMATS],
+    "_mapped": ["tests/test_parts.py", FORMATS], "_build": [HEADER, FORMATS, HOSTILE, TRIPLES], "_metadata": [HEADER],
+    "_about": [HEADER],
 }  # fmt: skip
 
 WRONG = {
@@ -40,7 +42,7 @@ WRONG = {
         ("the text has no limit", "if most is not None and self._size > most:", "if False:"),
         ("the limit is that of a block", "self._size += len(text)", "self._size = len(text)"),
         ("a text of the limit is too large", "self._size > most", "self._size >= most"),
-        ("the base isn't looked at first", "    check_header(header, block_size)\n", ""),
+        ("the base isn't looked at first", "    check_header(output.base, block_size, output.header)\n", ""),
         ("what rapper wrote stays", "        self._text.truncate()\n        self._size = size\n", ""),
         ("bytes that are read again count twice", "        self._meter.go_back(read)\n", ""),
         ("a file that is open is read again",
@@ -51,6 +53,22 @@ WRONG = {
         ("a compressed file goes to the library", " and not suffix_of(name)", ""),
         ("blank nodes of the last block alone", "has_blank_nodes or found.has_blank_nodes", "found.has_blank_nodes"),
         ("no triples are a file", "        if not size:\n", "        if False:\n"),
+        ("the header is that of the library", "self.header.put(made, other).view()", "made.view()"),
+        ("the header isn't looked at first",
+         "        if header is not None:\n            header.put(made, other)\n", ""),
+    ],
+    "_metadata": [
+        ("a header and metadata are one", "if text is not None and keywords is not None:", "if False:"),
+        ("an unknown property is passed over", 'set(given) - {*_PROPERTIES, "properties"}', "set()"),
+        ("values are iterated again", "None if keywords is None else _lines(keywords)",
+         "None if keywords is None else keywords"),
+    ],
+    "_about": [
+        ("a header has no bound", "    if len(header) > _LARGEST:\n        return {}\n", ""),
+        ("one of several datasets", "return found[0] if len(found) == 1 else None", "return found[0]"),
+        ("values have no bound", "key=_rank)[:_MOST]", "key=_rank)"),
+        ("blank nodes are values", ' and not o.startswith("_:")', ""),
+        ("the first language is the title's", "key=_rank)[:_MOST]", "key=str)[:_MOST]"),
     ],
     "_compressed": [
         ("what follows an archive is ignored",
@@ -134,8 +152,10 @@ WRONG = {
     ],
     "__main__": [
         ("all is the program's", "if options.inputs[0] == \"-\" or is_plain", "if True or is_plain"),
-        ("standard input may be read twice", 'if options.inputs.count("-") > 1:', "if False:"),
+        ("standard input may be read twice", 'if [*options.inputs, options.header].count("-") > 1:', "if False:"),
         ("a faulty input is a usage error", "status = _say(error, 1)", "status = _say(error, 2)"),
+        ("a title of one document is lost", 'more = (*_MORE, *_METADATA, "header")', "more = _MORE"),
+        ("OUT may be the header", '(*options.inputs, options.header or "-")', "options.inputs"),
     ],
     "_program": [
         ("a script is the program", "return file.read(len(_MAGIC)) == _MAGIC", "return True"),

@@ -29,9 +29,9 @@ from support.python_package import ENVIRONMENT, PACKAGE, hdt
 
 with mock.patch.object(sys, "dont_write_bytecode", True), mock.patch.object(sys, "path", [str(PACKAGE), *sys.path]):
     import hdt.fragments as fragments
+    from hdt._web.server import Handler, Server
     from hdt.fragments import _style as style
     from hdt.fragments import _terms as terms
-    from hdt.fragments.__main__ import Handler, Server
 
 __all__ = [
     "BASE", "ODD", "PATIENCE", "Answer", "Handler", "Served", "Server", "Site", "fragments", "hdt", "style",

@@ -22,7 +22,8 @@ from support.python_package import PACKAGE, hdt
 
 with mock.patch.object(sys, "dont_write_bytecode", True), mock.patch.object(sys, "path", [str(PACKAGE), *sys.path]):
     import hdt.parts as parts
-    from hdt.parts import _build, _files, _folder, _inputs, _manifest, _regular, _split
+    from hdt import _regular
+    from hdt.parts import _build, _files, _folder, _inputs, _manifest, _split
 
 __all__ = ["NUMBERS", "ROWS", "SPECIAL", "TEXTS", "Triple", "builds", "check_same", "files", "graph_of", "hdt",
            "inputs", "interrupt", "manifests", "named", "of_one", "parts", "patterns", "places", "put", "ranges",

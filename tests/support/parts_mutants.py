@@ -12,7 +12,7 @@ HOSTILE = "tests/test_parts_hostile.py"
 ORDERS = {
     "_executor": [WORKERS, BUILD, SEARCH], "_folder": [SEARCH, BUILD, WORKERS], "_graph": [SEARCH, BUILD, WORKERS],
     "_files": [SEARCH, BUILD, WORKERS], "_manifest": [HOSTILE, SEARCH, BUILD, WORKERS],
-    "_regular": [HOSTILE],
+    "../_regular": [HOSTILE],
 }
 
 WRONG = {
@@ -43,7 +43,7 @@ WRONG = {
         ("a manifest is read whole", "regular.read(file, MOST_BYTES + 1)", "file.read()"),
         ("a deep manifest is another error", "        except RecursionError:\n", "        except KeyError:\n"),
     ],
-    "_regular": [
+    "../_regular": [
         ("pipes are waited for", "flags | os.O_NONBLOCK | os.O_NOCTTY", "flags"),
         ("what is opened isn't looked at", "        _check(os.fstat(file.fileno()), path)\n", ""),
         ("a file is read to its end", "read(file, size + 1)", "file.read()"),

@@ -1,6 +1,6 @@
 """The Python package `hdt` of this repository, over the shared library under test.
 
-`faults` is its module with the names of errors, `pattern_of` its function that packs a pattern.
+`pattern_of` is its function that packs a pattern.
 """
 
 from __future__ import annotations
@@ -17,7 +17,6 @@ ENVIRONMENT = {"HDT_LIBRARY": str(SHARED_LIBRARY), "PYTHONPATH": str(PACKAGE), "
 with mock.patch.dict("os.environ", ENVIRONMENT), mock.patch.object(sys, "dont_write_bytecode", True), \
         mock.patch.object(sys, "path", [str(PACKAGE), *sys.path]):
     import hdt
-    from hdt import _faults as faults
     from hdt._calls import pattern_of
 
-__all__ = ["ENVIRONMENT", "PACKAGE", "faults", "hdt", "pattern_of"]
+__all__ = ["ENVIRONMENT", "PACKAGE", "hdt", "pattern_of"]

@@ -6,8 +6,15 @@ import sys
 
 from support.package_mutants import judge
 
-TESTS = ["tests/test_rdflib.py", "tests/test_rdflib_queries.py"]
-STORE = {"_terms", "../_rdflib_terms", "_file", "_store"}  # modules that queries don't need
+STORE, QUERIES, PATHS, VALUES, ALGEBRA, ANSWERS = (
+    f"tests/test_rdflib{name}.py" for name in ("", "_queries", "_paths", "_values", "_algebra", "_answers")
+)
+# The tests of a module that are run first. Those of answers take the most time.
+FIRST = {
+    "_terms": STORE, "../_rdflib_terms": STORE, "_file": STORE, "_store": STORE, "_paths": PATHS, "_ways": PATHS,
+    "_cells": VALUES, "_expressions": VALUES, "_aggregates": VALUES, "_algebra": ALGEBRA, "_compiler": ALGEBRA,
+    "_describe": ANSWERS,
+}  # fmt: skip
 
 WRONG = {
     "_terms": [
@@ -43,7 +50,7 @@ WRONG = {
         ("a node is in every role",
          "return self._known(role, [self.graph.string(ROLES[at], number)]) if role == 1 else ()", "return (number,)"),
         ("a search has its first page only",
-         "        if following is not None:\n            more", "        if False:\n            more"),
+         "        if has_more:\n            more", "        if False:\n            more"),
         ("a search begins again after its first page", "start=_FIRST)", "start=0)"),
         ("a search ends after 65,600 triples", "start=_FIRST)", "start=_FIRST, limit=65_536)"),
         ("long tags are spelled out", "> _MOST_LETTERS:", "> 8 * _MOST_LETTERS:"),
@@ -155,6 +162,8 @@ WRONG = {
          "    except KeyError:\n        raise\n    if isinstance(value, SPARQLError):"),
         ("random numbers are kept", 'not names & (_NEW_EACH_TIME | _OF_A_GRAPH)', "not names & _OF_A_GRAPH"),
         ("a constant is on the other side", "lambda value: test(given, value)", "lambda value: test(value, given)"),
+        ("what isn't bound is", "return found and (found[0], not found[1])", "return found"),
+        ("a bound value isn't", "(row[at] is not None) is wanted]", "(row[at] is None) is wanted]"),
     ],
     "_aggregates": [
         ("a bad value is no error", "                self._failed.add(key)\n                continue\n",
@@ -221,7 +230,12 @@ WRONG = {
     ],
 }
 
-QUICK = [f"tests/test_rdflib_{name}.py" for name in ("answers", "paths", "values", "queries", "algebra")]
+
+def tests_of(module: str) -> list[str]:
+    """The tests of a module, those first that are likely to see a wrong body; of the store only where it is meant."""
+    first = FIRST.get(module, QUERIES)
+    return [first, *(it for it in (QUERIES, PATHS, VALUES, ALGEBRA, ANSWERS) if it != first)]
+
 
 if __name__ == "__main__":
-    sys.exit(judge("python/hdt/rdflib", WRONG, lambda it: TESTS if it in STORE else QUICK))
+    sys.exit(judge("python/hdt/rdflib", WRONG, tests_of))

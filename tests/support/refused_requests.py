@@ -536,6 +536,8 @@ def rewriting() -> Iterator[Request]:
         yield "rewrite_bytes", 16, b"http://a/"
         yield "rewrite_bytes", 1, b""
         yield "rewrite_bytes", 0, b""
+        for block_size in (16, 1, 0):
+            yield "is_canonical", block_size
         yield "rewrite", 16, b"http://a/", *WRITER
         for fails in ("0", "1", "2:interrupted", "3:zero", "@170"):
             yield "rewrite", 1, b"http://a/", 50, fails
@@ -547,6 +549,7 @@ def rewriting() -> Iterator[Request]:
 def large_rewriting() -> Iterator[Request]:
     """A file of 3,000 triples, and one of many strings in one block of which the most are unused."""
     yield "file", of_document(numbered(3_000))
+    yield "is_canonical", 16
     yield "rewrite_bytes", 7, b"http://a/"
     yield "rewrite", 65_535, b"http://a/", 1_000, "-"
     yield "file", reference.loose_prefixes(1_000, 300)[0]
@@ -555,7 +558,7 @@ def large_rewriting() -> Iterator[Request]:
 
 # The last ones are read by a word of their own too.
 COMMAND_LINES = (
-    ("head", "f"), ("verify", "f"), ("verify", "--tight", "f"), ("strings", "f", "object"),
+    ("head", "f"), ("verify", "f"), ("verify", "--tight", "f"), ("info", "f"), ("strings", "f", "object"),
     ("string", "f", "object", "3"), ("string", "f", "object", "4"), ("number", "f", "object", '"x"'),
     ("find", "f", "?", "<u:p>", "?"), ("find", "--numbers", "f", "?", "?", "?"),
     ("find", "--count", "f", "?", "?", "?"), ("answer", "--numbers", "f"), ("dump", "f"),

@@ -3,7 +3,6 @@ use Rattle.std.proofs.Common.{◌≡◌, ◌↔◌, ◌∙◌, inl, inr, ℕ, �
 use Rattle.std.proofs.Common.{refl, ap, sym, subst, arith}
 use Rattle.std.specs.List.{All, Contains}
 use Rattle.std.proofs.lemmas.List.Elements.{All-contains}
-use Rattle.hdt_wire.specs.Control.{HasNoZero}
 use Rattle.hdt_wire.specs.declared.Role.{Role}
 use Rattle.hdt_wire.specs.declared.Role.TheVariants.{Subject, Predicate, Object}
 use Rattle.hdt_dict.specs.Laws.Members.{Contains-map, Contains-from_map}
@@ -15,7 +14,7 @@ use Rattle.hdt_triples.specs.Uses.{AreUseFlags, role_component, Uses}
 use Rattle.hdt_build.specs.Inside.Collecting.{AreBelow}
 use Rattle.hdt_build.specs.Graph.{subjects_of, predicates_of, objects_of, string_triple_at, string_triples_of}
 use Rattle.hdt_build.specs.Inside.Rewriting.{IsIdOf}
-use Rattle.hdt_build.specs.Inside.Filtering.{flag_at, HaveIds, AreSectionsOf, IsFilteredSection, IsInFilter}
+use Rattle.hdt_build.specs.Inside.Filtering.{flag_at, HaveIds, HaveTexts, AreSectionsOf, IsFilteredSection, IsInFilter}
 use Rattle.hdt_build.specs.Reading.{HasDictionaryStrings}
 use Rattle.hdt_build.proofs.Distinct.{Distinct-ascending}
 use Rattle.hdt_build.proofs.SectionFilling.{flag_before}
@@ -57,9 +56,9 @@ module _ (xs : List (List ℕ)) (ids : List Triple) where
   role_texts h Predicate = h.predicates_are
   role_texts h Object = h.objects_are
 
-  pub used_text : HasDictionaryStrings (string_triples_of xs ids) → (role : Role) (flags : List Bool)
-      → AreUseFlags ids role flags → (k : ℕ) → flag_at flags k ≡ true → HasNoZero (get_or xs k [])
-  used_text h role flags u k on =
+  pub have_texts : HasDictionaryStrings (string_triples_of xs ids) → (role : Role) (flags : List Bool)
+      → AreUseFlags ids role flags → HaveTexts xs flags
+  have_texts h role flags u k on =
       (All-contains IsDictionaryString (map (role_component role) (string_triples_of xs ids)) (get_or xs k [])
       (role_texts h role) (named role (get_or xs k []) k ((u k (flag_before flags k on)).0 on) refl)).no_zero
 

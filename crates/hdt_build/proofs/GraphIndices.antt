@@ -1,8 +1,7 @@
 -- The strings of a graph as indices into a list.
-use Rattle.std.proofs.Common.{◌≡◌, ◌∙◌, ℕ, ◌-◌, ◌<◌, List, [], ◌∷◌, ◌++◌, length, map, get_or, inl, inr}
+use Rattle.std.proofs.Common.{◌≡◌, ◌∙◌, ℕ, ◌+◌, ◌-◌, ◌%◌, ◌^◌, ◌<◌, List, [], ◌++◌, length, map, get_or}
 use Rattle.std.proofs.Common.{ap, sym, arith}
-use Rattle.std.proofs.lemmas.Bool.{cases_lt}
-use Rattle.std.proofs.lemmas.List.{get_or_append_left, get_or-append-add, length_push}
+use Rattle.std.proofs.lemmas.List.{get_or_append_left, get_or-append-add, length-append}
 use Rattle.std.proofs.lemmas.List.Elements.{All-map}
 use Rattle.hdt_wire.specs.declared.Role.{Role}
 use Rattle.hdt_dict.specs.Dictionary.{role_strings}
@@ -20,46 +19,28 @@ use Rattle.hdt_build.proofs.DenotedStrings.{all_in_range}
 use Rattle.hdt_build.proofs.IndexTriples.{joined_is, map_along}
 use Rattle.hdt_build.proofs.StringsOfIds.{same_strings, term_is}
 
--- the numbers are indices of the first strings of a list in another one
-pub record AreFirstIndices (all terms : List (List ℕ)) (made : List ℕ) : Type 0 where
-  pub within : (k : ℕ) → k < length made → get_or made k 0 < length terms
-  pub is : (k : ℕ) → k < length made → get_or terms (get_or made k 0) [] ≡ get_or all k []
+-- a list to which strings were appended
+pub appended : (old more new : List (List ℕ)) → new ≡ old ++ more → ExtendsList old new
+appended old more new e = record {
+  longer = omega (arith, ap length e, length-append old more);
+  kept = λ k lt. ap (λ (xs : List (List ℕ)). get_or xs k []) e ∙ get_or_append_left old more [] k lt;
+}
 
--- one more string
-module _ (all terms more : List (List ℕ)) (made : List ℕ) (a : AreFirstIndices all terms made)
-    (e : ExtendsList terms more) (i : ℕ) (below : i < length more) (is : get_or more i [] ≡ get_or all (length made) [])
-  where
-    last_is : get_or (made ++ i ∷ []) (length made) 0 ≡ i
-    last_is = sym (ap (λ (k : ℕ). get_or (made ++ i ∷ []) k 0) (omega arith)) ∙ get_or-append-add made (i ∷ []) 0 0
+-- the strings of a role, appended to a list, have its last indices
+module _ (g : GraphParts) (role : Role) (old new : List (List ℕ)) (e : new ≡ old ++ role_strings g.dictionary role)
+    (few : length new < 2 ^ 64) where
+  abbrev all : List (List ℕ)
+  all = role_strings g.dictionary role
 
-    pub one_more_index : AreFirstIndices all more (made ++ i ∷ [])
-    one_more_index = record {
-      within = λ k lt. elim (cases_lt k (length made)) [
-        | inl old ↦
-            let old_is = get_or_append_left made (i ∷ []) 0 k old in
-            omega (arith, old_is, a.within k old, e.longer)
-        | inr new ↦
-            let at : k ≡ length made = omega (arith, lt, new, length_push made i) in
-            omega (arith, ap (λ (j : ℕ). get_or (made ++ i ∷ []) j 0) at, last_is, below)
-      ];
-      is = λ k lt. elim (cases_lt k (length made)) [
-        | inl old ↦
-            ap (λ (j : ℕ). get_or more j []) (get_or_append_left made (i ∷ []) 0 k old)
-            ∙ e.kept (get_or made k 0) (a.within k old) ∙ a.is k old
-        | inr new ↦
-            let at : k ≡ length made = omega (arith, lt, new, length_push made i) in
-            ap (λ (j : ℕ). get_or more (get_or (made ++ i ∷ []) j 0) []) at
-            ∙ ap (λ (j : ℕ). get_or more j []) last_is ∙ is ∙ ap (λ (j : ℕ). get_or all j []) (sym at)
-      ];
-    }
-
--- indices of all strings of a role
-pub all_indices : (g : GraphParts) (role : Role) (terms : List (List ℕ)) (made : List ℕ)
-    → AreFirstIndices (role_strings g.dictionary role) terms made
-    → length made ≡ length (role_strings g.dictionary role) → HaveIndices g role terms (λ n. get_or made (n - 1) 0)
-all_indices g role terms made a long = λ n from to.
-    let lt : n - 1 < length made = omega (arith, from, to, long) in
-    (a.within (n - 1) lt, a.is (n - 1) lt ∙ sym (term_is (role_strings g.dictionary role) n from))
+  pub shifted_indices : (first : ℕ) → first ≡ (length new + (2 ^ 64 - length all)) % 2 ^ 64
+      → HaveIndices g role new (λ n. (first + (n - 1)) % 2 ^ 64)
+  shifted_indices first is n from to =
+      let long : length new ≡ length old + length all = omega (arith, ap length e, length-append old all) in
+      let at : (first + (n - 1)) % 2 ^ 64 ≡ length old + (n - 1) = omega (arith, is, long, few, from, to) in (
+        omega (arith, at, long, from, to),
+        ap (λ (k : ℕ). get_or new k []) at ∙ (ap (λ (xs : List (List ℕ)). get_or xs (length old + (n - 1)) []) e
+            ∙ (get_or-append-add old all (n - 1) [] ∙ sym (term_is all n from))),
+      )
 
 -- they are indices into a list that goes on, too
 pub later_indices : (g : GraphParts) (role : Role) (xs ys : List (List ℕ)) (index : ℕ → ℕ)

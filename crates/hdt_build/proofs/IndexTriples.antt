@@ -2,6 +2,7 @@
 use Rattle.std.proofs.Common.{◌≡◌, ◌∙◌, ℕ, ◌+◌, ◌<◌, List, [], ◌∷◌, ◌++◌, map, length, get_or, take, refl, ap, sym}
 use Rattle.std.proofs.Common.{append_assoc, arith}
 use Rattle.std.specs.List.{All}
+use Rattle.std.specs.Prelude.{slice_index}
 use Rattle.std.proofs.lemmas.List.{get_or_default, same_lists, length-map, get_or-map, map-append, map_push}
 use Rattle.std.proofs.lemmas.List.{take-append-le, take_all, take_more}
 use Rattle.std.proofs.lemmas.List.Elements.{All-append, All-head, All-map, All-nil, All-push, All-tail, All-weaker}
@@ -82,15 +83,15 @@ module _ (xs ys : List (List ℕ)) (g : ExtendsList xs ys) (ids : List Triple) (
 
 -- ---- mapped indices
 
--- one more triple is mapped and appended
-pub mapped_more : (f : Triple → Triple) (ts : List Triple) (i : ℕ) (old out : List Triple) → i < length ts
-    → out ≡ old ++ map f (take i ts) → out ++ f (get_or ts i (0, 0, 0)) ∷ [] ≡ old ++ map f (take (i + 1) ts)
-mapped_more f ts i old out lt h =
-    let t : Triple = get_or ts i (0, 0, 0) in
+-- one more element is mapped and appended
+pub mapped_more : {X Y : Type 0} (f : X → Y) (d : X) (ts : List X) (i : ℕ) (old out : List Y) → i < length ts
+    → out ≡ old ++ map f (take i ts) → out ++ f (get_or ts i d) ∷ [] ≡ old ++ map f (take (i + 1) ts)
+mapped_more {X} {Y} f d ts i old out lt h =
+    let t : X = get_or ts i d in
     let more : map f (take (i + 1) ts) ≡ map f (take i ts) ++ f t ∷ [] =
-    ap (map f) (take_more ts i (0, 0, 0) lt) ∙ map_push f (take i ts) t in
-    ap (λ (l : List Triple). l ++ f t ∷ []) h
-    ∙ (append_assoc old (map f (take i ts)) (f t ∷ []) ∙ ap (λ (l : List Triple). old ++ l) (sym more))
+    ap (map f) (take_more ts i d lt) ∙ map_push f (take i ts) t in
+    ap (λ (l : List Y). l ++ f t ∷ []) h
+    ∙ (append_assoc old (map f (take i ts)) (f t ∷ []) ∙ ap (λ (l : List Y). old ++ l) (sym more))
 
 -- a vector after all of its triples were mapped in place
 pub all_replaced : (sn pn on : List ℕ) (len : ℕ) (old new rest : List Triple) → len ≡ length old
@@ -122,3 +123,21 @@ module _ (xs ys : List (List ℕ)) (ns : List ℕ) (r : AreIndicesOf xs ys ns) (
     objects = All-map (λ (t : Triple). t.2 < length ys) (mapped_triple ns ns ns) ids
         (λ k t lt. r.within _ (h.objects k t lt));
   }
+
+-- indices mapped to ranks, and these to IDs
+module _ (ranks nodes names : List ℕ) (ids : List Triple) (h : AreBelow (length ranks) ids) where
+  along : (list : List ℕ) (k : ℕ) → k < length ranks
+      → get_or list (get_or ranks k 0) 0 ≡ get_or (map (λ (n : ℕ). get_or list n 0) ranks) k 0
+  along list k lt = sym (get_or-map (λ (n : ℕ). get_or list n 0) ranks k 0 0 lt)
+
+  pub mapped_twice : map (mapped_triple nodes names nodes) (map (mapped_triple ranks ranks ranks) ids)
+      ≡ map (mapped_triple (map (slice_index nodes) ranks) (map (slice_index names) ranks)
+      (map (slice_index nodes) ranks)) ids
+  mapped_twice = map_along (mapped_triple nodes names nodes) (mapped_triple ranks ranks ranks)
+      (mapped_triple (map (slice_index nodes) ranks) (map (slice_index names) ranks)
+      (map (slice_index nodes) ranks)) ids
+      (λ k d lt.
+      let a = along nodes _ (h.subjects k d lt) in
+      let b = along names _ (h.predicates k d lt) in
+      let c = along nodes _ (h.objects k d lt) in
+      λ i. (a i, b i, c i))

@@ -10,9 +10,17 @@ pub mod OneDocument
 pub mod Order
 pub mod GraphIndices
 pub mod IndexTriples
+pub mod PackedTriples
+pub mod PackedStrings
+pub mod MergedTriples
+pub mod MergedSequences
+pub mod TripleRuns
 pub mod StringsOfIds
-pub mod FrontCoding
+pub mod CommonPrefixes
+pub mod RankedFlags
+pub mod EncodedRuns
 pub mod RankedRuns
+pub mod StringCursors
 mod SectionFilling
 mod FilteredSections
 pub mod EntrySorting
@@ -33,3 +41,7 @@ pub mod MergedFiles
 mod MovedParts
 mod HeaderProperties
 pub mod ReplacedHeaders
+mod DistinctMembers
+mod SequencePushes
+mod RestOfBytes
+pub mod CanonicalForm

@@ -32,7 +32,7 @@ use Rattle.hdt_build.proofs.RunOrder.{used_range, kept_used}
 use Rattle.hdt_triples.specs.Order.{AreAscending}
 
 -- the position of a string in two concatenated lists
-side : (xs ys : List (List ℕ)) (n : ℕ) → 1 ≤ n → n ≤ length (xs ++ ys)
+pub side : (xs ys : List (List ℕ)) (n : ℕ) → 1 ≤ n → n ≤ length (xs ++ ys)
     → ((n ≤ length xs) × (get_or xs (n - 1) [] ≡ string_of_id (xs ++ ys) n)) ⊎ Contains ys (string_of_id (xs ++ ys) n)
 side xs ys n from to = elim (cases_lt (n - 1) (length xs)) [
   | inl front ↦ inl (
@@ -53,7 +53,7 @@ part_of g Object t = refl
 module _ (g : GraphParts) (h : IsGraph g) where
   -- ---- the strings used in a role are those of the denoted graph
 
-  named : (role : Role) (x : List ℕ) (n : ℕ) → Uses g.triples role n → string_of g role n ≡ x
+  pub named : (role : Role) (x : List ℕ) (n : ℕ) → Uses g.triples role n → string_of g role n ≡ x
       → Contains (map (role_component role) (denoted_by g)) x
   named role x n used is =
       let t = Contains-from_map (role_component role) g.triples n used in
@@ -62,7 +62,7 @@ module _ (g : GraphParts) (h : IsGraph g) where
       (Contains-map (role_component role) (denoted_by g) (denoted_triple g t.0)
       (Contains-map (denoted_triple g) g.triples t.0 t.1))
 
-  numbered : (role : Role) (x : List ℕ) → Contains (map (role_component role) (denoted_by g)) x
+  pub numbered : (role : Role) (x : List ℕ) → Contains (map (role_component role) (denoted_by g)) x
       → (n : ℕ) × Uses g.triples role n × (string_of g role n ≡ x)
   numbered role x there =
       let s = Contains-from_map (role_component role) (denoted_by g) x there in
@@ -75,7 +75,7 @@ module _ (g : GraphParts) (h : IsGraph g) where
 
   -- ---- a string that is both a subject and an object is shared
 
-  at_shared : (n : ℕ) → 1 ≤ n → n ≤ length g.dictionary.shared → string_of g Subject n ≡ string_of g Object n
+  pub at_shared : (n : ℕ) → 1 ≤ n → n ≤ length g.dictionary.shared → string_of g Subject n ≡ string_of g Object n
   at_shared n from to =
       let lt : n - 1 < length g.dictionary.shared = omega (arith, from, to) in
       term_is (role_strings g.dictionary Subject) n from
@@ -83,8 +83,8 @@ module _ (g : GraphParts) (h : IsGraph g) where
       ∙ sym (term_is (role_strings g.dictionary Object) n from
       ∙ get_or_append_left g.dictionary.shared g.dictionary.objects [] (n - 1) lt))
 
-  meet : (n m : ℕ) → Uses g.triples Subject n → Uses g.triples Object m → string_of g Subject n ≡ string_of g Object m
-      → (n ≡ m) × (n ≤ length g.dictionary.shared)
+  pub meet : (n m : ℕ) → Uses g.triples Subject n → Uses g.triples Object m
+      → string_of g Subject n ≡ string_of g Object m → (n ≡ m) × (n ≤ length g.dictionary.shared)
   meet n m s o same =
       let d = g.dictionary in
       let a = used_range g h Subject n s in

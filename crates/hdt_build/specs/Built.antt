@@ -12,7 +12,7 @@ use Rattle.hdt_file.specs.Denoted.{StringTriple}
 use Rattle.hdt_file.specs.File.{GraphParts, IsLayout}
 use Rattle.hdt_build.specs.Header.{header_body}
 use Rattle.hdt_build.specs.Layouts.{denoted_by, union_of}
-use Rattle.hdt_build.specs.Options.{AreValidOptions}
+use Rattle.hdt_build.specs.Options.{AreValidOptions, IsBlockSize}
 use Rattle.hdt_build.specs.Reading.{IsInputGraph}
 
 -- the report of a file with these sections, triples and bytes
@@ -62,6 +62,14 @@ pub record WritesBuiltPrefix (options : Options) (input before after : Option (L
 -- the canonical file of the string triples that the graph denotes, with the graph's header body, and its report
 abbrev pub IsRewritten : ℕ → GraphParts → List ℕ → Report → Type 0
 IsRewritten b graph bytes report = IsCanonicalWithReport graph.header (denoted_by graph) b bytes report
+
+-- the bytes are the file that `rewrite` makes of them, in blocks of b strings
+pub record IsRewrittenAs (b : ℕ) (bytes : List ℕ) : Type 0 where
+  pub size : IsBlockSize b
+  pub graph : GraphParts
+  pub encoded : IsLayout bytes graph
+  pub report : Report
+  pub rewritten : IsRewritten b graph bytes report
 
 -- all bytes of that file were written
 pub record WritesRewritten (b : ℕ) (graph : GraphParts) (before after : Option (List ℕ))

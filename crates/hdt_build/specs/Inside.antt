@@ -2,4 +2,8 @@ pub mod Collecting
 pub mod Rewriting
 pub mod Filtering
 pub mod SortedEntries
-pub mod FrontCoding
+pub mod PackedStrings
+pub mod Sequences
+pub mod Comparing
+pub mod PackedTriples
+pub mod TripleRuns

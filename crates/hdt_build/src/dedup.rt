@@ -6,7 +6,7 @@ ghost use Rattle.hdt_front.specs.Order.{IsAscending, string_cmp};
 ghost use Rattle.hdt_build.specs.Inside.SortedEntries.{entry_strings, AreEntriesOf, AreIndicesOf, IsPushedOnce};
 ghost use Rattle.hdt_build.specs.Inside.SortedEntries.{IsLessThanLast, NeverDescends};
 
-use crate::front_coded::FrontCoded;
+use crate::packed_strings::PackedStrings;
 use crate::prefetch::prefetch_entries;
 use crate::string_sort::{sort_by_keys, sort_by_string};
 use hdt_dict::Arena;
@@ -18,14 +18,14 @@ fn dedup_entries(
     alloc: Global,
     list: &Arena,
     ordered: &[(u64, usize)],
-) -> Result<Option<(FrontCoded, Vec<u64>)>, AllocError>
+) -> Result<Option<(PackedStrings, Vec<u64>)>, AllocError>
     requires { AreEntriesOf list.now ordered.now }
     ensures ascend { IfOk result (λ found. IfSome found (λ made. IsAscending made.0)) }
     ensures ranks { IfOk result
         (λ found. IfSome found (λ made. AreIndicesOf list.now made.0 made.1.items)) }
     ensures unsorted { IfOk result (λ found. found ≡ None → NeverDescends (entry_strings list.now ordered.now) → ⊥) }
 {
-    let mut strings = FrontCoded::new(alloc)?;
+    let mut strings = PackedStrings::new(alloc);
     let mut ranks = Vec::from_elem(alloc, 0, list.len())?;
     let mut seen = 0;
     for at in 0..ordered.len() {
@@ -44,7 +44,7 @@ fn dedup_entries(
 pub(crate) fn dedup_strings(
     alloc: Global,
     list: &Arena,
-) -> Result<(FrontCoded, Vec<u64>), AllocError>
+) -> Result<(PackedStrings, Vec<u64>), AllocError>
     ensures ascend { IfOk result (λ made. IsAscending made.0) }
     ensures ranks { IfOk result (λ made. AreIndicesOf list.now made.0 made.1.items) }
 {

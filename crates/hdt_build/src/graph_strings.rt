@@ -1,58 +1,63 @@
 //! Merging: the strings of a graph.
-ghost use Rattle.std.specs.Prelude.{◌≡◌, ◌<◌, [], length, slice_index_or, IfOk, OnOk};
+ghost use Rattle.std.specs.Prelude.{◌≡◌, ◌++◌, IfOk, OnOk};
 ghost use Rattle.hdt_file.specs.Graph.{graph_view};
 ghost use Rattle.hdt_build.specs.Inside.Collecting.{HaveIndices, AreIndexMaps};
 ghost use Rattle.hdt_build.specs.Inside.Rewriting.{new_id};
 ghost use Rattle.hdt_build.specs.Inside.SortedEntries.{ExtendsList};
 
-use crate::front_coded::FrontCoded;
 use crate::id_map::IdMap;
+use crate::packed_strings::PackedStrings;
 use crate::sections::NewIds;
+use crate::string_runs::StringRuns;
 use hdt_dict::Role;
 use hdt_file::Graph;
 use std::alloc::{AllocError, Global};
 
-/// Appends a string, and stores it whole if a section begins with it.
-fn push_string(terms: &mut FrontCoded, begins: bool, text: &[u8]) -> Result<usize, AllocError>
-    ensures within { IfOk result (λ i. i < length terms.new) }
-    ensures is { IfOk result (λ i. slice_index_or terms.new i [] ≡ text.now) }
-    ensures list { OnOk result (ExtendsList terms.old terms.new) }
+/// The run of the next string: a new one if a section begins with it, and then the other one is added to the list.
+fn run_from(
+    alloc: Global,
+    terms: &mut StringRuns,
+    run: PackedStrings,
+    begins: bool,
+) -> Result<PackedStrings, AllocError>
+    ensures { IfOk result (λ next. terms.new ++ next ≡ terms.old ++ run) }
 {
-    let index = terms.len();
     if begins {
-        terms.push_whole(text)?;
+        terms.add(run)?;
+        Ok(PackedStrings::new(alloc))
     } else {
-        terms.push(text)?;
+        Ok(run)
     }
-    Ok(index)
 }
 
-/// Appends each string of a role; returns the map from its ID to its index in the list. Each string is decoded once.
+/// Appends each string of a role, one run for each section; returns the map from its ID to its index in the list. Each
+/// string is decoded once.
 fn append_strings(
     alloc: Global,
     graph: &Graph<'_>,
     role: Role,
-    terms: &mut FrontCoded,
+    terms: &mut StringRuns,
 ) -> Result<IdMap, AllocError>
     ensures indices { IfOk result (λ made. HaveIndices (graph_view graph.now) role terms.new (new_id made)) }
     ensures list { OnOk result (ExtendsList terms.old terms.new) }
 {
-    let mut made = Vec::with_capacity(alloc, graph.count(role) as usize)?;
     let [shared, _, _, _] = graph.section_lens();
+    let mut run = PackedStrings::new(alloc);
     let mut strings = graph.strings(alloc, role);
     'strings: while let Some(id) = strings.next()? {
-        let begins = id == 1 || id.saturating_sub(1) == shared;
-        let index = push_string(terms, begins, strings.string())?;
-        made.push(index as u64)?;
+        run = run_from(alloc, terms, run, id.saturating_sub(1) == shared)?;
+        run.push(strings.string())?;
     }
-    Ok(IdMap::Listed(made))
+    terms.add(run)?;
+    let end = terms.len() as u64;
+    Ok(IdMap::Shifted(end.wrapping_sub(graph.count(role))))
 }
 
 /// Appends the strings of all roles, with duplicates; returns the maps from their IDs to their indices in the list.
 pub(crate) fn append_graph(
     alloc: Global,
     graph: &Graph<'_>,
-    terms: &mut FrontCoded,
+    terms: &mut StringRuns,
 ) -> Result<NewIds, AllocError>
     ensures maps { IfOk result (λ made. AreIndexMaps (graph_view graph.now) terms.new made) }
     ensures list { OnOk result (ExtendsList terms.old terms.new) }

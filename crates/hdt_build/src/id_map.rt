@@ -7,6 +7,8 @@ ghost use Rattle.hdt_build.specs.Inside.Rewriting.{new_id};
 pub(crate) enum IdMap {
     Unchanged,
     Listed(Vec<u64>),
+    /// The IDs 1, 2, .. become this number and those after it.
+    Shifted(u64),
 }
 
 /// Whether each new ID equals the old one.
@@ -39,6 +41,7 @@ impl IdMap {
         match self {
             IdMap::Unchanged => old,
             IdMap::Listed(ids) => id_at(ids.as_slice(), old),
+            IdMap::Shifted(first) => first.wrapping_add(old.saturating_sub(1)),
         }
     }
 }

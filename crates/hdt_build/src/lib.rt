@@ -14,60 +14,65 @@
 //! let graph = open(alloc, &bytes)?; // report.triples triples
 //! ```
 //!
-//! [`rewrite`] writes the canonical file of the triples of a graph, with its header body.
-//!
-//! ```rust
-//! let graph = open(alloc, bytes)?;
-//! let (canonical, report) = rewrite_bytes(alloc, &graph, &options)?; // without unused strings
-//! ```
-//!
-//! [`DocumentBuilder`] builds one file of several documents. [`merge`] writes the canonical file of all triples of
-//! several graphs; [`Merger`] takes them one after another.
-//!
+//! [`rewrite`] writes the canonical file of the triples of a graph, with its header body. [`is_canonical`] says whether
+//! a file is the one that `rewrite` makes of it. [`DocumentBuilder`] builds one file of several documents. [`merge`]
+//! writes the canonical file of all triples of several graphs; [`Merger`] takes them one after another.
 //! [`with_header`] replaces the header of a file and nothing else.
 //!
 //! Modules, in reading order. Building: `options` and `fault`; `interner`, the list of strings; `queue` and
-//! `collector`, triples as indices of strings; `labels`, blank nodes; `reading`, the lines of the input; `front_coded`,
-//! strings in little memory; `string_sort` and `dedup`, the strings in order, each once; `prefetch`; `section_filter`,
-//! the four sections and the IDs; `triples` and `encoding`, the encoded graph; `header` and `file`, its bytes;
-//! `building`; `documents`, a build from several documents.
-//! Rewriting: `retained`, which strings remain; `section_run`, a cursor over them; `sections` and `id_map`, the new
-//! sections and IDs; `rewriting`. Merging: `graph_strings`, the strings of graphs as ascending runs; `run_merging`
-//! and `tournament`, the strings of all runs in order, each once; `merging`. `new_header`: replacing a header. `laws`:
-//! properties of building, rewriting and merging.
+//! `collector`, triples as indices of strings; `labels`, blank nodes; `reading`, the lines of the input;
+//! `packed_strings`, strings as bytes; `string_sort` and `dedup`, the strings in order, each once; `prefetch`;
+//! `role_flags` and `section_filter`, the four sections and the IDs; `triples` and `encoding`, the encoded graph;
+//! `header` and `file`, its bytes; `building`; `documents`. Rewriting: `retained`, which strings remain;
+//! `section_run`, a cursor over them; `sections` and `id_map`, the new sections and IDs; `rewriting`. Recognising a
+//! canonical file: `triple_sequences`, the triples; `comparing`, one part after another; `canonical`. Merging:
+//! `string_runs` and `graph_strings`, the strings of graphs as ascending runs; `run_merging` and `tournament`, the
+//! strings of all runs in order, each once; `packed_triples`, triples as bytes; `merged_triples`, those of graphs, with
+//! new IDs; `sorted_runs` and `triple_merging`, the triples in order, each once; `merging`. `new_header`: replacing a
+//! header. `laws`: properties of all this.
 #![tactic(auto)]
 
 mod building;
+mod canonical;
 mod collector;
+mod comparing;
 mod dedup;
 mod documents;
 mod encoding;
 mod fault;
 mod file;
-mod front_coded;
 mod graph_strings;
 mod header;
 mod id_map;
 mod interner;
 mod labels;
 mod laws;
+mod merged_triples;
 mod merging;
 mod new_header;
 mod options;
+mod packed_strings;
+mod packed_triples;
 mod prefetch;
 mod queue;
 mod reading;
 mod retained;
 mod rewriting;
+mod role_flags;
 mod run_merging;
 mod section_filter;
 mod section_run;
 mod sections;
+mod sorted_runs;
+mod string_runs;
 mod string_sort;
 mod tournament;
+mod triple_merging;
+mod triple_sequences;
 mod triples;
 
 pub use building::{build, build_bytes};
+pub use canonical::{is_canonical, layout_is_canonical};
 pub use documents::DocumentBuilder;
 pub use fault::{BuildFault, HeaderFault, MergeFault, RewriteFault};
 pub use laws::{

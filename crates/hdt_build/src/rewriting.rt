@@ -6,18 +6,19 @@ ghost use Rattle.hdt_build.specs.Options.{IsBlockSize};
 ghost use Rattle.hdt_build.specs.Built.{IsRewritten, WritesRewritten, WritesRewrittenPrefix};
 
 use crate::fault::RewriteFault;
-use crate::file::{head_and_dictionary, report_of};
+use crate::file::{counted_report, head_and_dictionary};
+use crate::merged_triples::append_triples;
 use crate::options::{Options, Report, is_block_size};
+use crate::packed_triples::PackedTriples;
 use crate::sections::rewrite_sections;
-use crate::triples::rewrite_triples;
+use crate::triple_merging::merge_triples;
 use hdt_file::Graph;
-use hdt_triples::put_triples;
 use hdt_wire::Counted;
 use std::alloc::{AllocError, Global};
 use std::io::Write;
 
 /// The canonical file of a graph's triples with its header body, and its counts. Each section is freed once it is
-/// written, before the triples are listed.
+/// written, before the triples are listed. Most often they ascend; else they are sorted.
 fn rewritten(
     alloc: Global,
     graph: &Graph<'_>,
@@ -30,10 +31,15 @@ fn rewritten(
     let (sections, ids) = rewrite_sections(alloc, graph, block_size)?;
     let lens = sections.lens();
     let mut bytes = head_and_dictionary(alloc, graph.header(), sections)?;
-    let triples = rewrite_triples(alloc, graph, &ids)?;
+    let mut triples = PackedTriples::new(alloc);
+    append_triples(&mut triples, graph, &ids)?;
     drop(ids);
-    put_triples(alloc, triples.as_slice(), &mut bytes)?;
-    let report = report_of(triples.as_slice(), lens, bytes.as_slice());
+    let runs = [triples];
+    let sequences = merge_triples(alloc, &runs)?;
+    drop(runs);
+    let count = sequences.len();
+    sequences.put(&mut bytes)?;
+    let report = counted_report(count, lens, bytes.as_slice());
     Ok((bytes, report))
 }
 

@@ -1,95 +1,88 @@
-//! Merging the ascending runs of a front-coded list.
-ghost use Rattle.std.specs.Prelude.{◌≡◌, ◌≢◌, ◌<◌, [], ℕ, List, length, slice_index, slice_index_or, IfOk, IfSome};
-ghost use Rattle.std.specs.Prelude.{IsTrue, OnOk};
+//! Merging ascending runs of strings.
+ghost use Rattle.std.specs.Prelude.{◌≡◌, ◌≢◌, ◌<◌, ◌^◌, ◌++◌, [], ℕ, List, drop, length, slice_index, slice_index_or};
+ghost use Rattle.std.specs.Prelude.{IfOk, IfSome, IsTrue, OnOk};
 ghost use Rattle.std.specs.List.{All};
 ghost use Rattle.hdt_front.specs.Order.{IsAscending};
-ghost use Rattle.hdt_build.specs.Inside.SortedEntries.{AreIndicesOf, IsCursorOf, unranked};
+ghost use Rattle.hdt_build.specs.Inside.SortedEntries.{AreIndicesOf, BeginWith, IsCursorOf, unranked};
 
 use crate::dedup::dedup_strings;
-use crate::front_coded::FrontCoded;
-use crate::tournament::Tournament;
+use crate::packed_strings::{PackedStrings, StringReader};
+use crate::string_runs::StringRuns;
+use crate::tournament::{RunOrder, Tournament};
 use hdt_dict::Arena;
+use hdt_front::cmp_from;
 use std::alloc::{AllocError, Global};
 
 /// The rank of a string that was not reached.
 const UNRANKED: u64 = u64::MAX;
 
-/// A cursor over a run: the strings from one index up to another.
+/// A cursor over a run.
 #[derive(Drop)]
-pub(crate) struct RunCursor {
+struct RunCursor<'a> {
+    /// The index of the current string in the list.
     at: usize,
-    end: usize,
-    text: Vec<u8>,
+    has_current: bool,
+    /// The current string, and the later ones.
+    reader: StringReader<'a>,
 }
 
-impl RunCursor {
-    /// A cursor at the first string of a run, or one without strings if that string is not stored whole.
-    fn new(
-        alloc: Global,
-        list: &FrontCoded,
-        from: usize,
-        end: usize,
-    ) -> Result<RunCursor, AllocError>
-        ensures { IfOk result (IsCursorOf list.now) }
+impl<'a> RunCursor<'a> {
+    /// A cursor at the first string of a run, which has this index in the list.
+    fn new(alloc: Global, run: &'a PackedStrings, at: usize) -> Result<RunCursor<'a>, AllocError>
+        ensures { IfOk result (λ made. (xs : List (List ℕ)) → length xs < 2 ^ 64 → BeginWith run.now (drop at xs)
+            → IsCursorOf xs made) }
     {
-        let within = end.min(list.len());
-        match list.whole_at(from) {
-            Some(text) => Ok(RunCursor {
-                at: from,
-                end: within,
-                text: Vec::from_slice(alloc, text)?,
-            }),
-            None => Ok(RunCursor {
-                at: within,
-                end: within,
-                text: Vec::new(alloc),
-            }),
-        }
-    }
-
-    /// Whether there is a current string.
-    fn has_current(&self) -> bool
-        ensures { IsTrue result → self.now.at < self.now.end }
-    {
-        self.at < self.end
+        let mut reader = run.reader(alloc);
+        let has_current = reader.next()?;
+        Ok(RunCursor {
+            at,
+            has_current,
+            reader,
+        })
     }
 
     /// The current string; none at the end.
-    pub(crate) fn current(&self) -> Option<&[u8]> {
-        if self.has_current() {
-            Some(self.text.as_slice())
+    fn current(&self) -> Option<&[u8]> {
+        if self.has_current {
+            Some(self.reader.text())
         } else {
             None
         }
     }
 
     /// Advances to the next string.
-    fn step(&mut self, list: &FrontCoded) -> Result<(), AllocError>
-        requires cursor { IsCursorOf list.now self.old }
-        requires there { self.old.at < self.old.end }
-        ensures { OnOk result (IsCursorOf list.now self.new) }
+    fn step(&mut self) -> Result<(), AllocError>
+        ensures { OnOk result ((xs : List (List ℕ)) → IsCursorOf xs self.old → IsCursorOf xs self.new) }
     {
-        self.at += 1;
-        if self.at < self.end {
-            list.decode(self.at, &mut self.text)?;
+        if self.has_current {
+            self.has_current = self.reader.next()?;
+            self.at = self.at.wrapping_add(1);
         }
         Ok(())
     }
 }
 
-/// A cursor for each run. Runs begin where strings are stored whole.
-fn run_cursors(alloc: Global, list: &FrontCoded) -> Result<Vec<RunCursor>, AllocError>
+impl RunOrder for RunCursor<'_> {
+    fn is_at_most(&self, other: &RunCursor<'_>) -> bool {
+        match (self.current(), other.current()) {
+            (Some(one), Some(two)) => cmp_from(one, two, 0).0.is_le(),
+            (_, None) => true,
+            (None, Some(_)) => false,
+        }
+    }
+}
+
+/// A cursor for each run.
+fn run_cursors(alloc: Global, list: &StringRuns) -> Result<Vec<RunCursor<'_>>, AllocError>
+    requires { length list.now < 2 ^ 64 }
     ensures { IfOk result (λ made. All (IsCursorOf list.now) made.items) }
 {
-    let whole = list.whole();
-    let mut made = Vec::with_capacity(alloc, whole.len())?;
-    'runs: for run in 0..whole.len() {
-        let end = if run + 1 < whole.len() {
-            whole[run + 1]
-        } else {
-            list.len()
-        };
-        made.push(RunCursor::new(alloc, list, whole[run], end)?)?;
+    let runs = list.runs();
+    let mut made = Vec::with_capacity(alloc, runs.len())?;
+    let mut at: usize = 0;
+    for run in runs {
+        made.push(RunCursor::new(alloc, run, at)?)?;
+        at = at.wrapping_add(run.len());
     }
     Ok(made)
 }
@@ -107,23 +100,23 @@ fn are_ranked(ranks: &[u64]) -> bool
 }
 
 /// The current string of a run, and its index in the list; none at the end.
-fn current(cursors: &[RunCursor], run: usize) -> Option<(usize, &[u8])>
+fn current<'a>(cursors: &'a [RunCursor<'_>], run: usize) -> Option<(usize, &'a [u8])>
     ensures { (xs : List (List ℕ)) → All (IsCursorOf xs) cursors.now
         → IfSome result (λ given. (given.0 < length xs) × (slice_index_or xs given.0 [] ≡ given.1.now)) }
 {
-    if run < cursors.len() && cursors[run].has_current() {
-        return Some((cursors[run].at, cursors[run].text.as_slice()));
+    if run < cursors.len() && cursors[run].has_current {
+        return Some((cursors[run].at, cursors[run].reader.text()));
     }
     None
 }
 
 /// Advances the cursor of a run to its next string.
-fn step_run(cursors: &mut Vec<RunCursor>, run: usize, list: &FrontCoded) -> Result<(), AllocError>
-    requires { All (IsCursorOf list.now) cursors.old.items }
-    ensures { OnOk result (All (IsCursorOf list.now) cursors.new.items) }
+fn step_run(cursors: &mut Vec<RunCursor<'_>>, run: usize) -> Result<(), AllocError>
+    ensures { OnOk result ((xs : List (List ℕ)) → All (IsCursorOf xs) cursors.old.items
+        → All (IsCursorOf xs) cursors.new.items) }
 {
-    if run < cursors.len() && cursors[run].has_current() {
-        cursors[run].step(list)?;
+    if run < cursors.len() {
+        cursors[run].step()?;
     }
     Ok(())
 }
@@ -132,16 +125,17 @@ fn step_run(cursors: &mut Vec<RunCursor>, run: usize, list: &FrontCoded) -> Resu
 /// ascends; else None. Time: that of decoding the strings, and of some comparisons for each.
 fn merge_ascending(
     alloc: Global,
-    list: &FrontCoded,
-) -> Result<Option<(FrontCoded, Vec<u64>)>, AllocError>
+    list: &StringRuns,
+) -> Result<Option<(PackedStrings, Vec<u64>)>, AllocError>
     ensures ascend { IfOk result (λ found. IfSome found (λ made. IsAscending made.0)) }
     ensures ranks { IfOk result (λ found. IfSome found (λ made. AreIndicesOf list.now made.0 made.1.items)) }
 {
+    let count = list.len();
     let mut cursors = run_cursors(alloc, list)?;
     let mut order = Tournament::new(alloc, cursors.as_slice())?;
-    let mut strings = FrontCoded::new(alloc)?;
-    let mut ranks = Vec::from_elem(alloc, UNRANKED, list.len())?;
-    'strings: for _ in 0..list.len() {
+    let mut strings = PackedStrings::new(alloc);
+    let mut ranks = Vec::from_elem(alloc, UNRANKED, count)?;
+    'strings: for _ in 0..count {
         let run = order.winner();
         let Some((at, text)) = current(cursors.as_slice(), run) else {
             return Ok(None);
@@ -150,7 +144,7 @@ fn merge_ascending(
             return Ok(None);
         };
         ranks[at] = rank as u64;
-        step_run(&mut cursors, run, list)?;
+        step_run(&mut cursors, run)?;
         order.replay(cursors.as_slice());
     }
     if are_ranked(ranks.as_slice()) {
@@ -159,25 +153,35 @@ fn merge_ascending(
     Ok(None)
 }
 
+/// Appends the strings of a run.
+fn append_run(alloc: Global, out: &mut Arena, run: &PackedStrings) -> Result<(), AllocError>
+    ensures { OnOk result (out.new ≡ out.old ++ run.now) }
+{
+    let mut reader = run.reader(alloc);
+    'strings: while reader.next()? {
+        out.push(reader.text())?;
+    }
+    Ok(())
+}
+
 /// The strings of a list, decoded.
-fn decoded(alloc: Global, list: &FrontCoded) -> Result<Arena, AllocError>
+fn decoded(alloc: Global, list: &StringRuns) -> Result<Arena, AllocError>
     ensures { IfOk result (λ made. made ≡ list.now) }
 {
+    let runs = list.runs();
     let mut made = Arena::new(alloc)?;
-    let mut text = Vec::new(alloc);
-    'strings: for at in 0..list.len() {
-        list.decode(at, &mut text)?;
-        made.push(&text)?;
+    for run in runs {
+        append_run(alloc, &mut made, run)?;
     }
     Ok(made)
 }
 
 /// Returns the strings of a list of ascending runs in ascending order without duplicates; and for each index of the
-/// list, the index of its string among them. Each run begins with a string that is stored whole.
+/// list, the index of its string among them.
 pub(crate) fn merge_runs(
     alloc: Global,
-    list: &FrontCoded,
-) -> Result<(FrontCoded, Vec<u64>), AllocError>
+    list: &StringRuns,
+) -> Result<(PackedStrings, Vec<u64>), AllocError>
     ensures ascend { IfOk result (λ made. IsAscending made.0) }
     ensures ranks { IfOk result (λ made. AreIndicesOf list.now made.0 made.1.items) }
 {

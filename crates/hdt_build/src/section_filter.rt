@@ -1,19 +1,18 @@
 //! Writing the four sections: each is a filter of the sorted strings by role.
-ghost use Rattle.std.specs.Prelude.{◌≡◌, ◌≤◌, ◌<◌, ℕ, [], length, slice_index_or, IsTrue, ◌↔◌, IfOk, true, false};
+ghost use Rattle.std.specs.Prelude.{◌≡◌, ◌≤◌, ◌<◌, ℕ, List, [], length, slice_index_or, IsTrue, ◌↔◌, IfOk, true, false};
 ghost use Rattle.hdt_front.specs.Canonical.{borrowed_texts};
 ghost use Rattle.hdt_wire.specs.Control.{HasNoZero};
 ghost use Rattle.hdt_front.specs.Order.{IsAscending};
+ghost use Rattle.hdt_triples.specs.TripleSequences.{Triple};
 ghost use Rattle.hdt_build.specs.Inside.Collecting.{AreBelow};
-ghost use Rattle.hdt_build.specs.Graph.{string_triples_of};
 ghost use Rattle.hdt_build.specs.Inside.Rewriting.{HaveBlockSize, lists_of_sections};
-ghost use Rattle.hdt_build.specs.Inside.Filtering.{IsInFilter, IsFilteredSection, AreSectionsOf};
-ghost use Rattle.hdt_build.specs.Reading.{HasDictionaryStrings};
+ghost use Rattle.hdt_build.specs.Inside.Filtering.{AreFlagsOfRoles, AreSectionsOf, HaveLength, HaveTexts, IsInFilter};
+ghost use Rattle.hdt_build.specs.Inside.Filtering.{IsFilteredSection};
 
-use crate::front_coded::FrontCoded;
+use crate::packed_strings::PackedStrings;
+use crate::role_flags::RoleFlags;
 use crate::sections::SectionWriters;
-use hdt_dict::Role;
 use hdt_front::SectionWriter;
-use hdt_triples::use_flags;
 use std::alloc::{AllocError, Global};
 
 /// Selects the strings of a section: those used in one role, and also (`wanted`) or not in another one.
@@ -39,7 +38,7 @@ impl Filter<'_> {
 /// `ids_before + 1`.
 fn write_filtered(
     alloc: Global,
-    strings: &FrontCoded,
+    strings: &PackedStrings,
     filter: Filter<'_>,
     block_size: u32,
     ids_before: u64,
@@ -61,11 +60,10 @@ fn write_filtered(
     ensures few { IfOk result (λ made. length made.strings ≤ length strings.now) }
 {
     let mut out = SectionWriter::new(alloc, block_size);
-    let mut text = Vec::new(alloc);
+    let mut reader = strings.reader(alloc);
     for at in 0..strings.len() {
-        strings.decode(at, &mut text)?;
-        if filter.selects(at) {
-            out.push(&text)?;
+        if reader.next()? && filter.selects(at) {
+            out.push(reader.text())?;
             ids[at] = ids_before + out.len();
         }
     }
@@ -82,51 +80,53 @@ pub(crate) struct SectionsAndIds {
     pub(crate) predicates: Vec<u64>,
 }
 
-/// Writes the sections of triples over ascending strings without duplicates, and returns them with the IDs of the
-/// strings. Each section has the strings that triples use in its roles.
+/// Writes the sections of triples over ascending strings without duplicates, given the flags of the triples, and
+/// returns them with the IDs of the strings. Each section has the strings that triples use in its roles.
 pub(crate) fn write_sections(
     alloc: Global,
-    strings: &FrontCoded,
-    triples: &[(u64, u64, u64)],
+    strings: &PackedStrings,
+    flags: &RoleFlags,
     block_size: u32,
 ) -> Result<SectionsAndIds, AllocError>
     requires ascend { IsAscending strings.now }
-    requires within { AreBelow (length strings.now) triples.now }
-    requires texts { HasDictionaryStrings (string_triples_of strings.now triples.now) }
+    requires long { HaveLength (length strings.now) flags.now }
+    requires subjects { HaveTexts strings.now flags.now.subjects.items }
+    requires predicates { HaveTexts strings.now flags.now.predicates.items }
+    requires objects { HaveTexts strings.now flags.now.objects.items }
     requires block { 1 ≤ block_size }
-    ensures sections { IfOk result
-        (λ made. AreSectionsOf strings.now triples.now
+    ensures sections { IfOk result (λ made. (ids : List Triple) → AreBelow (length strings.now) ids
+        → AreFlagsOfRoles ids (length strings.now) flags.now → AreSectionsOf strings.now ids
         (lists_of_sections made.sections) made.nodes.items made.predicates.items) }
     ensures blocks { IfOk result (λ made. HaveBlockSize block_size made.sections) }
 {
     let len = strings.len();
-    let s = use_flags(alloc, triples, Role::Subject, len)?;
-    let p = use_flags(alloc, triples, Role::Predicate, len)?;
-    let o = use_flags(alloc, triples, Role::Object, len)?;
+    let s = flags.subjects.as_slice();
+    let p = flags.predicates.as_slice();
+    let o = flags.objects.as_slice();
     let mut node_ids = Vec::from_elem(alloc, 0, len)?;
     let mut predicate_ids = Vec::from_elem(alloc, 0, len)?;
     let both = Filter {
-        used: s.as_slice(),
-        other: o.as_slice(),
+        used: s,
+        other: o,
         wanted: true,
     };
     let shared = write_filtered(alloc, strings, both, block_size, 0, &mut node_ids)?;
     let count = shared.len();
     let unshared = Filter {
-        used: s.as_slice(),
-        other: o.as_slice(),
+        used: s,
+        other: o,
         wanted: false,
     };
     let subjects = write_filtered(alloc, strings, unshared, block_size, count, &mut node_ids)?;
     let all = Filter {
-        used: p.as_slice(),
-        other: p.as_slice(),
+        used: p,
+        other: p,
         wanted: true,
     };
     let predicates = write_filtered(alloc, strings, all, block_size, 0, &mut predicate_ids)?;
     let unshared = Filter {
-        used: o.as_slice(),
-        other: s.as_slice(),
+        used: o,
+        other: s,
         wanted: false,
     };
     let objects = write_filtered(alloc, strings, unshared, block_size, count, &mut node_ids)?;

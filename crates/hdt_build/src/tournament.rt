@@ -1,8 +1,6 @@
-//! The least of the current strings of many runs. No proof depends on the order that this gives: the caller verifies
+//! The least of the current elements of many runs. No proof depends on the order that this gives: the caller verifies
 //! it.
 
-use crate::run_merging::RunCursor;
-use hdt_front::cmp_from;
 use std::alloc::{AllocError, Global};
 
 /// A place of the tree that no run has reached.
@@ -16,27 +14,24 @@ pub(crate) struct Tournament {
     winner: usize,
 }
 
-/// The current string of a run; none at its end.
-fn current(cursors: &[RunCursor], run: usize) -> Option<&[u8]> {
-    if run < cursors.len() {
-        cursors[run].current()
-    } else {
-        None
-    }
+/// A cursor over an ascending run.
+pub(crate) trait RunOrder {
+    /// Whether the current element is at most that of another run. A run at its end comes last.
+    fn is_at_most(&self, other: &Self) -> bool;
 }
 
-/// Whether the current string of a run is at most that of another one. A run at its end comes last.
-fn comes_first(cursors: &[RunCursor], one: usize, two: usize) -> bool {
-    match (current(cursors, one), current(cursors, two)) {
-        (Some(a), Some(b)) => cmp_from(a, b, 0).0.is_le(),
-        (_, None) => true,
-        (None, Some(_)) => false,
+/// Whether the current element of a run is at most that of another one.
+fn comes_first<C: RunOrder>(cursors: &[C], one: usize, two: usize) -> bool {
+    if one < cursors.len() && two < cursors.len() {
+        cursors[one].is_at_most(&cursors[two])
+    } else {
+        one < cursors.len()
     }
 }
 
 impl Tournament {
     /// A tournament after all of its matches.
-    pub(crate) fn new(alloc: Global, cursors: &[RunCursor]) -> Result<Tournament, AllocError> {
+    pub(crate) fn new<C: RunOrder>(alloc: Global, cursors: &[C]) -> Result<Tournament, AllocError> {
         let mut made = Tournament {
             losers: Vec::from_elem(alloc, NONE, cursors.len())?,
             winner: 0,
@@ -47,18 +42,18 @@ impl Tournament {
         Ok(made)
     }
 
-    /// The run with the least current string.
+    /// The run with the least current element.
     pub(crate) fn winner(&self) -> usize {
         self.winner
     }
 
     /// Plays the matches of the winner again, after its step.
-    pub(crate) fn replay(&mut self, cursors: &[RunCursor]) {
+    pub(crate) fn replay<C: RunOrder>(&mut self, cursors: &[C]) {
         self.play(cursors, self.winner);
     }
 
     /// Plays the matches of a run, up to one that it loses, whose winner goes on, or that has no other run yet.
-    fn play(&mut self, cursors: &[RunCursor], run: usize) {
+    fn play<C: RunOrder>(&mut self, cursors: &[C], run: usize) {
         let mut at = self.losers.len().saturating_add(run) / 2;
         let mut best = run;
         for _ in 0..usize::BITS {

@@ -1,23 +1,11 @@
 //! ID triples.
-ghost use Rattle.std.specs.Prelude.{◌≡◌, ◌<◌, ◌++◌, map, length, IsTrue, IfOk, OnOk};
+ghost use Rattle.std.specs.Prelude.{◌≡◌, ◌<◌, ◌++◌, ℕ, map, length, slice_index, IsTrue, IfOk, OnOk};
 ghost use Rattle.std.specs.List.{All};
 ghost use Rattle.hdt_dict.specs.Strings.{SameMembers};
-ghost use Rattle.hdt_file.specs.Graph.{graph_view};
 ghost use Rattle.hdt_triples.specs.Order.{AreAscending};
 ghost use Rattle.hdt_build.specs.Graph.{mapped_triple};
-ghost use Rattle.hdt_build.specs.Inside.Rewriting.{with_new_ids};
 
-use crate::sections::NewIds;
-use hdt_file::Graph;
-use hdt_triples::Pattern;
 use std::alloc::{AllocError, Global};
-
-/// The pattern that matches all triples.
-const ANY: Pattern = Pattern {
-    s: None,
-    p: None,
-    o: None,
-};
 
 /// Maps each index of triples through the list of its role, in place.
 pub(crate) fn map_ids(
@@ -39,6 +27,22 @@ pub(crate) fn map_ids(
             objects[o as usize],
         );
     }
+}
+
+/// Each number mapped through a list.
+pub(crate) fn mapped_numbers(
+    alloc: Global,
+    numbers: &[u64],
+    list: &[u64],
+) -> Result<Vec<u64>, AllocError>
+    requires { (k : ℕ) → k < length numbers.now → slice_index numbers.now k < length list.now }
+    ensures { IfOk result (λ made. made.items ≡ map (slice_index list.now) numbers.now) }
+{
+    let mut made = Vec::with_capacity(alloc, numbers.len())?;
+    for number in numbers {
+        made.push(list[*number as usize])?;
+    }
+    Ok(made)
 }
 
 /// Appends triples with each index mapped through a list.
@@ -86,41 +90,4 @@ pub(crate) fn sort_dedup_triples(triples: &mut Vec<(u64, u64, u64)>)
     }
     triples.sort_unstable();
     triples.dedup();
-}
-
-/// Appends the triples of a graph with new IDs, in the order of the old ones.
-pub(crate) fn extend_with_graph(
-    out: &mut Vec<(u64, u64, u64)>,
-    graph: &Graph<'_>,
-    ids: &NewIds,
-) -> Result<(), AllocError>
-    ensures { OnOk result (out.new.items
-        ≡ out.old.items ++ map (with_new_ids ids.now) (graph_view graph.now).triples) }
-{
-    out.reserve(graph.len() as usize)?;
-    let mut triples = graph.search(ANY);
-    'triples: while let Some((s, p, o)) = triples.next() {
-        out.push((
-            ids.subjects.new_id(s),
-            ids.predicates.new_id(p),
-            ids.objects.new_id(o),
-        ))?;
-    }
-    Ok(())
-}
-
-/// The triples of a graph with new IDs, ascending.
-pub(crate) fn rewrite_triples(
-    alloc: Global,
-    graph: &Graph<'_>,
-    ids: &NewIds,
-) -> Result<Vec<(u64, u64, u64)>, AllocError>
-    ensures ascending { IfOk result (λ made. AreAscending made.items) }
-    ensures same { IfOk result
-        (λ made. SameMembers made.items (map (with_new_ids ids.now) (graph_view graph.now).triples)) }
-{
-    let mut triples = Vec::new(alloc);
-    extend_with_graph(&mut triples, graph, ids)?;
-    sort_dedup_triples(&mut triples);
-    Ok(triples)
 }

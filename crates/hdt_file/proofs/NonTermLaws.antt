@@ -157,11 +157,11 @@ same_dictionary : (bytes : List ℕ) (file : FileParts) (p : LayoutParts) → Is
 same_dictionary bytes file p fits small is parts =
     ap parts_dictionary (ok_is p (parts_of_file file) (sym parts ∙ file_parts bytes file fits small is))
 
-pub verdict_is : (bytes : List ℕ) (l : Layout) (counts : List ℕ) (verdict : TermVerdict) → IsBytes bytes
+pub verdict_is : (bytes : List ℕ) (l : Layout) (verdict : TermVerdict) → IsBytes bytes
     → length bytes < 2 ^ 64 → IsLayout bytes (layout_view l) → decode_parts bytes ≡ Ok (parts_of_layout l)
     → verdict.counts ≡ graph_counts (layout_view l)
     → AreNonTerms (parts_dictionary (parts_of_layout l)) verdict.non_terms.items → IsTermVerdict bytes verdict
-verdict_is bytes l counts verdict fits small found parts are h = record {
+verdict_is bytes l verdict fits small found parts are h = record {
   file = found.file;
   is = found.is;
   counts = are ∙ ap graph_counts (sym found.of);

@@ -23,6 +23,11 @@ use Rattle.hdt_file.specs.File.{FileParts, GraphParts, decode_file, graph_of_fil
 use Rattle.hdt_file.proofs.FileLaws.{file_exact}
 use Rattle.hdt_file.specs.Tight.{IsTight, IsTightLayout, is_used, check_string_used, check_section_used}
 use Rattle.hdt_file.specs.Tight.{check_strings_used, decode_tight_graph}
+use Rattle.std.specs.Prelude.{◌↔◌, IsTrue, is_ok}
+use Rattle.hdt_file.specs.Graph.{LayoutParts, graph_view, layout_view, parts_dictionary, parts_of_graph}
+use Rattle.hdt_file.specs.Graph.{parts_of_layout}
+use Rattle.hdt_file.specs.declared.graph.Graph.{Graph}
+use Rattle.hdt_file.specs.declared.layout.Layout.{Layout}
 
 -- ---- one section
 
@@ -157,3 +162,19 @@ same_fault (Err e) f h = h
 pub tight_fault : (bytes : List ℕ) (f : Fault) → decode_graph bytes ≡ Err f → decode_tight_graph bytes ≡ Err f
 unfolding decode_graph decode_tight_graph
 tight_fault bytes f h = same_fault (decode_file bytes) f h
+
+-- ---- a layout
+
+decided : (d : DictionaryParts) (ts : List Triple) (r : Result (Unit {0}) Fault) → r ≡ check_strings_used d ts
+    → IsTrue (is_ok r) ↔ AllUsed d ts
+decided d ts (Ok u) is = (λ t. (strings_exact d ts).found u (sym is), λ h. refl)
+decided d ts (Err e) is = (λ t. absurd cc, λ h. let k = is ∙ all_only d ts h in absurd cc)
+
+pub layout_decided : (l : Layout) (g : Graph) (r : Result (Unit {0}) Fault) → parts_of_graph g ≡ parts_of_layout l
+    → r ≡ check_strings_used (parts_dictionary (parts_of_graph g)) (graph_view g).triples
+    → IsTrue (is_ok r) ↔ IsTight (layout_view l)
+unfolding graph_view layout_view
+layout_decided l g r same is =
+    let p = parts_of_layout l in
+    decided p.dictionary (triples_of p.triples) r
+    (is ∙ ap (λ (q : LayoutParts). check_strings_used q.dictionary (triples_of q.triples)) same)

@@ -5,7 +5,7 @@ ghost use Rattle.hdt_front.specs.Strings.{section_of, strings_of};
 ghost use Rattle.hdt_dict.specs.Views.{dictionary_of};
 ghost use Rattle.hdt_file.specs.Faults.{open_fault_of};
 ghost use Rattle.hdt_file.specs.File.{decode_graph};
-ghost use Rattle.hdt_file.specs.Graph.{parts_of_layout};
+ghost use Rattle.hdt_file.specs.Graph.{decode_parts, parts_of_layout};
 ghost use Rattle.hdt_file.specs.Info.{IsFileInfo, total_len, section_info, dictionary_info, file_info, decode_info};
 
 use crate::fault::OpenFault;
@@ -120,7 +120,7 @@ fn dictionary_info(
 
 /// The sizes of the parts of a file of so many bytes, the first section of which begins at a byte offset.
 #[tactic(auto, unfolding(crate::specs::Graph::layout_view, crate::specs::Graph::parts_of_layout, crate::specs::Head::head_parts, hdt_triples::specs::Views::entry_widths))]
-fn layout_info(
+fn part_sizes(
     alloc: Global,
     layout: &Layout<'_>,
     bytes: u64,
@@ -144,14 +144,35 @@ fn layout_info(
     })
 }
 
-/// Reads a file, one check after another.
+/// The sizes of the parts of a file that was read from these bytes, one check after another.
 #[tactic(auto, unfolding(crate::specs::Info::decode_info, crate::specs::Graph::parts_of_layout, crate::specs::Head::head_parts, hdt_wire::specs::Control::control_view))]
+fn info_by_checks(alloc: Global, layout: &Layout<'_>, bytes: &[u8]) -> Result<FileInfo, OpenFault>
+    requires { decode_parts bytes.now ≡ Ok (parts_of_layout layout.now) }
+    ensures { ReadsUnlessOom open_fault_of (λ info. info) result (decode_info bytes.now) }
+{
+    let control = read_control(bytes, layout.head.end(), Kind::Dictionary)?;
+    Ok(part_sizes(alloc, layout, bytes.len() as u64, control.end())?)
+}
+
+/// Returns what [`file_info`] returns for the bytes that a layout was read from, which are not verified again.
+///
+/// # Errors
+///
+/// [`OpenFault::OutOfMemory`].
+pub fn layout_info(alloc: Global, layout: &Layout<'_>, bytes: &[u8]) -> Result<FileInfo, OpenFault>
+    requires { decode_parts bytes.now ≡ Ok (parts_of_layout layout.now) }
+    ensures found { IfOk result (λ info. IsFileInfo info bytes.now) }
+    ensures err { IfErr result (λ e. IfSome (open_fault_of e) (λ fault. decode_graph bytes.now ≡ Err fault)) }
+{
+    info_by_checks(alloc, layout, bytes)
+}
+
+/// Reads a file, one check after another.
+#[tactic(auto, unfolding(crate::specs::Info::decode_info))]
 fn read_by_checks(alloc: Global, bytes: &[u8]) -> Result<FileInfo, OpenFault>
     ensures { ReadsUnlessOom open_fault_of (λ info. info) result (decode_info bytes.now) }
 {
-    let layout = Layout::read(alloc, bytes)?;
-    let control = read_control(bytes, layout.head.end(), Kind::Dictionary)?;
-    Ok(layout_info(alloc, &layout, bytes.len() as u64, control.end())?)
+    info_by_checks(alloc, &Layout::read(alloc, bytes)?, bytes)
 }
 
 /// Verifies a file as [`verify`](crate::verify) does, and returns the sizes of its parts.

@@ -58,16 +58,16 @@ pub use dictionary::{head_and_dictionary_are_exact, read_dictionary};
 pub use fault::{DumpFault, OpenFault};
 pub use graph::Graph;
 pub use head::{Head, one_head, read_head};
-pub use info::{DictionaryInfo, EntryBits, FileInfo, SectionInfo, file_info};
+pub use info::{DictionaryInfo, EntryBits, FileInfo, SectionInfo, file_info, layout_info};
 pub use laws::{denoted_triples_are_distinct, one_text, search_is_a_filter, text_is_a_document};
 pub use layout::Layout;
-pub use non_terms::{NonTerm, TermVerdict, verify_terms};
+pub use non_terms::{NonTerm, TermVerdict, verify_terms, verify_tight_terms};
 pub use opening::{layouts_are_graphs, one_layout, open, verify};
 pub use streaming::{stream_graph, stream_layout, stream_writable};
 pub use term_flags::TermFlags;
 pub use term_writing::TermWriter;
 pub use text::{append_graph_text, graph_text, layout_text, write_graph};
-pub use tight::{one_tight_layout, open_tight, verify_tight};
+pub use tight::{layout_is_tight, one_tight_layout, open_tight, verify_tight};
 pub use writable::{
     WritableMatches, append_triples_text, graph_writable_matches, layout_writable_matches,
 };

@@ -4,13 +4,16 @@ ghost use Rattle.hdt_file.specs.Faults.{open_fault_of};
 ghost use Rattle.hdt_file.specs.File.{decode_graph};
 ghost use Rattle.hdt_dict.specs.Dictionary.{section_by_id};
 ghost use Rattle.hdt_dict.specs.Views.{dictionary_of};
-ghost use Rattle.hdt_file.specs.Graph.{parts_dictionary, parts_of_layout};
+ghost use Rattle.hdt_file.specs.Graph.{graph_counts, layout_view, parts_dictionary, parts_of_layout};
 ghost use Rattle.hdt_file.specs.declared.non_terms.NonTerm.{NonTerm as NonTermOf};
 ghost use Rattle.hdt_file.specs.NonTerms.{AreNonTerms, AreNonTermsOf, IsTermVerdict};
+ghost use Rattle.hdt_file.specs.Tight.{IsTightLayout, decode_tight_graph};
+ghost use Rattle.hdt_file.specs.File.{GraphParts};
 
 use crate::fault::OpenFault;
 use crate::layout::Layout;
 use crate::term_flags::is_term;
+use crate::tight::open_tight;
 use hdt_dict::SectionId::{Objects, Predicates, Shared, Subjects};
 use hdt_dict::{Dictionary, Role, SectionId};
 use std::alloc::{AllocError, Global};
@@ -83,6 +86,18 @@ fn non_terms(alloc: Global, layout: &Layout<'_>) -> Result<Vec<NonTerm>, AllocEr
     Ok(all)
 }
 
+/// The counts of a file that was read, and its strings that are not terms.
+fn term_verdict(alloc: Global, layout: &Layout<'_>) -> Result<TermVerdict, AllocError>
+    ensures counts { IfOk result (λ verdict. verdict.counts ≡ graph_counts (layout_view layout.now)) }
+    ensures found { IfOk result (λ verdict. AreNonTerms (parts_dictionary (parts_of_layout layout.now))
+        verdict.non_terms.items) }
+{
+    Ok(TermVerdict {
+        counts: layout.lens(),
+        non_terms: non_terms(alloc, layout)?,
+    })
+}
+
 /// Verifies a file as [`crate::verify`] does, and finds its strings that are not terms which their roles allow: triples
 /// with such a string cannot be written as N-Triples.
 ///
@@ -99,11 +114,21 @@ pub fn verify_terms(alloc: Global, bytes: &[u8]) -> Result<TermVerdict, OpenFaul
     ensures err { IfErr result (λ e. IfSome (open_fault_of e) (λ fault. decode_graph bytes.now ≡ Err fault)) }
 {
     let layout = Layout::read(alloc, bytes)?;
-    let Ok(non_terms) = non_terms(alloc, &layout) else {
-        return Err(OpenFault::OutOfMemory);
-    };
-    Ok(TermVerdict {
-        counts: layout.lens(),
-        non_terms,
-    })
+    Ok(term_verdict(alloc, &layout)?)
+}
+
+/// Verifies a file as [`crate::verify_tight`] does, and finds its strings that are not terms, as [`verify_terms`] does.
+/// Time and memory: those of the two, but the file is read once.
+///
+/// # Errors
+///
+/// The first error of the file, which is that of [`crate::verify_tight`]; [`OpenFault::OutOfMemory`].
+pub fn verify_tight_terms(alloc: Global, bytes: &[u8]) -> Result<TermVerdict, OpenFault>
+    ensures found { IfOk result (IsTermVerdict bytes.now) }
+    // Triples use all strings of the file.
+    ensures tight { IfOk result (λ verdict. (graph : GraphParts) × IsTightLayout bytes.now graph) }
+    ensures err { IfErr result (λ e. IfSome (open_fault_of e) (λ fault. decode_tight_graph bytes.now ≡ Err fault)) }
+{
+    let graph = open_tight(alloc, bytes)?;
+    Ok(term_verdict(alloc, &graph.layout())?)
 }

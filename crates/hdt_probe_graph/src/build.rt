@@ -2,12 +2,13 @@
 
 use crate::faults::{reply_build_fault, reply_rewrite_fault};
 use crate::open::graph_of;
-use hdt_build::{Options, Report, build, build_bytes, rewrite, rewrite_bytes};
+use hdt_build::{Options, Report, build, build_bytes, is_canonical, rewrite, rewrite_bytes};
 use hdt_probe::{Args, Reply};
 use std::hash::{FoldHasher, Hasher};
 
 /// The words of this module, each with its number of arguments.
-pub(crate) const WORDS: &str = "build_bytes 4 build 6 rewrite_bytes 2 rewrite 4 fold_hash 0+";
+pub(crate) const WORDS: &str =
+    "build_bytes 4 build 6 rewrite_bytes 2 rewrite 4 is_canonical 1 fold_hash 0+";
 
 /// Answers a request with one of these words. Returns false if the word is not one of them.
 pub(crate) fn answer(word: &str, args: &mut Args<'_>, reply: &mut Reply) -> bool {
@@ -16,6 +17,7 @@ pub(crate) fn answer(word: &str, args: &mut Args<'_>, reply: &mut Reply) -> bool
         "build" => reply_build(args, reply),
         "rewrite_bytes" => reply_rewrite_bytes(args, reply),
         "rewrite" => reply_rewrite(args, reply),
+        "is_canonical" => reply_is_canonical(args, reply),
         "fold_hash" => reply_fold_hash(args, reply),
         _ => return false,
     }
@@ -89,6 +91,14 @@ fn reply_rewrite(args: &mut Args<'_>, reply: &mut Reply) {
         Err(fault) => reply_rewrite_fault(fault, reply),
     }
     reply.finish_writer(out)
+}
+
+/// Whether the file is the one that `rewrite` makes of it.
+fn reply_is_canonical(args: &mut Args<'_>, reply: &mut Reply) {
+    match is_canonical(args.alloc, args.file, args.number32()) {
+        Ok(same) => reply.boolean(same),
+        Err(_) => reply.out_of_memory(),
+    }
 }
 
 /// The hashes of strings, as the builder computes them.

@@ -36,7 +36,7 @@ use Rattle.hdt_file.specs.Writable.{SkipsNonTerms}
 use Rattle.hdt_tool.specs.Dialogue.{AnswersKept, AnswersLine, AnswersLines, AnswersRequest}
 use Rattle.hdt_tool.specs.Dialogue.{AnswersUntilFault, AreFirstLines, FollowsLines, StopsAfterAnswers, RequestStrings}
 use Rattle.hdt_tool.specs.Dialogue.{bounded_request_in, given_strings, is_count, joined_reports, max_input_bytes}
-use Rattle.hdt_tool.specs.Dialogue.{with_empty_line}
+use Rattle.hdt_tool.specs.Dialogue.{answer_of, with_empty_line}
 use Rattle.hdt_tool.specs.Dialogue.{plain_report, skips, skips_in}
 
 -- Reports are joined in any order.
@@ -127,7 +127,7 @@ pub front_answered : (g : GraphParts) (options : AnswerOptions) (n : ℕ) (front
     (answer : List ℕ) → front ≡ take (options.longest + 1) line
     → AnswersLine g options (n, front) report answer → AnswersLine g options (n, line) report answer
 front_answered g options n front line report answer is h =
-    subst (λ (r : Result (Option RequestStrings) TermFault). AnswersRequest g options n r report answer)
+    subst (λ (r : Result (Option RequestStrings) TermFault). AnswersRequest g options n r (answer_of report answer))
     (front_asked options front line is) h
 
 -- Lines that have been read are the first lines of the input.

@@ -1,6 +1,6 @@
 -- Reading several documents: prefixes, and errors.
 use Rattle.std.proofs.Common.{◌≡◌, ◌≢◌, ◌<◌, ◌^◌, ◌++◌, ◌∷◌, ℕ, List, [], Bool, true}
-use Rattle.std.proofs.Common.{Option, None, Some, codes, refl, arith, inl, inr, suc, zero, ◌%◌, ◌+◌, rules}
+use Rattle.std.proofs.Common.{Option, None, Some, codes, refl, arith, inl, suc, zero, ◌%◌, ◌+◌, rules}
 use Rattle.std.proofs.Common.{subst}
 use Rattle.std.specs.Fmt.{decimal}
 use Rattle.std.proofs.lemmas.Fmt.{IsAscii-decimal, decimal_by_steps}
@@ -13,8 +13,9 @@ use Rattle.hdt_build.specs.Reading.{IsBuildFaultOf}
 use Rattle.hdt_build.specs.declared.fault.BuildFault.{BuildFault}
 use Rattle.hdt_build.specs.declared.fault.BuildFault.TheVariants as building
 use Rattle.hdt_file.specs.Denoted.{StringTriple}
-use Rattle.hdt_tool.specs.BuildInputs.{AddsInTurn, IsFaultOfDocumentAt, StopsAdding, document_fault}
-use Rattle.hdt_tool.specs.SplitInputs.{IsBlankNodesFault, MixesBlankNodes, first_with_blank_nodes, input_prefix}
+use Rattle.hdt_tool.specs.BuildInputs.{IsFaultOfDocumentAt, StopsAdding, document_fault}
+use Rattle.hdt_tool.specs.SplitInputs.{Contents, IsBlankNodesFault, Turn}
+use Rattle.hdt_tool.specs.SplitInputs.{input_prefix}
 use Rattle.hdt_tool.specs.declared.request.BlankNodes.{BlankNodes}
 use Rattle.hdt_tool.specs.declared.request.BlankNodes.TheVariants as blank
 use Rattle.hdt_tool.specs.declared.splitting.SplitInputsFault.{SplitInputsFault}
@@ -47,43 +48,23 @@ prefix_text None n small = no_text
 
 -- ---- errors
 
--- The error of reading the input n.
-pub fault_of_document : (mode : Option BlankNodes) (first : Option ℕ) (n : ℕ) (input left : Option (List ℕ))
-    (fault : BuildFault) → IsBuildFaultOf input left fault
-    → IsFaultOfDocumentAt mode first n input (document_fault n fault)
-fault_of_document mode first n input left (building.Line fault) h = (refl, (left, h.0), h.1)
-fault_of_document mode first n input left fault h = refl
-
--- ---- one document more
-
-pub adds_next : (mode : Option BlankNodes) (first next : Option ℕ) (n : ℕ) (input : Option (List ℕ))
-    (inputs : List (Option (List ℕ))) (before between after : List StringTriple) (has : Bool)
-    → AddsDocument (input_prefix mode n) input before between has → (MixesBlankNodes mode first has → ⊥)
-    → next ≡ first_with_blank_nodes first n has → AddsInTurn mode next (n + 1) inputs between after
-    → AddsInTurn mode first n (input ∷ inputs) before after
-adds_next mode first next n input inputs before between after has added alone is h =
-    (between, has, added, alone, subst (λ (f : Option ℕ). AddsInTurn mode f (n + 1) inputs between after) is h)
-
-pub stops_next : (mode : Option BlankNodes) (first next : Option ℕ) (n : ℕ) (input : Option (List ℕ))
-    (inputs : List (Option (List ℕ))) (before between : List StringTriple) (has : Bool) (fault : SplitInputsFault)
-    → AddsDocument (input_prefix mode n) input before between has → (MixesBlankNodes mode first has → ⊥)
-    → next ≡ first_with_blank_nodes first n has → StopsAdding mode next (n + 1) inputs between fault
-    → StopsAdding mode first n (input ∷ inputs) before fault
-stops_next mode first next n input inputs before between has fault added alone is h = inr
-    (between, has, added, alone, subst (λ (f : Option ℕ). StopsAdding mode f (n + 1) inputs between fault) is h)
+-- The error of reading the input.
+pub fault_of_document : (turn : Turn) (input left : Option (List ℕ)) (fault : BuildFault)
+    → IsBuildFaultOf input left fault → IsFaultOfDocumentAt turn input (document_fault turn.number fault)
+fault_of_document turn input left (building.Line fault) h = (refl, (left, h.0), h.1)
+fault_of_document turn input left fault h = refl
 
 -- Memory may run out before anything is read.
-pub no_memory : (mode : Option BlankNodes) (first : Option ℕ) (n : ℕ) (inputs : List (Option (List ℕ)))
-    (before : List StringTriple) → StopsAdding mode first n inputs before stop.OutOfMemory
-no_memory mode first n [] before = refl
-no_memory mode first n (input ∷ inputs) before = inl tt
+pub no_memory : (turn : Turn) (inputs : Contents) (triples : List StringTriple)
+    → StopsAdding turn inputs triples stop.OutOfMemory
+no_memory turn [] triples = refl
+no_memory turn (input ∷ inputs) triples = inl tt
 
 -- A second input with blank nodes.
-pub mixed : (mode : Option BlankNodes) (first : Option ℕ) (n : ℕ) (prefix : List ℕ) (input : Option (List ℕ))
-    (before after : List StringTriple) (has : Bool) (fault : SplitInputsFault)
-    → AddsDocument prefix input before after has → IsBlankNodesFault mode first n fault → has ≡ true
-    → IsFaultOfDocumentAt mode first n input fault
-mixed mode first n prefix input before after has (stop.Input k fault) added scope is = absurd scope
-mixed mode first n prefix input before after has (stop.BlankNodes k m) added scope is =
+pub mixed : (turn : Turn) (prefix : List ℕ) (input : Option (List ℕ)) (before after : List StringTriple) (has : Bool)
+    (fault : SplitInputsFault) → AddsDocument prefix input before after has
+    → IsBlankNodesFault turn.mode turn.first turn.number fault → has ≡ true → IsFaultOfDocumentAt turn input fault
+mixed turn prefix input before after has (stop.Input k fault) added scope is = absurd scope
+mixed turn prefix input before after has (stop.BlankNodes k m) added scope is =
     (scope, (added.triples, added.document, subst (λ (b : Bool). b ≡ true) added.blank is))
-mixed mode first n prefix input before after has stop.OutOfMemory added scope is = absurd scope
+mixed turn prefix input before after has stop.OutOfMemory added scope is = absurd scope

@@ -18,7 +18,7 @@ use Rattle.hdt_tool.specs.Outcomes.{HasBadBlockSize, HasNonTerm, IsFaultOfBytes,
 use Rattle.hdt_tool.specs.Outcomes.{HasBadOptions}
 use Rattle.hdt_tool.specs.ListedStrings.{IsListFault}
 use Rattle.hdt_tool.specs.TermCounts.{IsCountFault}
-use Rattle.hdt_tool.specs.TriplesText.{GivenStrings, IsFindFault, LacksMatch, find_format}
+use Rattle.hdt_tool.specs.TriplesText.{GivenStrings, IsFindFault, LacksMatch, find_format, query}
 
 -- A block size that is not valid.
 bad_blocks : (action : Action) (input : Change) (bytes : List ℕ) → ReadsAll input bytes
@@ -66,7 +66,7 @@ no_term role x bytes graph e encoded (inr h) =
 -- Triples that cannot be printed.
 pub no_text : (given : GivenStrings) (format : OutputFormat) (most : Option ℕ) (bytes : List ℕ) (graph : GraphParts)
     (e : ToolFault) → IsLayout bytes graph
-    → IsFindFault graph given format most e → IsFaultOfBytes (Search given format most) bytes e
+    → IsFindFault graph (query given format most) e → IsFaultOfBytes (Search given format most) bytes e
 no_text given format most bytes graph (NotATerm role n) encoded h =
     record { graph = graph; encoded = encoded; holds = h }
 no_text given format most bytes graph OutOfMemory encoded h = tt

@@ -16,13 +16,13 @@ use Rattle.hdt_tool.specs.declared.request.Action.TheVariants.{VerifyTerms}
 use Rattle.hdt_tool.specs.declared.request.OutputFormat.TheVariants.{Count}
 use Rattle.hdt_file.specs.File.{GraphParts, IsLayout}
 use Rattle.hdt_tool.specs.NonTermText.{PrintsKept}
-use Rattle.hdt_tool.specs.Changes.{Change, FailsAfter, Gains, HasFailed}
+use Rattle.hdt_tool.specs.Changes.{Change, FailsAfter, Gains, HasFailed, update}
 use Rattle.hdt_tool.specs.Outcomes.{Completes, IfBuild, IsReadOnly, Prints}
-use Rattle.hdt_tool.specs.Outcomes.{CountsNonTerms, PrintsCountingNonTerms, PrintsInPieces, PrintsText}
+use Rattle.hdt_tool.specs.Outcomes.{PrintsInPieces, PrintsText}
 use Rattle.hdt_tool.specs.Outcomes.{PrintsWithCount, ReadsAll}
 use Rattle.hdt_tool.specs.Outcomes.{ReadsWith}
 use Rattle.hdt_tool.specs.Outcomes.{RewritesFile, WritesOutputPrefix, Yields, YieldsAppended}
-use Rattle.hdt_tool.specs.TriplesText.{GivenStrings}
+use Rattle.hdt_tool.specs.TriplesText.{GivenStrings, query}
 use Rattle.hdt_tool.specs.Faults.{build_fault_of, fault_of_reason}
 
 -- If the command's error is not a read error, neither is that of the builder.
@@ -40,7 +40,7 @@ read_only action not_build not_rewrite = tt
 -- A command that writes no file leaves `made` unchanged.
 pub nothing_built : (action : Action) → IsReadOnly action → (input : Change) (text made : List ℕ)
     → ReadsWith input (λ bytes. Prints action bytes text)
-    → YieldsAppended action input text made made
+    → YieldsAppended action input text (update made made)
 nothing_built (Build options) is input text made h = absurd is
 nothing_built (Rewrite b) is input text made h = absurd is
 nothing_built action is input text made h =
@@ -59,13 +59,7 @@ pub reads_printed : (action : Action) (input : Change) (text : List ℕ) (n : �
 reads_printed action input text n h =
     record { bytes = h.bytes; read = h.read; holds = printed action h.bytes text n h.holds }
 
--- Commands that count, and those that don't.
-pub counts_non_terms : (action : Action) (bytes text : List ℕ) (n : ℕ) → PrintsCountingNonTerms action bytes text n
-    → PrintsWithCount action bytes text n
-counts_non_terms (SkipNonTerms given count most) bytes text n h = h
-counts_non_terms (VerifyTerms tight) bytes text n h = h
-counts_non_terms action bytes text n h = absurd h
-
+-- A command that counts nothing.
 pub counts_nothing : (action : Action) (bytes text : List ℕ) → PrintsText action → Prints action bytes text
     → PrintsWithCount action bytes text 0
 counts_nothing (SkipNonTerms given count most) bytes text is h = absurd is
@@ -81,18 +75,12 @@ pub not_in_pieces : (action : Action) (b : Bool) → (PrintsInPieces action → 
     → PrintsInPieces action → ⊥
 not_in_pieces action b told fails is = let holds = told is in absurd cc
 
--- A command that counts, and does not print in pieces.
-pub counts_skipped : (given : GivenStrings) (count : Bool) (most : Option ℕ)
-    → (PrintsInPieces (SkipNonTerms given count most) → ⊥) → CountsNonTerms (SkipNonTerms given count most)
-counts_skipped given true most not_pieces = tt
-counts_skipped given false most not_pieces = not_pieces tt
-
+-- The number of the triples that have a line.
 pub counts_kept : (given : GivenStrings) (count : Bool) (most : Option ℕ) (bytes text : List ℕ) (n : ℕ)
-    (graph : GraphParts) → CountsNonTerms (SkipNonTerms given count most) → IsLayout bytes graph
-    → PrintsKept graph given Count most text n
-    → PrintsCountingNonTerms (SkipNonTerms given count most) bytes text n
+    (graph : GraphParts) → (PrintsInPieces (SkipNonTerms given count most) → ⊥) → IsLayout bytes graph
+    → PrintsKept graph (query given Count most) text n → PrintsWithCount (SkipNonTerms given count most) bytes text n
 counts_kept given true most bytes text n graph is encoded h = record { graph = graph; encoded = encoded; holds = h }
-counts_kept given false most bytes text n graph is encoded h = absurd is
+counts_kept given false most bytes text n graph is encoded h = absurd (is tt)
 
 pub prints_text : (action : Action) → IsReadOnly action → (PrintsInPieces action → ⊥)
     → ((given : GivenStrings) (count : Bool) (most : Option ℕ) → action ≢ SkipNonTerms given count most)
@@ -109,7 +97,7 @@ prints_text action is not_pieces not_skipping not_terms = is
 pub rewrites : (b : ℕ) (input : Change) (bytes seen text made more : List ℕ)
     → ReadsAll input bytes → seen ≡ bytes
     → ((file : List ℕ) × RewritesFile b seen text file × (more ≡ made ++ file))
-    → YieldsAppended (Rewrite b) input text made more
+    → YieldsAppended (Rewrite b) input text (update made more)
 rewrites b input bytes seen text made more read same h = record {
   built = h.0;
   yields = record {
@@ -140,12 +128,12 @@ IsWriteFault text out e = (n : ℕ) × (e ≡ Write n) × FailsAfter n text out
 
 -- All of the text is written.
 pub completes : (r : Result (Unit {0}) ToolFault) (action : Action) (input out : Change)
-    (text made mid last : List ℕ) → YieldsAppended action input text made mid
-    → OnOk r (Gains out text) → OnOk r (last ≡ mid) → OnOk r (Completes action input out made last)
+    (text made mid last : List ℕ) → YieldsAppended action input text (update made mid)
+    → OnOk r (Gains out text) → OnOk r (last ≡ mid) → OnOk r (Completes action input out (update made last))
 completes (Ok done) action input out text made mid last makes written same =
     record {
       text = text;
-      makes = subst (YieldsAppended action input text made) (sym same) makes;
+      makes = subst (λ (bytes : List ℕ). YieldsAppended action input text (update made bytes)) (sym same) makes;
       written = written;
     }
 completes (Err e) action input out text made mid last makes written same = tt

@@ -14,7 +14,7 @@ use Rattle.hdt_tool.specs.declared.request.OutputFormat.{OutputFormat}
 use Rattle.hdt_tool.specs.declared.request.OutputFormat.TheVariants.{NTriples}
 use Rattle.hdt_tool.specs.StringsText.{string_lines}
 use Rattle.hdt_tool.specs.NonTermText.{PrintsKept}
-use Rattle.hdt_tool.specs.TriplesText.{GivenStrings, IsFindFault, PrintsFound, find_format}
+use Rattle.hdt_tool.specs.TriplesText.{GivenStrings, IsFindFault, PrintsFound, find_format, query}
 use Rattle.hdt_wire.specs.declared.Role.{Role}
 use Rattle.hdt_file.specs.File.{GraphParts, IsLayout}
 use Rattle.hdt_dict.specs.Dictionary.{role_strings}
@@ -165,17 +165,17 @@ strings_print role bytes graph encoded = record { graph = graph; encoded = encod
 
 pub find_prints : (given : GivenStrings) (numbers : Bool) (format : OutputFormat) (bytes text : List ℕ)
     (graph : GraphParts) → format ≡ find_format numbers → IsLayout bytes graph
-    → PrintsFound graph given format None text → Prints (Find given numbers) bytes text
+    → PrintsFound graph (query given format None) text → Prints (Find given numbers) bytes text
 find_prints given numbers format bytes text graph same encoded h = record {
   graph = graph;
   encoded = encoded;
-  holds = subst (λ (f : OutputFormat). PrintsFound graph given f None text) same h;
+  holds = subst (λ (f : OutputFormat). PrintsFound graph (query given f None) text) same h;
 }
 
 -- What printing triples reports, as an outcome of the command.
 abbrev pub FindOutcome : GivenStrings → OutputFormat → Option ℕ → GraphParts → ToolFault → Type 0 → Change → Type 0
-FindOutcome given format most graph e Same out = (IsFindFault graph given format most e × Same)
-    ⊎ ((text : List ℕ) × PrintsFound graph given format most text × IsCutShort e text out)
+FindOutcome given format most graph e Same out = (IsFindFault graph (query given format most) e × Same)
+    ⊎ ((text : List ℕ) × PrintsFound graph (query given format most) text × IsCutShort e text out)
 
 pub find_told : (given : GivenStrings) (numbers : Bool) (format : OutputFormat) (bytes : List ℕ) (graph : GraphParts)
     (e : ToolFault) (Same : Type 0) (out : Change) → format ≡ find_format numbers
@@ -196,7 +196,8 @@ search_told given format most bytes graph e Same out encoded (inr h) =
 
 pub kept_prints : (given : GivenStrings) (count : Bool) (most : Option ℕ) (bytes text : List ℕ) (n : ℕ)
     (graph : GraphParts) → PrintsInPieces (SkipNonTerms given count most) → IsLayout bytes graph
-    → PrintsKept graph given NTriples most text n → PrintsCountingNonTerms (SkipNonTerms given count most) bytes text n
+    → PrintsKept graph (query given NTriples most) text n
+    → PrintsCountingNonTerms (SkipNonTerms given count most) bytes text n
 kept_prints given false most bytes text n graph is encoded h = record { graph = graph; encoded = encoded; holds = h }
 kept_prints given true most bytes text n graph is encoded h = absurd is
 
@@ -204,7 +205,7 @@ pub kept_told : (given : GivenStrings) (count : Bool) (most : Option ℕ) (bytes
     (e : ToolFault) (Same : Type 0) (out : Change)
     → PrintsInPieces (SkipNonTerms given count most) → IsLayout bytes graph
     → ((e ≡ OutOfMemory) × Same)
-    ⊎ ((text : List ℕ) × (n : ℕ) × PrintsKept graph given NTriples most text n × IsCutShort e text out)
+    ⊎ ((text : List ℕ) × (n : ℕ) × PrintsKept graph (query given NTriples most) text n × IsCutShort e text out)
     → PiecesOutcome (SkipNonTerms given count most) bytes e Same out
 kept_told given count most bytes graph e Same out is encoded (inl h) =
     inl (subst (λ (x : ToolFault). IsFaultOfBytes (SkipNonTerms given count most) bytes x) (sym h.0) tt, h.1)

@@ -17,7 +17,7 @@ use Rattle.hdt_tool.specs.Changes.{Change, FailsAfter}
 use Rattle.hdt_tool.specs.Outcomes.{IsCutShort}
 use Rattle.hdt_tool.proofs.Pieces.{step}
 use Rattle.hdt_tool.specs.NonTermText.{PrintsKept}
-use Rattle.hdt_tool.specs.TriplesText.{Finds, GivenStrings, IsFindFault, PrintsFound, numbers_lines}
+use Rattle.hdt_tool.specs.TriplesText.{Finds, GivenStrings, IsFindFault, PrintsFound, numbers_lines, query}
 use Rattle.hdt_tool.specs.declared.fault.ToolFault.{ToolFault}
 use Rattle.hdt_tool.specs.declared.fault.ToolFault.TheVariants.{OutOfMemory}
 use Rattle.hdt_tool.specs.declared.fault.ToolFault.TheVariants as tool
@@ -26,7 +26,7 @@ use Rattle.hdt_tool.specs.declared.request.OutputFormat.TheVariants.{Count, NTri
 pub found_printed : (g : GraphParts) (given : GivenStrings) (most : Option ℕ) (found : List Triple)
     (before after : Option (List ℕ)) (n : ℕ) → Finds g given found
     → WritesText g (limited most found) before after n
-    → (text : List ℕ) × PrintsFound g given NTriples most text × Appends before after text
+    → (text : List ℕ) × PrintsFound g (query given NTriples most) text × Appends before after text
 found_printed g given most found before after n finds h =
     (h.text, record { found = found; finds = finds; holds = h.is }, h.written)
 
@@ -44,7 +44,7 @@ cut dumping.OutOfMemory text before after failed fails h = (h.well, (h.count, h.
 
 faulty : (g : GraphParts) (given : GivenStrings) (most : Option ℕ) (found : List Triple) (e : DumpFault)
     → Finds g given found → ReportsFirstNonTerm g (limited most found) e
-    → IsFindFault g given NTriples most (dump_fault_of e)
+    → IsFindFault g (query given NTriples most) (dump_fault_of e)
 faulty g given most found (dumping.NotATerm role n) finds h =
     (refl, record { found = found; finds = finds; holds = h })
 faulty g given most found (dumping.Write m) finds h = absurd h
@@ -54,8 +54,8 @@ pub found_cut : (g : GraphParts) (given : GivenStrings) (most : Option ℕ) (fou
     (Same : Type 0) (before after : Option (List ℕ)) (failed fails : ℕ) → Finds g given found
     → (ReportsFirstNonTerm g (limited most found) e × Same)
     ⊎ CutsText g (limited most found) e before after failed fails
-    → (IsFindFault g given NTriples most (dump_fault_of e) × Same)
-    ⊎ ((text : List ℕ) × PrintsFound g given NTriples most text
+    → (IsFindFault g (query given NTriples most) (dump_fault_of e) × Same)
+    ⊎ ((text : List ℕ) × PrintsFound g (query given NTriples most) text
     × IsCutShort (dump_fault_of e) text (step before after failed fails))
 found_cut g given most found e Same before after failed fails finds (inl h) =
     inl (faulty g given most found e finds h.0, h.1)
@@ -77,7 +77,7 @@ same_lines g most pattern p ts given are =
 
 pub numbers_printed : (g : GraphParts) (given : GivenStrings) (most : Option ℕ) (pattern : Option Pattern)
     (p : Pattern) (ts : List Triple) → Finds g given (matches_if_given g pattern) → pattern ≡ Some p
-    → ts ≡ matches p g.triples → PrintsFound g given Numbers most (numbers_lines (limited most ts))
+    → ts ≡ matches p g.triples → PrintsFound g (query given Numbers most) (numbers_lines (limited most ts))
 numbers_printed g given most pattern p ts finds is are = record {
   found = matches_if_given g pattern;
   finds = finds;
@@ -89,7 +89,7 @@ none_limited None = refl
 none_limited (Some n) = ap numbers_lines (sym (take_all n [] (omega arith)))
 
 pub no_numbers : (g : GraphParts) (given : GivenStrings) (most : Option ℕ) (pattern : Option Pattern)
-    → Finds g given (matches_if_given g pattern) → pattern ≡ None → PrintsFound g given Numbers most []
+    → Finds g given (matches_if_given g pattern) → pattern ≡ None → PrintsFound g (query given Numbers most) []
 no_numbers g given most pattern finds is = record {
   found = [];
   finds = subst (λ (q : Option Pattern). Finds g given (matches_if_given g q)) is finds;
@@ -98,7 +98,7 @@ no_numbers g given most pattern finds is = record {
 
 pub count_printed : (g : GraphParts) (given : GivenStrings) (most : Option ℕ) (found : List Triple) (n : ℕ)
     (text : List ℕ) → Finds g given found → n ≡ length (limited most found) → text ≡ decimal n ++ 10 ∷ []
-    → PrintsFound g given Count most text
+    → PrintsFound g (query given Count most) text
 count_printed g given most found n text finds same is = record {
   found = found;
   finds = finds;
@@ -115,7 +115,7 @@ line_cut e text bytes out same h =
 
 pub kept_written : (g : GraphParts) (given : GivenStrings) (most : Option ℕ) (found : List Triple)
     (before after : Option (List ℕ)) (n : ℕ) → Finds g given found → WritesWritable g most found before after n
-    → (text : List ℕ) × PrintsKept g given NTriples most text n × Appends before after text
+    → (text : List ℕ) × PrintsKept g (query given NTriples most) text n × Appends before after text
 kept_written g given most found before after n finds h = (
   h.written.text,
   record { found = found; finds = finds; holds = (h.kept, h.skips, h.written.is) },
@@ -126,7 +126,7 @@ pub kept_cut : (g : GraphParts) (given : GivenStrings) (most : Option ℕ) (foun
     (Same : Type 0) (before after : Option (List ℕ)) (failed fails : ℕ) → Finds g given found
     → ((e ≡ dumping.OutOfMemory) × Same) ⊎ CutsWritable g most found e before after failed fails
     → ((dump_fault_of e ≡ OutOfMemory) × Same)
-    ⊎ ((text : List ℕ) × (n : ℕ) × PrintsKept g given NTriples most text n
+    ⊎ ((text : List ℕ) × (n : ℕ) × PrintsKept g (query given NTriples most) text n
     × IsCutShort (dump_fault_of e) text (step before after failed fails))
 kept_cut g given most found e Same before after failed fails finds (inl h) = inl (ap dump_fault_of h.0, h.1)
 kept_cut g given most found e Same before after failed fails finds (inr h) = inr (

@@ -1,8 +1,16 @@
--- What a call changes of the readers and writers that it is given.
+-- What a call changes of what it is given.
 use Rattle.std.specs.Prelude.{◌≡◌, ◌+◌, ◌<◌, ℕ, List, Option, length, take}
 use Rattle.std.specs.Io.KnownBytes.{Appends}
 use Rattle.hdt_wire.specs.Counted.{inner, failures}
 use Rattle.hdt_wire.specs.declared.counted.Counted.{Counted}
+
+-- A value before and after a call.
+pub record Update (A : Type 0) : Type 0 where
+  pub before : A
+  pub after : A
+
+abbrev pub update : {A : Type 0} → A → A → Update A
+update before after = record { before = before; after = after }
 
 -- A reader or a writer before and after a call: the bytes that the reader still yields, or that the writer has
 -- received, if they are known; and how often it has failed.

@@ -99,6 +99,14 @@ non_term_comment role n = codes "# " ++ role_name role ++ codes " " ++ decimal n
 abbrev pub with_empty_line : List ℕ → List ℕ
 with_empty_line text = text ++ 10 ∷ []
 
+-- The answer to a request: its report, and its text.
+pub record Answer : Type 0 where
+  pub report : AnswerReport
+  pub text : List ℕ
+
+abbrev pub answer_of : AnswerReport → List ℕ → Answer
+answer_of report text = record { report = report; text = text }
+
 -- The answer without an error: the text of the triples.
 abbrev pub AnswersTriples : OutputFormat → GraphParts → List Triple → List ℕ → Type 0
 AnswersTriples format g found answer = (text : List ℕ) × PrintsTriples format g found text
@@ -138,12 +146,12 @@ abbrev pub AnswersKept : GraphParts → AnswerOptions → List Triple → ℕ �
 AnswersKept g options found n answer = (kept : List Triple) × SkipsNonTerms g options.most found kept n
     × AnswersTriples options.format g kept answer
 
--- The answer for the triples that were found, up to the limit, and its report; true if triples are left out.
-abbrev pub AnswersMatches : Bool → GraphParts → AnswerOptions → List Triple → AnswerReport → List ℕ → Type 0
-AnswersMatches false g options found report answer = (report.skipped ≡ 0)
-    × AnswersFound options.format g (limited options.most found) report.has_errors answer
-AnswersMatches true g options found report answer = (report.has_errors ≡ false)
-    × AnswersKept g options found report.skipped answer
+-- The answer for the triples that were found, up to the limit; true if triples are left out.
+abbrev pub AnswersMatches : Bool → GraphParts → AnswerOptions → List Triple → Answer → Type 0
+AnswersMatches false g options found answer = (answer.report.skipped ≡ 0)
+    × AnswersFound options.format g (limited options.most found) answer.report.has_errors answer.text
+AnswersMatches true g options found answer = (answer.report.has_errors ≡ false)
+    × AnswersKept g options found answer.report.skipped answer.text
 
 -- The report of an answer that leaves out no triple.
 abbrev pub plain_report : Bool → AnswerReport
@@ -156,18 +164,17 @@ joined_reports one other =
 
 -- The answer to the request in line n: empty for a blank line or a comment, a comment for an error, or the matches up
 -- to the limit.
-abbrev pub AnswersRequest : GraphParts → AnswerOptions → ℕ → Result (Option RequestStrings) TermFault → AnswerReport
-    → List ℕ → Type 0
-AnswersRequest g options n (Ok None) report answer = (report ≡ plain_report false) × (answer ≡ [])
-AnswersRequest g options n (Ok (Some wanted)) report answer = (found : List Triple) × FindsStrings g wanted found
-    × AnswersMatches (skips options) g options found report answer
-AnswersRequest g options n (Err fault) report answer = (report ≡ plain_report true)
-    × (answer ≡ with_empty_line (fault_comment n fault))
+abbrev pub AnswersRequest : GraphParts → AnswerOptions → ℕ → Result (Option RequestStrings) TermFault → Answer → Type 0
+AnswersRequest g options n (Ok None) answer = (answer.report ≡ plain_report false) × (answer.text ≡ [])
+AnswersRequest g options n (Ok (Some wanted)) answer = (found : List Triple) × FindsStrings g wanted found
+    × AnswersMatches (skips options) g options found answer
+AnswersRequest g options n (Err fault) answer = (answer.report ≡ plain_report true)
+    × (answer.text ≡ with_empty_line (fault_comment n fault))
 
 -- The answer to a numbered line.
 abbrev pub AnswersLine : GraphParts → AnswerOptions → ℕ × List ℕ → AnswerReport → List ℕ → Type 0
 AnswersLine g options line report answer =
-    AnswersRequest g options line.0 (bounded_request_in options line.1) report answer
+    AnswersRequest g options line.0 (bounded_request_in options line.1) (answer_of report answer)
 
 -- The concatenated answers to lines, whether any of them is an error, and how many triples they leave out.
 abbrev pub AnswersLines : GraphParts → AnswerOptions → List (ℕ × List ℕ) → AnswerReport → List ℕ → Type 0

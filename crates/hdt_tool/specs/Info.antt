@@ -1,25 +1,15 @@
 -- What `info` finds out about a file.
 use Rattle.std.specs.Prelude.{◌≡◌, ◌↔◌, ℕ, Bool, IsTrue, List}
-use Rattle.hdt_file.specs.File.{GraphParts, IsLayout}
+use Rattle.hdt_file.specs.File.{GraphParts}
 use Rattle.hdt_file.specs.Tight.{IsTightLayout}
 use Rattle.hdt_file.specs.Info.{IsFileInfo}
 use Rattle.hdt_file.specs.declared.info.FileInfo.{FileInfo}
-use Rattle.hdt_build.specs.Options.{IsBlockSize}
-use Rattle.hdt_build.specs.Built.{IsRewritten}
-use Rattle.hdt_build.specs.declared.options.Report.{Report}
+use Rattle.hdt_build.specs.Built.{IsRewrittenAs}
 use Rattle.hdt_tool.specs.InfoText.{info_text}
 
 -- The bytes are a valid file whose triples use all of its strings.
 abbrev pub IsTightFile : List ℕ → Type 0
 IsTightFile bytes = (graph : GraphParts) × IsTightLayout bytes graph
-
--- The bytes are the file that `rewrite` makes of them, in blocks of b strings.
-pub record IsRewrittenAs (b : ℕ) (bytes : List ℕ) : Type 0 where
-  pub size : IsBlockSize b
-  pub graph : GraphParts
-  pub encoded : IsLayout bytes graph
-  pub report : Report
-  pub rewritten : IsRewritten b graph bytes report
 
 -- The text is the output of `info` for a valid file. It is canonical if `rewrite` with the block size of its predicates
 -- gives the same bytes.

@@ -1,6 +1,6 @@
 -- The output of `find` and `dump` with `--skip-non-terms`, and of `verify --terms`, with the number of the triples or
 -- strings that have no form in N-Triples.
-use Rattle.std.specs.Prelude.{◌≡◌, ℕ, Bool, true, false, List, [], ◌∷◌, ◌++◌, Option, length}
+use Rattle.std.specs.Prelude.{◌≡◌, ℕ, Bool, true, false, List, [], ◌∷◌, ◌++◌, length}
 use Rattle.std.specs.Fmt.{decimal}
 use Rattle.std.specs.List.{flat_map}
 use Rattle.hdt_triples.specs.TripleSequences.{Triple}
@@ -11,7 +11,7 @@ use Rattle.hdt_file.specs.Tight.{IsTightLayout}
 use Rattle.hdt_file.specs.declared.non_terms.NonTerm.{NonTerm}
 use Rattle.hdt_file.specs.declared.non_terms.TermVerdict.{TermVerdict}
 use Rattle.hdt_usage.specs.CommandTable.{role_name}
-use Rattle.hdt_tool.specs.TriplesText.{GivenStrings, FindsWith, PrintsTriples}
+use Rattle.hdt_tool.specs.TriplesText.{FindsWith, PrintsTriples, Query}
 use Rattle.hdt_tool.specs.PrintedReports.{verdict}
 use Rattle.hdt_tool.specs.declared.request.OutputFormat.{OutputFormat}
 use Rattle.hdt_tool.specs.declared.request.OutputFormat.TheVariants.{NTriples, Count}
@@ -21,11 +21,11 @@ abbrev pub kept_format : Bool → OutputFormat
 kept_format false = NTriples
 kept_format true = Count
 
--- The text of the triples with the given strings that have a line, up to a limit; n without one were skipped.
-abbrev pub PrintsKept : GraphParts → GivenStrings → OutputFormat → Option ℕ → List ℕ → ℕ → Type 0
-PrintsKept g given format most text n =
-    FindsWith g given (λ found. (kept : List Triple) × SkipsNonTerms g most found kept n
-    × PrintsTriples format g kept text)
+-- The text of the triples with the given strings that have a line, up to the limit; n without one were skipped.
+abbrev pub PrintsKept : GraphParts → Query → List ℕ → ℕ → Type 0
+PrintsKept g asked text n =
+    FindsWith g asked.given (λ found. (kept : List Triple) × SkipsNonTerms g asked.most found kept n
+    × PrintsTriples asked.format g kept text)
 
 -- The line of a string that is not a term: its role, its ID and its byte offset, separated by tabs.
 abbrev pub non_term_line : NonTerm → List ℕ

@@ -29,13 +29,13 @@ use Rattle.hdt_tool.specs.declared.request.Action.TheVariants.{Strings, ListStri
 use Rattle.hdt_tool.specs.declared.request.Action.TheVariants.{SkipNonTerms, Exists, Count, Answer, Build, Rewrite}
 use Rattle.hdt_tool.specs.declared.request.Action.TheVariants.{Info, Lint, BuildInputs, Merge, Split}
 use Rattle.hdt_tool.specs.PrintedReports.{built_line, rewritten_line, head_text, verdict}
-use Rattle.hdt_tool.specs.Changes.{Change, FailsAfter, Gains, GainsBeginning, IsUnfailed}
+use Rattle.hdt_tool.specs.Changes.{Change, Update, FailsAfter, Gains, GainsBeginning, IsUnfailed}
 use Rattle.hdt_tool.specs.Info.{PrintsInfo}
 use Rattle.hdt_tool.specs.StringsText.{string_lines, PrintsString, PrintsNumber}
 use Rattle.hdt_tool.specs.ListedStrings.{HasUnlistedTerm, PrintsListed}
 use Rattle.hdt_tool.specs.TermCounts.{IsCountFault, PrintsCounts}
 use Rattle.hdt_tool.specs.NonTermText.{PrintsKept, PrintsTermVerdict, kept_format}
-use Rattle.hdt_tool.specs.TriplesText.{HasMatch, HasNonTermIn, LacksMatch, PrintsFound, find_format}
+use Rattle.hdt_tool.specs.TriplesText.{HasMatch, HasNonTermIn, LacksMatch, PrintsFound, find_format, query}
 use Rattle.hdt_dict.specs.Dictionary.{role_strings}
 
 -- The bytes begin with a valid head, and the text is the output of `head` for it.
@@ -67,17 +67,11 @@ pub record IsLayoutWith (bytes : List ℕ) (Holds : GraphParts → Type 0) : Typ
 abbrev pub HasRoleStringsWith : List ℕ → Role → (List (List ℕ) → Type 0) → Type 0
 HasRoleStringsWith bytes role Holds = IsLayoutWith bytes (λ graph. Holds (role_strings graph.dictionary role))
 
--- The command counts the triples that `--skip-non-terms` leaves out, beside the number of the others, or the strings
--- that `verify --terms` prints.
-abbrev pub CountsNonTerms : Action → Type 0
-CountsNonTerms (SkipNonTerms given true most) = Unit {0}
-CountsNonTerms (VerifyTerms tight) = Unit {0}
-CountsNonTerms action = ⊥
-
--- The text is the output of such a command for these input bytes, and n is this number.
+-- The text is the output of a command that counts the triples that `--skip-non-terms` leaves out, or the strings that
+-- `verify --terms` prints, for these input bytes, and n is this number.
 abbrev pub PrintsCountingNonTerms : Action → List ℕ → List ℕ → ℕ → Type 0
 PrintsCountingNonTerms (SkipNonTerms given count most) bytes text n =
-    IsLayoutWith bytes (λ graph. PrintsKept graph given (kept_format count) most text n)
+    IsLayoutWith bytes (λ graph. PrintsKept graph (query given (kept_format count) most) text n)
 PrintsCountingNonTerms (VerifyTerms tight) bytes text n = PrintsTermVerdict tight bytes text n
 PrintsCountingNonTerms action bytes text n = ⊥
 
@@ -94,8 +88,9 @@ Prints (ListStrings role prefix terms) bytes text =
 Prints (Nth role n) bytes text = HasRoleStringsWith bytes role (λ strings. PrintsString strings n text)
 Prints (Number role x) bytes text = HasRoleStringsWith bytes role (λ strings. PrintsNumber strings x.items text)
 Prints (Find given numbers) bytes text =
-    IsLayoutWith bytes (λ graph. PrintsFound graph given (find_format numbers) None text)
-Prints (Search given format most) bytes text = IsLayoutWith bytes (λ graph. PrintsFound graph given format most text)
+    IsLayoutWith bytes (λ graph. PrintsFound graph (query given (find_format numbers) None) text)
+Prints (Search given format most) bytes text =
+    IsLayoutWith bytes (λ graph. PrintsFound graph (query given format most) text)
 Prints (SkipNonTerms given count most) bytes text = (n : ℕ)
     × PrintsCountingNonTerms (SkipNonTerms given count most) bytes text n
 Prints (VerifyTerms tight) bytes text = (n : ℕ) × PrintsCountingNonTerms (VerifyTerms tight) bytes text n
@@ -185,9 +180,9 @@ LacksAnyMatch action bytes = ⊥
 -- term has this role and ID.
 abbrev pub HasNonTerm : Action → List ℕ → Role → ℕ → Type 0
 HasNonTerm (Find given numbers) bytes role n =
-    IsLayoutWith bytes (λ graph. HasNonTermIn graph given (find_format numbers) None role n)
+    IsLayoutWith bytes (λ graph. HasNonTermIn graph (query given (find_format numbers) None) role n)
 HasNonTerm (Search given format most) bytes role n =
-    IsLayoutWith bytes (λ graph. HasNonTermIn graph given format most role n)
+    IsLayoutWith bytes (λ graph. HasNonTermIn graph (query given format most) role n)
 HasNonTerm (Count role top raw) bytes other n =
     IsLayoutWith bytes (λ graph. IsCountFault graph role top raw (NotATerm other n))
 HasNonTerm (ListStrings role prefix terms) bytes other n = (other ≡ role)
@@ -273,16 +268,16 @@ IsFaultOfInput action input (Write n) = Unit {0}
 IsFaultOfInput action input OutOfMemory = Unit {0}
 IsFaultOfInput action input fault = ReadsWith input (λ bytes. IsFaultOfBytes action bytes fault)
 
--- The text is the command's output for the input, and the new file has been appended to `made`.
-pub record YieldsAppended (action : Action) (input : Change) (text made_before made_after : List ℕ) : Type 0 where
+-- The text is the command's output for the input, and the new file has been appended to the bytes of `made`.
+pub record YieldsAppended (action : Action) (input : Change) (text : List ℕ) (bytes : Update (List ℕ)) : Type 0 where
   pub built : List ℕ
   pub yields : Yields action input text built
-  pub made : made_after ≡ made_before ++ built
+  pub made : bytes.after ≡ bytes.before ++ built
 
 -- The run succeeded: the writer has gained the command's output for the input, and `made` the new file.
-pub record Completes (action : Action) (input out : Change) (made_before made_after : List ℕ) : Type 0 where
+pub record Completes (action : Action) (input out : Change) (bytes : Update (List ℕ)) : Type 0 where
   pub text : List ℕ
-  pub makes : YieldsAppended action input text made_before made_after
+  pub makes : YieldsAppended action input text bytes
   pub written : Gains out text
 
 -- The writer has gained exactly the first n bytes of the command's output for the input, which is longer.

@@ -3,6 +3,7 @@ use Rattle.std.specs.Prelude.{◌≡◌, ◌+◌, ◌⊎◌, ℕ, Bool, true, fa
 use Rattle.std.specs.Fmt.{decimal}
 use Rattle.hdt_terms.specs.Split.{SplitsInput, SplitsUntilFault}
 use Rattle.hdt_terms.specs.declared.split.SplitReport.{SplitReport}
+use Rattle.hdt_tool.specs.Changes.{Update, update}
 use Rattle.hdt_tool.specs.declared.request.BlankNodes.{BlankNodes}
 use Rattle.hdt_tool.specs.declared.request.BlankNodes.TheVariants as blank
 use Rattle.hdt_tool.specs.declared.splitting.SplitInputsFault.{SplitInputsFault}
@@ -30,34 +31,50 @@ abbrev pub IsBlankNodesFault : Option BlankNodes → Option ℕ → ℕ → Spli
 IsBlankNodesFault mode first n (stop.BlankNodes k m) = (mode ≡ None) × (first ≡ Some k) × (m ≡ n)
 IsBlankNodesFault mode first n other = ⊥
 
--- The inputs, numbered from n, were split one after another; before and after are what the writers of the parts had and
--- have. first is the first input before them with blank nodes.
-abbrev pub SplitsInTurn : Option BlankNodes → Option ℕ → ℕ → List (Option (List ℕ)) → List (Option (List ℕ))
-    → List (Option (List ℕ)) → Type 0
-SplitsInTurn mode first n [] before after = after ≡ before
-SplitsInTurn mode first n (input ∷ inputs) before after = (between : List (Option (List ℕ))) × (report : SplitReport)
-    × SplitsInput (input_prefix mode n) input before between report
-    × (MixesBlankNodes mode first report.has_blank_nodes → ⊥)
-    × SplitsInTurn mode (first_with_blank_nodes first n report.has_blank_nodes) (n + 1) inputs between after
+-- The turn of an input: what `--blank-nodes` says, the first input before it with blank nodes, and its number.
+pub record Turn : Type 0 where
+  pub mode : Option BlankNodes
+  pub first : Option ℕ
+  pub number : ℕ
 
--- The error is that of the input n: of a line, a read or a write; or it has blank nodes and so has an earlier one; or
+abbrev pub first_turn : Option BlankNodes → Turn
+first_turn mode = record { mode = mode; first = None; number = 0 }
+
+-- The next turn, after an input with or without blank nodes.
+abbrev pub next_turn : Turn → Bool → Turn
+next_turn turn has =
+    record turn { first = first_with_blank_nodes turn.first turn.number has; number = turn.number + 1 }
+
+-- The bytes of each input or writer, if they are known.
+abbrev pub Contents : Type 0
+Contents = List (Option (List ℕ))
+
+-- The input was split in its turn.
+abbrev pub SplitsAt : Turn → Option (List ℕ) → Update Contents → SplitReport → Type 0
+SplitsAt turn input outs report = SplitsInput (input_prefix turn.mode turn.number) input outs.before outs.after report
+
+-- The inputs were split one after another; outs are the writers of the parts.
+abbrev pub SplitsInTurn : Turn → Contents → Update Contents → Type 0
+SplitsInTurn turn [] outs = outs.after ≡ outs.before
+SplitsInTurn turn (input ∷ inputs) outs = (between : Contents) × (report : SplitReport)
+    × SplitsAt turn input (update outs.before between) report
+    × (MixesBlankNodes turn.mode turn.first report.has_blank_nodes → ⊥)
+    × SplitsInTurn (next_turn turn report.has_blank_nodes) inputs (update between outs.after)
+
+-- The error is that of the input: of a line, a read or a write; or it has blank nodes and so has an earlier one; or
 -- memory ran out before it was read.
-abbrev pub IsFaultOfInputAt : Option BlankNodes → Option ℕ → ℕ → Option (List ℕ) → List (Option (List ℕ))
-    → List (Option (List ℕ)) → SplitInputsFault → Type 0
-IsFaultOfInputAt mode first n input before after (stop.Input k fault) = (k ≡ n)
-    × ((left : Option (List ℕ)) × SplitsUntilFault (input_prefix mode n) input left before after fault)
-IsFaultOfInputAt mode first n input before after (stop.BlankNodes k m) =
-    IsBlankNodesFault mode first n (stop.BlankNodes k m)
-    × ((report : SplitReport) × SplitsInput (input_prefix mode n) input before after report
-    × (report.has_blank_nodes ≡ true))
-IsFaultOfInputAt mode first n input before after stop.OutOfMemory = after ≡ before
+abbrev pub IsFaultOfInputAt : Turn → Option (List ℕ) → Update Contents → SplitInputsFault → Type 0
+IsFaultOfInputAt turn input outs (stop.Input k fault) = (k ≡ turn.number) × ((left : Option (List ℕ))
+    × SplitsUntilFault (input_prefix turn.mode turn.number) input left outs.before outs.after fault)
+IsFaultOfInputAt turn input outs (stop.BlankNodes k m) =
+    IsBlankNodesFault turn.mode turn.first turn.number (stop.BlankNodes k m)
+    × ((report : SplitReport) × SplitsAt turn input outs report × (report.has_blank_nodes ≡ true))
+IsFaultOfInputAt turn input outs stop.OutOfMemory = outs.after ≡ outs.before
 
 -- The error is that of one of the inputs, and those before it were split.
-abbrev pub StopsInTurn : Option BlankNodes → Option ℕ → ℕ → List (Option (List ℕ)) → List (Option (List ℕ))
-    → List (Option (List ℕ)) → SplitInputsFault → Type 0
-StopsInTurn mode first n [] before after fault = ⊥
-StopsInTurn mode first n (input ∷ inputs) before after fault = IsFaultOfInputAt mode first n input before after fault
-    ⊎ ((between : List (Option (List ℕ))) × (report : SplitReport)
-    × SplitsInput (input_prefix mode n) input before between report
-    × (MixesBlankNodes mode first report.has_blank_nodes → ⊥)
-    × StopsInTurn mode (first_with_blank_nodes first n report.has_blank_nodes) (n + 1) inputs between after fault)
+abbrev pub StopsInTurn : Turn → Contents → Update Contents → SplitInputsFault → Type 0
+StopsInTurn turn [] outs fault = ⊥
+StopsInTurn turn (input ∷ inputs) outs fault = IsFaultOfInputAt turn input outs fault
+    ⊎ ((between : Contents) × (report : SplitReport) × SplitsAt turn input (update outs.before between) report
+    × (MixesBlankNodes turn.mode turn.first report.has_blank_nodes → ⊥)
+    × StopsInTurn (next_turn turn report.has_blank_nodes) inputs (update between outs.after) fault)

@@ -91,17 +91,27 @@ IsTextFault format g found (dumping.NotATerm role n) = (format ≡ NTriples) × 
 IsTextFault format g found (dumping.Write n) = ⊥
 IsTextFault format g found dumping.OutOfMemory = Unit {0}
 
--- The text of the triples with the given strings, up to a limit.
-abbrev pub PrintsFound : GraphParts → GivenStrings → OutputFormat → Option ℕ → List ℕ → Type 0
-PrintsFound g given format most text = FindsWith g given (λ found. PrintsTriples format g (limited most found) text)
+-- What `find` is asked: the given strings, the output format, and the limit.
+pub record Query : Type 0 where
+  pub given : GivenStrings
+  pub format : OutputFormat
+  pub most : Option ℕ
+
+abbrev pub query : GivenStrings → OutputFormat → Option ℕ → Query
+query given format most = record { given = given; format = format; most = most }
+
+-- The text of the triples with the given strings, up to the limit.
+abbrev pub PrintsFound : GraphParts → Query → List ℕ → Type 0
+PrintsFound g asked text =
+    FindsWith g asked.given (λ found. PrintsTriples asked.format g (limited asked.most found) text)
 
 -- The output format is N-Triples, and the first string of these triples that is not a term has this role and ID.
-abbrev pub HasNonTermIn : GraphParts → GivenStrings → OutputFormat → Option ℕ → Role → ℕ → Type 0
-HasNonTermIn g given format most role n = (format ≡ NTriples)
-    × FindsWith g given (λ found. IsFirstNonTerm g (limited most found) role n)
+abbrev pub HasNonTermIn : GraphParts → Query → Role → ℕ → Type 0
+HasNonTermIn g asked role n = (asked.format ≡ NTriples)
+    × FindsWith g asked.given (λ found. IsFirstNonTerm g (limited asked.most found) role n)
 
 -- The error is one that `find` may return for a valid file.
-abbrev pub IsFindFault : GraphParts → GivenStrings → OutputFormat → Option ℕ → ToolFault → Type 0
-IsFindFault g given format most (NotATerm role n) = HasNonTermIn g given format most role n
-IsFindFault g given format most OutOfMemory = Unit {0}
-IsFindFault g given format most fault = ⊥
+abbrev pub IsFindFault : GraphParts → Query → ToolFault → Type 0
+IsFindFault g asked (NotATerm role n) = HasNonTermIn g asked role n
+IsFindFault g asked OutOfMemory = Unit {0}
+IsFindFault g asked fault = ⊥

@@ -7,6 +7,7 @@ ghost use Rattle.hdt_file.specs.Graph.{graph_view};
 ghost use Rattle.hdt_file.specs.TermFlags.{AreTermFlags};
 ghost use Rattle.hdt_file.specs.TextWriting.{matches_if_given, limited};
 ghost use Rattle.hdt_tool.specs.Dialogue.{AnswersFound, AnswersKept, AnswersLine, AnswersMatches, AreFlagsIfSkipping};
+ghost use Rattle.hdt_tool.specs.Dialogue.{answer_of};
 ghost use Rattle.hdt_tool.specs.Dialogue.{ReadsRequest, bounded_request_in, fault_comment, given_strings, is_count};
 ghost use Rattle.hdt_tool.specs.Dialogue.{joined_reports, non_term_comment, plain_report, skips, with_empty_line};
 ghost use Rattle.hdt_tool.specs.TriplesText.{FindsStrings};
@@ -293,7 +294,7 @@ impl<'g> Answerer<'g> {
         ensures cached { CachesTerms (graph_view self.now.graph.now) term_writer.new }
         ensures ok { IfOk result (λ report. (answer : List ℕ)
             × AnswersMatches (skips self.now.options) (graph_view self.now.graph.now) self.now.options
-            (matches_if_given (graph_view self.now.graph.now) pattern) report answer
+            (matches_if_given (graph_view self.now.graph.now) pattern) (answer_of report answer)
             × (out.new.items ≡ out.old.items ++ answer)) }
         ensures unchanged { OnErr result (out.new.items ≡ out.old.items) }
     {

@@ -1,9 +1,11 @@
 //! `build` of several documents.
-ghost use Rattle.std.specs.Prelude.{◌≡◌, ◌<◌, ◌≤◌, ◌↔◌, None, IfOk, IfErr, IsErrOf, [], codes, length, map};
+ghost use Rattle.std.specs.Prelude.{◌≡◌, ◌<◌, ◌≤◌, ◌↔◌, IfOk, IfErr, IsErrOf, [], codes, length, map};
 ghost use Rattle.hdt_build.specs.Built.{IsBuilt};
 ghost use Rattle.hdt_build.specs.Options.{AreValidOptions};
 ghost use Rattle.hdt_build.specs.declared.options.Report.{Report};
 ghost use Rattle.hdt_tool.specs.BuildInputs.{AddsInTurn, StopsAdding, document_fault};
+ghost use Rattle.hdt_tool.specs.Changes.{update};
+ghost use Rattle.hdt_tool.specs.SplitInputs.{first_turn};
 ghost use Rattle.hdt_tool.specs.PrintedReports.{counts_line};
 
 use crate::error_context::ErrorSource;
@@ -53,9 +55,11 @@ fn read_documents<R: Read + Drop>(
     inputs: Vec<R>,
 ) -> Result<DocumentBuilder, SplitInputsFault>
     // The triples of each input in turn were added.
-    ensures ok { IfOk result (AddsInTurn blank_nodes None 0 (map (λ input. R.remaining input) inputs.items) []) }
+    ensures ok { IfOk result (λ builder. AddsInTurn (first_turn blank_nodes)
+        (map (λ input. R.remaining input) inputs.items) (update [] builder)) }
     // The error is that of an input, and those before it are documents.
-    ensures stopped { IfErr result (StopsAdding blank_nodes None 0 (map (λ input. R.remaining input) inputs.items) []) }
+    ensures stopped { IfErr result
+        (StopsAdding (first_turn blank_nodes) (map (λ input. R.remaining input) inputs.items) []) }
 {
     let mut builder = DocumentBuilder::new(alloc)?;
     let mut first = None;

@@ -26,17 +26,58 @@ use clap::{ArgMatches, Error};
 use hdt_usage::{explain, make_command_table};
 use std::alloc::{AllocError, Global};
 
+/// The command that does the work of a command of another HDT program.
+fn command_in_place_of(word: &str) -> Option<&'static str> {
+    match word {
+        "rdf2hdt" | "convert" => Some("hdt build IN OUT"),
+        "hdt2rdf" => Some("hdt dump FILE"),
+        "hdtSearch" | "search" => Some("hdt find FILE S P O"),
+        "hdtInfo" => Some("hdt info FILE"),
+        "hdtVerify" => Some("hdt verify FILE"),
+        "hdtCat" | "cat" => Some("hdt merge FILE.. OUT"),
+        "searchHeader" | "header" => Some("hdt head FILE"),
+        "modifyHeader" | "replaceHeader" => Some("hdt rewrite --header FILE IN OUT"),
+        _ => None,
+    }
+}
+
+/// The message for a command of another HDT program, if the error is that there is no such command.
+fn other_program_text(
+    alloc: Global,
+    words: &[&str],
+    error: &Error,
+) -> Result<Option<String>, AllocError> {
+    let (ErrorKind::InvalidSubcommand, Some(word)) = (error.kind(), words.get(1)) else {
+        return Ok(None);
+    };
+    let Some(command) = command_in_place_of(word) else {
+        return Ok(None);
+    };
+    Ok(Some(format!(in alloc;
+        "error: unrecognized subcommand '{word}'
+
+  tip: the command here is '{command}'
+
+Usage: hdt <COMMAND>
+
+For more information, try '--help'."
+    )?))
+}
+
 /// The message of a `clap` error, without trailing whitespace.
-fn error_text(alloc: Global, error: &Error) -> Result<String, AllocError> {
+fn error_text(alloc: Global, words: &[&str], error: &Error) -> Result<String, AllocError> {
+    if let Some(text) = other_program_text(alloc, words, error)? {
+        return Ok(text);
+    }
     let text = error.to_string(alloc)?;
     String::from_str(alloc, text.as_str().trim_end())
 }
 
 /// The error for an error of `clap`.
-fn usage_fault(alloc: Global, error: &Error) -> UsageFault
+fn usage_fault(alloc: Global, words: &[&str], error: &Error) -> UsageFault
     ensures { IsFaultOfKind (kind_of error.now) result }
 {
-    let Ok(text) = error_text(alloc, error) else {
+    let Ok(text) = error_text(alloc, words, error) else {
         return UsageFault::OutOfMemory;
     };
     match error.kind() {
@@ -266,7 +307,7 @@ fn parse_with_roles<'a>(
     let command = make_command_table(alloc, roles)?;
     let matches = match command.try_get_matches_from(words) {
         Ok(matches) => matches,
-        Err(error) => return Err(usage_fault(alloc, &error)),
+        Err(error) => return Err(usage_fault(alloc, words, &error)),
     };
     match matches.subcommand() {
         Some((name, entries)) => invocation_or_explanation(alloc, name, entries),

@@ -4,7 +4,7 @@ ghost use Rattle.std.specs.Prelude.{◌≡◌, ◌≢◌, ◌<◌, ◌++◌, ◌
 ghost use Rattle.std.specs.Io.KnownBytes.{Appends};
 ghost use Rattle.hdt_wire.specs.Counted.{inner, failures};
 ghost use Rattle.hdt_build.specs.Options.{AreValidOptions};
-ghost use Rattle.hdt_tool.specs.Changes.{change, FailsAfter};
+ghost use Rattle.hdt_tool.specs.Changes.{change, update, FailsAfter};
 ghost use Rattle.hdt_tool.specs.Dialogue.{AnswersOverFile, AnswersOverFileUntilFault};
 ghost use Rattle.hdt_tool.specs.PrintedReports.{counts_line};
 ghost use Rattle.hdt_tool.specs.Outcomes.{ReadsAll, IsFaultOfInput, IsFaultOfBytes, YieldsAppended};
@@ -14,10 +14,9 @@ ghost use Rattle.hdt_tool.specs.declared.request.Action.TheVariants as Action;
 
 use crate::dialogue::answer_requests;
 use crate::fault::ToolFault;
-use crate::non_term_text::text_and_count;
 use crate::pending_output::write_text;
 use crate::printed_reports::counts_line;
-use crate::queries::{file_text, print_in_pieces, prints_in_pieces};
+use crate::queries::{print_in_pieces, prints_in_pieces, text_and_count};
 use crate::request::{Action, AnswerOptions, AnswerReport, Request};
 use hdt_build::{Options, Report, build_bytes, rewrite_bytes};
 use hdt_file::open;
@@ -28,7 +27,9 @@ use std::io::{Read, Write};
 /// The size of the read buffer in bytes.
 const BUFFER: usize = 65_536;
 
-/// Reads to the end of the input, into a vector of this initial capacity.
+/// Reads to the end of the input, into a vector of this initial capacity. Not inlined: its buffer would stay on the
+/// stack of a command for the whole run.
+#[inline(never)]
 pub(crate) fn read_all<R: Read>(
     alloc: Global,
     input: &mut Counted<R>,
@@ -82,7 +83,7 @@ fn build_file<R: Read>(
     made: &mut Vec<u8>,
 ) -> Result<Vec<u8>, ToolFault>
     ensures ok { IfOk result (λ text. YieldsAppended (Action.Build options.now) (change R.remaining input.old input.new)
-        text.items made.old.items made.new.items) }
+        text.items (update made.old.items made.new.items)) }
     ensures reported { IfErr result
         (IsFaultOfInput (Action.Build options.now) (change R.remaining input.old input.new)) }
     ensures read { IsErrOf result ToolFault.Read → failures input.new ≡ failures input.old + 1 }
@@ -131,7 +132,7 @@ pub(crate) fn make_file<R: Read>(
 ) -> Result<Vec<u8>, ToolFault>
     requires { MakesFile action.now }
     ensures ok { IfOk result (λ text. YieldsAppended action.now (change R.remaining input.old input.new)
-        text.items made.old.items made.new.items) }
+        text.items (update made.old.items made.new.items)) }
     ensures reported { IfErr result
         (IsFaultOfInput action.now (change R.remaining input.old input.new)) }
     ensures bad { IfBuild action.now (λ options. IsErrOf result ToolFault.BadOptions ↔ (AreValidOptions options → ⊥)) }
@@ -189,18 +190,9 @@ pub fn print_output<R: Read, W: Write>(
     if prints_in_pieces(action) {
         return print_in_pieces(alloc, action, &bytes, out);
     }
-    match action {
-        Action::SkipNonTerms { .. } | Action::VerifyTerms { .. } => {
-            let (text, count) = text_and_count(alloc, action, &bytes)?;
-            write_text(&text, out)?;
-            Ok(count)
-        }
-        action => {
-            let text = file_text(alloc, action, &bytes)?;
-            write_text(&text, out)?;
-            Ok(0)
-        }
-    }
+    let (text, count) = text_and_count(alloc, action, &bytes)?;
+    write_text(&text, out)?;
+    Ok(count)
 }
 
 /// Runs a request: reads `input` to its end and writes the command's output to `out`. `build` and `rewrite` append the
@@ -223,7 +215,7 @@ pub fn run<R: Read, W: Write>(
 ) -> Result<(), ToolFault>
     // `out` has gained the command's output for the complete input, and `made` the new file.
     ensures ok { OnOk result (Completes request.now.action (change R.remaining input.old input.new)
-        (change W.contents out.old out.new) made.old.items made.new.items) }
+        (change W.contents out.old out.new) (update made.old.items made.new.items)) }
     // An error of a file or a document is the first one of the input. `NoSuchTerm` and `NoSuchNumber` mean that the
     // role has no such string or ID. `NotATerm` is the first string to print that is not a term. `BadOptions` is
     // returned only by `build`, and by `rewrite` if the input is valid and the block size is not.

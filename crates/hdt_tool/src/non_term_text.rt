@@ -1,11 +1,16 @@
 //! The output of `find` and `dump` with `--skip-non-terms` and `--count`, and of `verify --terms`, with the number of
 //! the triples or strings that have no form in N-Triples.
-ghost use Rattle.std.specs.Prelude.{◌≡◌, ◌++◌, false, OnOk, IfOk, IfErr};
+ghost use Rattle.std.specs.Prelude.{◌≡◌, ◌++◌, true, OnOk, IfOk, IfErr, IfSome};
 ghost use Rattle.std.specs.List.{flat_map};
+ghost use Rattle.hdt_file.specs.Faults.{open_fault_of};
+ghost use Rattle.hdt_file.specs.File.{GraphParts};
 ghost use Rattle.hdt_file.specs.Graph.{layout_view};
-ghost use Rattle.hdt_tool.specs.Outcomes.{CountsNonTerms, IsFaultOfBytes, PrintsCountingNonTerms};
+ghost use Rattle.hdt_file.specs.NonTerms.{IsTermVerdict};
+ghost use Rattle.hdt_file.specs.Tight.{IsTightLayout};
+ghost use Rattle.hdt_tool.specs.Outcomes.{HasFault, IsFaultOfBytes};
 ghost use Rattle.hdt_tool.specs.NonTermText.{PrintsKept, PrintsTermVerdict, non_term_line};
 ghost use Rattle.hdt_tool.specs.NonTermText.{term_verdict_lines};
+ghost use Rattle.hdt_tool.specs.TriplesText.{query};
 ghost use Rattle.hdt_tool.specs.declared.request.Action.TheVariants as Action;
 ghost use Rattle.hdt_tool.specs.declared.request.OutputFormat.TheVariants.{Count};
 
@@ -14,10 +19,9 @@ use crate::fault::ToolFault;
 use crate::printed_reports::verdict;
 use crate::printed_strings::number_line;
 use crate::printed_triples::find_pattern;
-use crate::request::Action;
 use hdt_file::{
-    Layout, NonTerm, TermFlags, layout_writable_matches, one_tight_layout, verify_terms,
-    verify_tight,
+    Layout, NonTerm, OpenFault, TermFlags, TermVerdict, layout_writable_matches, verify_terms,
+    verify_tight_terms,
 };
 use hdt_wire::put_decimal;
 use std::alloc::{AllocError, Global};
@@ -25,13 +29,14 @@ use std::alloc::{AllocError, Global};
 /// The line with the number of those of the triples with the given strings that have a line, up to a limit; and how
 /// many were skipped.
 #[tactic(auto, using(crate::proofs::NonTermLaws::kept_counted))]
-fn kept_count(
+pub(crate) fn kept_count(
     alloc: Global,
     layout: &Layout<'_>,
     given: &[Option<Vec<u8>>; 3],
     most: Option<u64>,
 ) -> Result<(Vec<u8>, u64), AllocError>
-    ensures { IfOk result (λ made. PrintsKept (layout_view layout.now) given.now Count most made.0.items made.1) }
+    ensures { IfOk result
+        (λ made. PrintsKept (layout_view layout.now) (query given.now Count most) made.0.items made.1) }
 {
     let flags = TermFlags::of(alloc, layout)?;
     let pattern = find_pattern(layout, given);
@@ -77,37 +82,29 @@ fn term_verdict_text(
     non_term_lines(alloc, found)
 }
 
-/// The output of `verify --terms`, and the number of strings that are not terms.
-fn verify_terms_text(alloc: Global, bytes: &[u8]) -> Result<(Vec<u8>, u64), ToolFault>
-    ensures ok { IfOk result (λ made. PrintsTermVerdict false bytes.now made.0.items made.1) }
-    ensures err { IfErr result (IsFaultOfBytes (Action.VerifyTerms false) bytes.now) }
+/// What `verify --terms` finds out about a file.
+fn read_terms(alloc: Global, tight: bool, bytes: &[u8]) -> Result<TermVerdict, OpenFault>
+    ensures found { IfOk result (IsTermVerdict bytes.now) }
+    ensures tight { IfOk result (λ found. tight ≡ true → (graph : GraphParts) × IsTightLayout bytes.now graph) }
+    ensures err { IfErr result (λ e. IfSome (open_fault_of e) (λ fault.
+        HasFault (Action.VerifyTerms tight) bytes.now fault)) }
 {
-    let found = verify_terms(alloc, bytes)?;
-    let text = term_verdict_text(alloc, found.counts, &found.non_terms)?;
-    Ok((text, found.non_terms.len() as u64))
+    if tight {
+        return verify_tight_terms(alloc, bytes);
+    }
+    verify_terms(alloc, bytes)
 }
 
-/// The output of a command that counts what has no form in N-Triples, for the bytes of a file, and this number.
-pub(crate) fn text_and_count(
+/// The output of `verify --terms`, and the number of strings that are not terms.
+pub(crate) fn verify_terms_text(
     alloc: Global,
-    action: &Action,
+    tight: bool,
     bytes: &[u8],
 ) -> Result<(Vec<u8>, u64), ToolFault>
-    requires { CountsNonTerms action.now }
-    ensures ok { IfOk result (λ made. PrintsCountingNonTerms action.now bytes.now made.0.items made.1) }
-    ensures err { IfErr result (IsFaultOfBytes action.now bytes.now) }
+    ensures ok { IfOk result (λ made. PrintsTermVerdict tight bytes.now made.0.items made.1) }
+    ensures err { IfErr result (IsFaultOfBytes (Action.VerifyTerms tight) bytes.now) }
 {
-    match action {
-        Action::SkipNonTerms { given, most, .. } => {
-            let layout = Layout::read(alloc, bytes)?;
-            Ok(kept_count(alloc, &layout, given, *most)?)
-        }
-        Action::VerifyTerms { tight: false } => verify_terms_text(alloc, bytes),
-        Action::VerifyTerms { tight: true } => {
-            one_tight_layout();
-            verify_tight(alloc, bytes)?;
-            verify_terms_text(alloc, bytes)
-        }
-        _ => unreachable!(),
-    }
+    let found = read_terms(alloc, tight, bytes)?;
+    let text = term_verdict_text(alloc, found.counts, &found.non_terms)?;
+    Ok((text, found.non_terms.len() as u64))
 }

@@ -13,7 +13,7 @@ ghost use Rattle.hdt_file.specs.Graph.{layout_view, graph_view};
 ghost use Rattle.hdt_triples.specs.Remaining.{remaining_matches};
 ghost use Rattle.hdt_tool.specs.NonTermText.{PrintsKept, kept_format};
 ghost use Rattle.hdt_tool.specs.TriplesText.{AppendsTriples, Finds, HasMatch, LacksMatch, PrintsFound, IsFindFault};
-ghost use Rattle.hdt_tool.specs.TriplesText.{IsTextFault, numbers_line, numbers_lines};
+ghost use Rattle.hdt_tool.specs.TriplesText.{IsTextFault, numbers_line, numbers_lines, query};
 
 use crate::fault::ToolFault;
 use crate::pending_output::{FLUSH_BYTES, PendingOutput, write_text};
@@ -144,12 +144,12 @@ pub(crate) fn print_triples<W: Write>(
     most: Option<u64>,
     out: &mut Counted<W>,
 ) -> Result<(), ToolFault>
-    ensures ok { OnOk result ((text : List ℕ) × PrintsFound (layout_view layout.now) given.now format most text
+    ensures ok { OnOk result ((text : List ℕ) × PrintsFound (layout_view layout.now) (query given.now format most) text
         × Appends (W.contents (inner out.old)) (W.contents (inner out.new)) text) }
     ensures unfailed { OnOk result (failures out.new ≡ failures out.old) }
-    ensures err { IfErr result (λ e. (IsFindFault (layout_view layout.now) given.now format most e
+    ensures err { IfErr result (λ e. (IsFindFault (layout_view layout.now) (query given.now format most) e
         × (out.new ≡ out.old))
-        ⊎ ((text : List ℕ) × PrintsFound (layout_view layout.now) given.now format most text
+        ⊎ ((text : List ℕ) × PrintsFound (layout_view layout.now) (query given.now format most) text
         × IsCutShort e text (change W.contents out.old out.new))) }
 {
     let pattern = find_pattern(layout, given);
@@ -179,11 +179,11 @@ pub(crate) fn print_kept_triples<W: Write>(
     out: &mut Counted<W>,
 ) -> Result<u64, ToolFault>
     ensures ok { IfOk result (λ n. (text : List ℕ)
-        × PrintsKept (layout_view layout.now) given.now NTriples most text n
+        × PrintsKept (layout_view layout.now) (query given.now NTriples most) text n
         × Appends (W.contents (inner out.old)) (W.contents (inner out.new)) text) }
     ensures unfailed { OnOk result (failures out.new ≡ failures out.old) }
     ensures err { IfErr result (λ e. ((e ≡ ToolFault.OutOfMemory) × (out.new ≡ out.old))
-        ⊎ ((text : List ℕ) × (n : ℕ) × PrintsKept (layout_view layout.now) given.now NTriples most text n
+        ⊎ ((text : List ℕ) × (n : ℕ) × PrintsKept (layout_view layout.now) (query given.now NTriples most) text n
         × IsCutShort e text (change W.contents out.old out.new))) }
 {
     let pattern = find_pattern(layout, given);

@@ -4,13 +4,14 @@ ghost use Rattle.std.specs.Io.KnownBytes.{Appends};
 ghost use Rattle.hdt_wire.specs.Counted.{inner, failures};
 ghost use Rattle.hdt_tool.specs.Changes.{change};
 ghost use Rattle.hdt_tool.specs.TriplesText.{find_format};
-ghost use Rattle.hdt_tool.specs.Outcomes.{IsCutShort, IsFaultOfBytes, Prints, PrintsInPieces, PrintsText};
+ghost use Rattle.hdt_tool.specs.Outcomes.{IsCutShort, IsFaultOfBytes, IsReadOnly, Prints, PrintsInPieces, PrintsText};
 ghost use Rattle.hdt_tool.specs.Outcomes.{PrintsWithCount};
 
 use crate::counts::count_lines;
 use crate::fault::ToolFault;
 use crate::info::file_info_text;
 use crate::listed_strings::listed_text;
+use crate::non_term_text::{kept_count, verify_terms_text};
 use crate::printed_reports::{head_text, verdict};
 use crate::printed_strings::{number_text, print_strings, string_text};
 use crate::printed_triples::{check_match, print_kept_triples, print_triples};
@@ -85,7 +86,7 @@ fn find_format(numbers: bool) -> OutputFormat
 
 /// The output of a command that prints one complete text and counts nothing, for the bytes of a file. Empty for
 /// `answer`, `lint`, `split` and `merge`, which write elsewhere.
-pub(crate) fn file_text(alloc: Global, action: &Action, bytes: &[u8]) -> Result<Vec<u8>, ToolFault>
+fn file_text(alloc: Global, action: &Action, bytes: &[u8]) -> Result<Vec<u8>, ToolFault>
     requires { PrintsText action.now }
     ensures ok { IfOk result (λ text. Prints action.now bytes.now text.items) }
     ensures err { IfErr result (IsFaultOfBytes action.now bytes.now) }
@@ -124,5 +125,27 @@ pub(crate) fn file_text(alloc: Global, action: &Action, bytes: &[u8]) -> Result<
         Action::Strings(_) | Action::Find { .. } | Action::Search { .. } => unreachable!(),
         Action::SkipNonTerms { .. } | Action::VerifyTerms { .. } => unreachable!(),
         Action::Build(_) | Action::Rewrite(_) => unreachable!(),
+    }
+}
+
+/// The output of a command that prints one complete text, for the bytes of a file, and what it counts: the triples that
+/// `--skip-non-terms` leaves out, or the strings that `verify --terms` prints; 0 for other commands.
+pub(crate) fn text_and_count(
+    alloc: Global,
+    action: &Action,
+    bytes: &[u8],
+) -> Result<(Vec<u8>, u64), ToolFault>
+    requires reads { IsReadOnly action.now }
+    requires whole { PrintsInPieces action.now → ⊥ }
+    ensures ok { IfOk result (λ made. PrintsWithCount action.now bytes.now made.0.items made.1) }
+    ensures err { IfErr result (IsFaultOfBytes action.now bytes.now) }
+{
+    match action {
+        Action::SkipNonTerms { given, most, .. } => {
+            let layout = Layout::read(alloc, bytes)?;
+            Ok(kept_count(alloc, &layout, given, *most)?)
+        }
+        Action::VerifyTerms { tight } => verify_terms_text(alloc, *tight, bytes),
+        action => Ok((file_text(alloc, action, bytes)?, 0)),
     }
 }

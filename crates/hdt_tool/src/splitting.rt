@@ -1,10 +1,11 @@
 //! `split`: several documents into the parts of one graph, by subject.
-ghost use Rattle.std.specs.Prelude.{◌≡◌, ◌≢◌, ◌<◌, ◌^◌, ℕ, None, IfOk, IfErr, OnOk, length, map, true};
+ghost use Rattle.std.specs.Prelude.{◌≡◌, ◌≢◌, ◌<◌, ◌^◌, ℕ, IfOk, IfErr, OnOk, length, map, true};
 ghost use Rattle.hdt_wire.specs.Counted.{inner, failures};
 ghost use Rattle.hdt_dict.specs.Strings.{IsDictionaryString};
 ghost use Rattle.hdt_terms.specs.Split.{FailsOnce};
 ghost use Rattle.hdt_terms.specs.declared.split.SplitFault.TheVariants as SplitFault;
-ghost use Rattle.hdt_tool.specs.SplitInputs.{IsBlankNodesFault, SplitsInTurn, StopsInTurn};
+ghost use Rattle.hdt_tool.specs.Changes.{update};
+ghost use Rattle.hdt_tool.specs.SplitInputs.{IsBlankNodesFault, SplitsInTurn, StopsInTurn, first_turn};
 ghost use Rattle.hdt_tool.specs.SplitInputs.{MixesBlankNodes, first_with_blank_nodes, input_prefix};
 ghost use Rattle.hdt_tool.specs.declared.splitting.SplitInputsFault.TheVariants as SplitInputsFault;
 
@@ -86,11 +87,11 @@ pub(crate) fn split_inputs<R: Read + Drop, W: Write>(
 ) -> Result<(), SplitInputsFault>
     requires parts { (0 < length outs.old) × (length outs.old < 2 ^ 32) }
     // Each input in turn was split: the writers have gained the lines of their parts of all of them.
-    ensures ok { OnOk result (SplitsInTurn blank_nodes None 0 (map (λ input. R.remaining input) inputs.items)
-        (map (λ out. W.contents (inner out)) outs.old) (map (λ out. W.contents (inner out)) outs.new)) }
+    ensures ok { OnOk result (SplitsInTurn (first_turn blank_nodes) (map (λ input. R.remaining input) inputs.items)
+        (update (map (λ out. W.contents (inner out)) outs.old) (map (λ out. W.contents (inner out)) outs.new))) }
     // The inputs before that of the error were split, and a prefix of its lines.
-    ensures stopped { IfErr result (StopsInTurn blank_nodes None 0 (map (λ input. R.remaining input) inputs.items)
-        (map (λ out. W.contents (inner out)) outs.old) (map (λ out. W.contents (inner out)) outs.new)) }
+    ensures stopped { IfErr result (StopsInTurn (first_turn blank_nodes) (map (λ input. R.remaining input) inputs.items)
+        (update (map (λ out. W.contents (inner out)) outs.old) (map (λ out. W.contents (inner out)) outs.new))) }
     // The writer of the part that `Write` names failed, once, and no other writer. At any other result none failed.
     ensures write { IfErr result (λ e. (k part : ℕ) → e ≡ SplitInputsFault.Input k (SplitFault.Write part)
         → FailsOnce part (map failures outs.old) (map failures outs.new)) }

@@ -6,6 +6,7 @@ ghost use Rattle.hdt_usage.specs.CommandTable.{empty_program, argument_of, argum
 ghost use Rattle.hdt_usage.specs.CommandTable.{command_of, command_app, commands, table};
 
 use crate::command_rows::{ArgumentRow, COMMANDS, CommandRow, Kind};
+use crate::examples::examples;
 use crate::help::{ABOUT, AFTER_HELP, VERSION};
 use clap::{Arg, ArgAction, Command, value_parser};
 use std::alloc::{AllocError, Global};
@@ -44,6 +45,17 @@ fn new_argument<'a>(alloc: Global, row: &'static ArgumentRow, roles: Roles<'a>) 
     }
 }
 
+/// The command with the examples of the command of this name at the end of its help, if there are any.
+fn with_examples<'a>(command: Command<'a>, name: &str) -> Command<'a>
+    ensures shape { app_of result ≡ app_of command.entry }
+    ensures local { (fields_of result).has_globals ≡ (fields_of command.entry).has_globals }
+{
+    match examples(name) {
+        Some(text) => command.after_long_help(text),
+        None => command,
+    }
+}
+
 /// The command of a row, without arguments.
 fn bare_command<'a>(alloc: Global, row: &'static CommandRow) -> Command<'a>
     ensures shape { app_of result ≡ new_app row.entry.now.0.now }
@@ -53,6 +65,7 @@ fn bare_command<'a>(alloc: Global, row: &'static CommandRow) -> Command<'a>
     let command = Command::new(alloc, name)
         .about(about.text())
         .long_about(long_about.text());
+    let command = with_examples(command, name);
     match usage {
         Some(usage) => command.override_usage(usage.text()),
         None => command,

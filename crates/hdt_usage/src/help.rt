@@ -3,7 +3,7 @@
 pub(crate) const ABOUT: &str =
     "Builds and reads RDF HDT files: RDF graphs in a compact binary form.";
 
-pub(crate) const VERSION: &str = "1.0.0";
+pub(crate) const VERSION: &str = "1.1.0";
 
 pub(crate) const AFTER_HELP: &str =
     "IN and FILE may be - for standard input, OUT - for standard output. A file named - is ./-.
@@ -312,8 +312,9 @@ If OUT is - or the file or pipe of standard output, the file goes there, after w
 written there, and the line of counts to standard error. If that goes there too, the line is not
 printed.
 
-An error message has the path of its file. Memory: each distinct string once, decoded, and some 50
-bytes more; 24 bytes for each triple of each file; one file at a time; and the new file.",
+An error message has the path of its file. Memory is linear in the files: the strings of each,
+front-coded, with 24 bytes each, and once more the distinct ones; 5 to 9 bytes for each triple of
+each file, and as much for sorting, with 24 MB; one file at a time; and the new file.",
             Help::MergeFile => "Path of an HDT file to read, or - for standard input",
             Help::MergePaths => "Paths of further HDT files to read, and of OUT",
             Help::LintAbout => "Report every faulty line of N-Triples",

@@ -13,6 +13,7 @@
 
 mod command_rows;
 mod commands;
+mod examples;
 mod explanations;
 mod file_errors;
 mod help;

@@ -29,18 +29,13 @@ walk over its matches; then each takes at most a thousand of them.
 
 from __future__ import annotations
 
-import logging
 import os
 
+from hdt._web.log import log_to_standard_error
 from hdt.fragments._application import Application
 from hdt.fragments._config import Config, Source, changed_at
 
 __all__ = ["Application", "Config", "Source", "from_environment"]
-
-
-def log_to_standard_error() -> None:
-    """Log requests and errors on standard error, unless logging is configured already."""
-    logging.basicConfig(level=logging.INFO, format="%(asctime)s %(message)s")
 
 
 def from_environment() -> Application:

@@ -6,26 +6,12 @@ import argparse
 import dataclasses
 import logging
 import sys
-from socketserver import ThreadingMixIn
-from wsgiref.simple_server import WSGIRequestHandler, WSGIServer, make_server
+from wsgiref.simple_server import make_server
 
-from hdt.fragments import Application, Config, Source, log_to_standard_error
+from hdt._web.log import escaped, log_to_standard_error
+from hdt._web.server import Handler, Server
+from hdt.fragments import Application, Config, Source
 from hdt.fragments._config import changed_at
-from hdt.fragments._log import escaped
-
-
-class Server(ThreadingMixIn, WSGIServer):
-    """A server with a thread for each connection."""
-
-    daemon_threads = True
-    request_queue_size = 128
-
-
-class Handler(WSGIRequestHandler):
-    """Logs nothing, as the application does."""
-
-    def log_message(self, format: str, *args: object) -> None:
-        """Log nothing."""
 
 
 def _config(words: argparse.Namespace) -> Config:

@@ -14,6 +14,9 @@ from pathlib import Path
 from typing import Any, Callable, NamedTuple, Optional, TypeVar, Union
 from urllib.parse import quote
 
+from hdt._web.identity import identity_of
+from hdt._web.log import escaped, traced
+from hdt._web.request import Headers, Refusal, bad
 from hdt.fragments import _download as download
 from hdt.fragments import _formats as formats
 from hdt.fragments import _fragment as fragments
@@ -22,10 +25,9 @@ from hdt.fragments import _terms as terms
 from hdt.fragments import _void as void
 from hdt.fragments import _writers as writers
 from hdt.fragments._config import Config, changed_at
-from hdt.fragments._dataset import Dataset, Loaded, identity_of
+from hdt.fragments._dataset import Dataset, Loaded
 from hdt.fragments._formats import HTML, JSONLD
-from hdt.fragments._log import escaped, traced
-from hdt.fragments._request import Headers, Refusal, Request, bad, request_of
+from hdt.fragments._request import Request, request_of
 from hdt.fragments._terms import Triple
 
 METHODS = "GET, HEAD, OPTIONS"
@@ -47,7 +49,7 @@ PREFLIGHT = [
 ]
 NO_STORE = ("Cache-Control", "no-store")
 PLAIN = ("Content-Type", "text/plain;charset=utf-8")
-VERSION = "3"  # of the pages: another one makes other ETags
+VERSION = "4"  # of the pages: another one makes other ETags
 _SMALLEST_PACKED = 1000  # bytes
 _INSTALLED = max(map(changed_at, Path(__file__).parent.glob("*.py")), default=0.0)
 
@@ -228,7 +230,7 @@ class Application:
         def make(fragment: fragments.Fragment) -> bytes:
             if kind == HTML:
                 return pages.fragment_page(fragment)
-            form, statements = fragments.form(dataset, request.base), fragments.controls(fragment)
+            form, statements = fragments.form(dataset, loaded, request.base), fragments.controls(fragment)
             graph = request.url + "#metadata"
             if kind == JSONLD:
                 return writers.jsonld(fragment.data(), form, statements, graph).encode("utf-8", "replace")

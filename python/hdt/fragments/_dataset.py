@@ -10,15 +10,15 @@ import time
 from typing import Optional
 
 import hdt
+from hdt import _regular as regular
+from hdt._files import MANIFEST
 from hdt._forks import Locked
+from hdt._web.identity import Identity, identity_of
+from hdt._web.log import escaped
+from hdt.fragments._about import About, about_of
 from hdt.fragments._config import Source, changed_at
-from hdt.fragments._log import escaped
 from hdt.fragments._reader import Reader
-from hdt.parts import _regular as regular
 from hdt.parts import open_any
-from hdt.parts._manifest import NAME
-
-Identity = tuple[int, ...]
 
 _SECONDS = 1.0  # between two checks of the file
 _LONGEST = 1_000  # characters of an error
@@ -27,14 +27,9 @@ _TRIES = 3  # to open a file that is replaced meanwhile
 log = logging.getLogger("hdt.fragments")
 
 
-def identity_of(there: os.stat_result) -> Identity:
-    """What distinguishes a file from one that replaces it, or is written over it: programs can set all but the last."""
-    return there.st_dev, there.st_ino, there.st_size, there.st_mtime_ns, there.st_ctime_ns
-
-
 def _paths(path: str) -> list[str]:
     """A path, and that of its manifest if it is a folder of parts."""
-    return [path, os.path.join(path, NAME)] if os.path.isdir(path) else [path]
+    return [path, os.path.join(path, MANIFEST)] if os.path.isdir(path) else [path]
 
 
 def _identity_at(path: str) -> Identity:
@@ -42,7 +37,7 @@ def _identity_at(path: str) -> Identity:
     there = os.stat(path)
     if not stat.S_ISDIR(there.st_mode):
         return identity_of(there)
-    return identity_of(there) + identity_of(os.stat(os.path.join(path, NAME)))
+    return identity_of(there) + identity_of(os.stat(os.path.join(path, MANIFEST)))
 
 
 def _opened(path: str, copy: Optional[bool]) -> hdt.Graph:
@@ -56,11 +51,12 @@ def _opened(path: str, copy: Optional[bool]) -> hdt.Graph:
 class Loaded:
     """A file as it was when it was opened."""
 
-    def __init__(self, source: Source, most_predicates: int) -> None:
+    def __init__(self, name: str, source: Source, most_predicates: int) -> None:
         for _ in range(_TRIES):
             self.identity = _identity_at(source.file)
             self.modified = max(map(changed_at, _paths(source.file)))
             self.reader = Reader(_opened(source.file, source.copy), most_predicates)
+            self.about = about_of(name, source, self.reader.said)
             if _identity_at(source.file) == self.identity:
                 return
         raise OSError(errno.EBUSY, "it is being written to", source.file)
@@ -72,12 +68,15 @@ class Dataset(Locked):
     def __init__(self, name: str, source: Source, most_predicates: int) -> None:
         super().__init__()
         self.name, self.source, self._most_predicates = name, source, most_predicates
-        self.title = source.title or name
         self._loaded: Optional[Loaded] = None
         self._refused: Optional[Identity] = None
         self.error = ""  # why the file as it is now can't be opened
         self._checked = time.monotonic()
         self._load()
+
+    def about(self, loaded: Optional[Loaded]) -> About:
+        """What is said of it, also where there is no file."""
+        return loaded.about if loaded else about_of(self.name, self.source, {})
 
     def loaded(self) -> Optional[Loaded]:
         """The file as it is now, or the last one that could be opened; None where there was none.
@@ -102,7 +101,7 @@ class Dataset(Locked):
                 return
             if identity == self._refused:
                 return
-            loaded = Loaded(self.source, self._most_predicates)
+            loaded = Loaded(self.name, self.source, self._most_predicates)
         except Exception as error:
             error.__traceback__ = None  # (its frames have what was read, of which there may be too much)
             may_pass = isinstance(error, (OSError, MemoryError))  # (else it is the file's, and stays until that does)

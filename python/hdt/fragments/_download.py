@@ -7,8 +7,8 @@ import re
 from collections.abc import Iterator
 from typing import BinaryIO, Optional
 
-from hdt.fragments._request import Refusal
-from hdt.parts import _regular as regular
+from hdt import _regular as regular
+from hdt._web.request import Refusal
 
 _PIECE = 1 << 16
 _RANGE = re.compile(r"bytes\s*=\s*(\d{0,18})\s*-\s*(\d{0,18})\s*\Z")

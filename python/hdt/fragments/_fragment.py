@@ -10,12 +10,13 @@ from dataclasses import dataclass
 from typing import Optional
 
 from hdt._calls import is_bracketed
+from hdt._web.request import Refusal
 from hdt.fragments import _terms as terms
 from hdt.fragments._config import Config
 from hdt.fragments._dataset import Dataset, Loaded
 from hdt.fragments._once import once
 from hdt.fragments._reader import Page, PageText, Reader
-from hdt.fragments._request import Refusal, Request
+from hdt.fragments._request import Request
 from hdt.fragments._terms import DCTERMS, FOAF, HYDRA, RDF, ROLES, VOID, Pattern, Triple
 
 
@@ -159,18 +160,19 @@ def fragment_of(request: Request, dataset: Dataset, loaded: Loaded, config: Conf
     return fragment
 
 
-def form(dataset: Dataset, base: str) -> tuple[Triple, ...]:
-    """How the fragments of a dataset are asked for."""
-    return _form(base + dataset.name, dataset.title, dataset.source.license)
+def form(dataset: Dataset, loaded: Loaded, base: str) -> tuple[Triple, ...]:
+    """How the fragments of a dataset are asked for, with its title and its licences."""
+    said = loaded.about.values
+    return _form(base + dataset.name, said["title"][0], tuple(said.get("license", ())))
 
 
 @functools.lru_cache(256)
-def _form(url: str, title: str, license: str) -> tuple[Triple, ...]:
+def _form(url: str, title: str, licenses: tuple[str, ...]) -> tuple[Triple, ...]:
     about, pattern, template = url + "#dataset", url + "#pattern", f'"{url}{{?subject,predicate,object}}"'
     statements = [
         (about, RDF + "type", VOID + "Dataset"),
         (about, RDF + "type", HYDRA + "Collection"),
-        (about, DCTERMS + "title", f'"{title}"'),
+        (about, DCTERMS + "title", title),
         (about, VOID + "uriLookupEndpoint", template),
         (about, HYDRA + "search", pattern),
         (pattern, HYDRA + "template", template),
@@ -180,8 +182,7 @@ def _form(url: str, title: str, license: str) -> tuple[Triple, ...]:
         statements.append((pattern, HYDRA + "mapping", f"{pattern}-{role}"))
         statements.append((f"{pattern}-{role}", HYDRA + "variable", f'"{role}"'))
         statements.append((f"{pattern}-{role}", HYDRA + "property", RDF + role))
-    if license:
-        statements.append((about, DCTERMS + "license", license))
+    statements += [(about, DCTERMS + "license", license) for license in licenses]
     return tuple(statements)
 
 
@@ -198,7 +199,7 @@ def controls(fragment: Fragment) -> list[Triple]:
         statements += [(about, VOID + "subset", page), (whole, VOID + "subset", page), (whole, HYDRA + "view", page)]
     statements += [
         (page, RDF + "type", HYDRA + "PartialCollectionView"),
-        (page, DCTERMS + "title", f'"A fragment of {fragment.dataset.title}"'),
+        (page, DCTERMS + "title", f'"A fragment of {fragment.loaded.about.title}"'),
         (page, DCTERMS + "source", about),
         (page, HYDRA + "totalItems", terms.integer(fragment.count)),
         (page, VOID + "triples", terms.integer(fragment.count)),

@@ -7,6 +7,7 @@ from typing import Optional
 
 from hdt.fragments import _formats as formats
 from hdt.fragments import _terms as terms
+from hdt.fragments._about import About
 from hdt.fragments._config import Config
 from hdt.fragments._dataset import Dataset, Loaded
 from hdt.fragments._fragment import Fragment, skolem_prefix
@@ -21,6 +22,11 @@ _FIRST_PREDICATES = 12  # on the first page of a dataset
 _SUGGESTED = 300  # predicates that the search box suggests, at most
 _POINTING = 10  # triples that point to a subject, on its page
 
+# What is said of a dataset besides its title and its description.
+_LABELS = {
+    "license": "License", "rights": "Rights", "publisher": "Publisher", "creator": "Creator", "source": "Source",
+    "issued": "Issued", "created": "Created", "modified": "Modified",
+}  # fmt: skip
 _HINTS = ("any IRI", "any IRI", 'any IRI or "text"')
 
 
@@ -45,6 +51,26 @@ def _facts(loaded: Loaded) -> str:
     if loaded.reader.objects is not None:
         facts.append(plural(loaded.reader.objects, "object", "objects"))
     return '<ul class="facts">' + "".join(f"<li>{fact}</li>" for fact in facts) + "</ul>"
+
+
+def _lead(about: About) -> str:
+    return f'<p class="lead" dir="auto">{text(about.description)}</p>' if about.description else ""
+
+
+def _said(about: About) -> str:
+    """Licence, publisher, dates and the like."""
+    found = [(label, value) for name, label in _LABELS.items() for value in about.values.get(name, ())]
+    items = "".join(f"<li>{label}: {_value(value)}</li>" for label, value in found)
+    return f'<ul class="facts">{items}</ul>' if items else ""
+
+
+def _value(term: str) -> str:
+    """A literal as its text, an IRI of the web as a link, any other one as a text."""
+    if term.startswith('"'):
+        return f'<span dir="auto">{text(terms.parts(term)[0])}</span>'
+    if term.startswith(("http://", "https://")):
+        return f'<a href="{text(terms.iri_text(term))}" rel="noopener noreferrer nofollow">{text(term)}</a>'
+    return f"<span>{text(term)}</span>"
 
 
 def _in_field(value: str) -> str:
@@ -136,15 +162,15 @@ def _is_about_a_subject(fragment: Fragment) -> bool:
 
 def _heading(fragment: Fragment, view: View) -> str:
     """The heading of a fragment: that of its subject, or of the dataset."""
-    dataset, subject = fragment.dataset, fragment.pattern[0]
+    about, subject = fragment.loaded.about, fragment.pattern[0]
     if _is_about_a_subject(fragment) and subject and fragment.count:
-        crumbs = _crumbs(fragment.request, fragment.config, (fragment.url, dataset.title))
+        crumbs = _crumbs(fragment.request, fragment.config, (fragment.url, about.title))
         name = subject if subject.startswith("_:") else view.short(subject)[1]
         return f'<header>{crumbs}<h1>{text(name)}</h1><p class="iri">{text(subject)}</p><p></p></header>'
-    lead = f'<p class="lead">{text(dataset.source.description)}</p>' if dataset.source.description else ""
     return (
         f"<header>{_crumbs(fragment.request, fragment.config)}"
-        f'<h1><a href="{text(fragment.url)}">{text(dataset.title)}</a></h1>{lead}{_facts(fragment.loaded)}</header>'
+        f'<h1><a href="{text(fragment.url)}">{text(about.title)}</a></h1>'
+        f"{_lead(about)}{_facts(fragment.loaded)}{_said(about)}</header>"
     )
 
 
@@ -192,7 +218,7 @@ def fragment_page(fragment: Fragment) -> bytes:
     named = [f"{role} {view.name(term)}" for role, term in zip(ROLES, fragment.pattern) if term]
     url = fragment.request.with_page(fragment.page if fragment.page > 1 else None)
     return document(
-        ", ".join(named + [fragment.dataset.title]) + (f", page {fragment.page:,}" if fragment.page > 1 else ""),
+        ", ".join(named + [fragment.loaded.about.title]) + (f", page {fragment.page:,}" if fragment.page > 1 else ""),
         f'<a class="skip" href="#triples">Skip to the triples</a>{_heading(fragment, view)}'
         f"<main>{_search(fragment)}{hints}{_overview(fragment, view)}{_triples(fragment, view)}"
         f"{_pointing(fragment, view)}</main>{_footer(url)}",
@@ -202,18 +228,15 @@ def fragment_page(fragment: Fragment) -> bytes:
 
 def description_page(request: Request, dataset: Dataset, loaded: Loaded, config: Config) -> bytes:
     """The description of a dataset: its counts and its predicates."""
-    view = _view(request, dataset, config)
+    view, about = _view(request, dataset, config), loaded.about
     known = loaded.reader.predicates
     table = view.predicates(known, "The most used ones first") if known else (
         f'<p class="box none">There are more than {config.partitions:,} predicates, which are not counted here.</p>')
     file = f'<p><a href="{text(view.url)}/data.hdt">The HDT file</a></p>' if dataset.source.gives_file else ""
-    license = dataset.source.license
-    link = f'<a href="{text(license)}" rel="noopener noreferrer nofollow">{text(license)}</a>'
-    licensed = f"<p>License: {link}</p>" if license.startswith(("http:", "https:")) else ""
     return document(
-        f"Description of {dataset.title}",
-        f"<header>{_crumbs(request, config, (view.url, dataset.title))}<h1>{text(dataset.title)}</h1>"
-        f'<p class="lead">{text(dataset.source.description)}</p>{_facts(loaded)}</header><main>{file}{licensed}'
+        f"Description of {about.title}",
+        f"<header>{_crumbs(request, config, (view.url, about.title))}<h1>{text(about.title)}</h1>"
+        f"{_lead(about)}{_facts(loaded)}{_said(about)}</header><main>{file}"
         f'<section aria-label="Predicates"><h2>Predicates</h2>{table}</section></main>{_footer(request.place)}',
         _alternates(request.place),
     )
@@ -222,10 +245,11 @@ def description_page(request: Request, dataset: Dataset, loaded: Loaded, config:
 def index_page(request: Request, datasets: list[tuple[Dataset, Optional[Loaded]]], config: Config) -> bytes:
     """The list of datasets."""
     cards = "".join(
-        f'<li class="box"><h2><a href="{text(request.base + dataset.name)}">{text(dataset.title)}</a></h2>'
-        f'<p class="soft">{text(dataset.source.description)}</p>'
+        f'<li class="box"><h2><a href="{text(request.base + dataset.name)}">{text(about.title)}</a></h2>'
+        f'<p class="soft">{text(about.description)}</p>'
         + (_facts(loaded) if loaded else '<p class="soft">Its file can\'t be opened now.</p>') + "</li>"
         for dataset, loaded in datasets
+        for about in [dataset.about(loaded)]
     )
     return document(
         config.title,

@@ -8,6 +8,7 @@ from dataclasses import dataclass
 from typing import Callable, Generic, NamedTuple, Optional, TypeVar
 
 import hdt
+from hdt._about import said_of
 from hdt._forks import Locked
 from hdt.fragments import _terms as terms
 from hdt.fragments._once import once
@@ -127,6 +128,7 @@ class Reader:
         """Read a graph. Its predicates are counted at once, where it has no more of them than `most_predicates`."""
         self._graph = graph
         self.counts = graph.counts
+        self.said = said_of(graph.header)
         self._is_one = isinstance(graph, hdt.Graph)  # (and not in parts, whose IDs are strings)
         self.objects = self.counts.shared + self.counts.objects if self._is_one else None
         self._counted: Kept[Pattern, int] = Kept(_KEPT)

@@ -14,8 +14,11 @@ def counts(dataset: Dataset, loaded: Loaded, base: str) -> list[Triple]:
     """What a dataset is and how large it is."""
     url, size = base + dataset.name, loaded.reader.counts
     about = url + "#dataset"
+    known = form(dataset, loaded, base)
+    said = [(about, DCTERMS + name, value) for name, values in loaded.about.values.items() for value in values]
     statements = [
-        *form(dataset, base),
+        *known,
+        *(each for each in said if each not in known),
         (about, VOID + "subset", url),
         (about, VOID + "triples", terms.integer(size.triples)),
         (about, VOID + "distinctSubjects", terms.integer(size.shared + size.subjects)),
@@ -24,8 +27,6 @@ def counts(dataset: Dataset, loaded: Loaded, base: str) -> list[Triple]:
     if loaded.reader.objects is not None:
         statements.append((about, VOID + "distinctObjects", terms.integer(loaded.reader.objects)))
     statements.append((about, RDFS + "seeAlso", url + "/void"))
-    if dataset.source.description:
-        statements.append((about, DCTERMS + "description", f'"{dataset.source.description}"'))
     if dataset.source.gives_file:
         statements.append((about, VOID + "dataDump", url + "/data.hdt"))
     return statements

@@ -29,7 +29,7 @@ from hdt.parts._errors import InputFault, PartFault, WorkerDied
 from hdt.parts._graph import Graph, Order, open
 from hdt.parts._manifest import Manifest, Part, part_of
 from hdt.parts._merging import merge
-from hdt.parts._string_ids import open_any
+from hdt.parts.string_ids import open_any
 
 __all__ = [
     "Graph", "InputFault", "Manifest", "Order", "Part", "PartFault", "WorkerDied",

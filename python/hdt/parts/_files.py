@@ -13,9 +13,9 @@ from collections.abc import Callable, Iterator, Sequence
 from typing import Any, Optional, TypeVar
 
 import hdt
+from hdt import _regular as regular
 from hdt._calls import Given
 from hdt._forks import Locked
-from hdt.parts import _regular as regular
 from hdt.parts._errors import PartFault
 from hdt.parts._manifest import Part, part_of
 

@@ -9,8 +9,8 @@ import zlib
 from collections.abc import Iterable, Iterator
 from typing import Any, NamedTuple, Optional
 
+from hdt import _regular as regular
 from hdt._blocks import Block, blocks_of
-from hdt.parts import _regular as regular
 
 RANGE = 64 * 1024 * 1024  # bytes of a plain input that a task splits
 BLOCK = 1024 * 1024  # bytes of it that are in memory at once

@@ -11,12 +11,12 @@ from collections.abc import Collection, Iterable, Iterator
 from dataclasses import asdict, dataclass, fields
 from typing import Any, Union
 
-from hdt.parts import _regular as regular
+from hdt import _regular as regular
+from hdt._files import MANIFEST
 from hdt.parts._errors import PartFault
 
 KIND, VERSION = "hdt-parts", 1
 HASH = "CRC-32 (gzip) of the subject's dictionary string in UTF-8, modulo the number of parts"
-NAME = "manifest.json"
 MOST_PARTS = 65_536
 MOST_BYTES = 32 * 1024 * 1024  # of a manifest
 _SHOWN = 60  # characters of a value in a message
@@ -122,7 +122,7 @@ class Manifest:
             "inputs": [{"path": path, "bytes": size} for path, size in self.inputs],
             "parts": [asdict(part) for part in self.parts],
         }
-        with open(os.path.join(folder, NAME), "w", encoding="ascii") as file:
+        with open(os.path.join(folder, MANIFEST), "w", encoding="ascii") as file:
             json.dump(values, file, indent=1)
             file.write("\n")
             file.flush()
@@ -131,18 +131,18 @@ class Manifest:
     @classmethod
     def read(cls, folder: str) -> Manifest:
         """Read that of a folder, of which every field is checked. Raises PartFault if it isn't one, and OSError."""
-        with regular.opened(os.path.join(folder, NAME)) as file:
+        with regular.opened(os.path.join(folder, MANIFEST)) as file:
             text = regular.read(file, MOST_BYTES + 1)
         if len(text) > MOST_BYTES:
-            raise PartFault(NAME, f"has more than {MOST_BYTES:,} bytes")
+            raise PartFault(MANIFEST, f"has more than {MOST_BYTES:,} bytes")
         try:
             values = json.loads(text.decode(), object_pairs_hook=_fields, parse_int=_whole)
         except PartFault:
             raise
         except ValueError as error:
-            raise PartFault(NAME, f"is no JSON: {error}") from None
+            raise PartFault(MANIFEST, f"is no JSON: {error}") from None
         except RecursionError:
-            raise PartFault(NAME, "is nested too deeply") from None
+            raise PartFault(MANIFEST, "is nested too deeply") from None
         return cls._of(_Object(values, ""))
 
     @classmethod
@@ -150,7 +150,7 @@ class Manifest:
         for name, known in (("kind", KIND), ("version", VERSION), ("hash", HASH)):
             found = values.field(name)
             if type(found) is not type(known) or found != known:
-                raise PartFault(NAME, f"has another {name}: {_shown(found)}")
+                raise PartFault(MANIFEST, f"has another {name}: {_shown(found)}")
         base, blank_nodes = values.text("base"), values.text("blank_nodes")
         if not _IRI.fullmatch(base):
             raise values.wrong("base")
@@ -159,11 +159,11 @@ class Manifest:
         inputs = tuple((row.text("path"), row.number("bytes")) for row in values.rows("inputs"))
         count = values.count("parts")
         if not 1 <= count <= MOST_PARTS:
-            raise PartFault(NAME, f"has {count:,} parts")
+            raise PartFault(MANIFEST, f"has {count:,} parts")
         parts = tuple(_part(number, row) for number, row in enumerate(values.rows("parts")))
         made = cls(base, values.number("block_size", 1, 65_535), blank_nodes, inputs, parts)
         if (made.triples, made.subjects) != (values.number("triples", 1), values.number("subjects", 1)):
-            raise PartFault(NAME, "has triples and subjects that are not the sums of those of its parts")
+            raise PartFault(MANIFEST, "has triples and subjects that are not the sums of those of its parts")
         return made
 
 
@@ -175,7 +175,7 @@ def _part(number: int, row: _Object) -> Part:
     if part == Part():
         return part
     if part.file != file_of(number):
-        raise PartFault(NAME, f"has another file for part {number}: {_shown(part.file)}")
+        raise PartFault(MANIFEST, f"has another file for part {number}: {_shown(part.file)}")
     if not _SHA256.fullmatch(part.sha256):
         raise row.wrong("sha256")
     for name in ("bytes", "triples"):
@@ -188,23 +188,23 @@ class _Object:
 
     def __init__(self, values: Any, place: str) -> None:
         if not isinstance(values, dict):
-            raise PartFault(NAME, f"has a wrong {place.rstrip('.') or 'value'}: {_shown(values)}")
+            raise PartFault(MANIFEST, f"has a wrong {place.rstrip('.') or 'value'}: {_shown(values)}")
         self._values, self._place = values, place
 
     def wrong(self, name: str) -> PartFault:
         """The error of a field that can't have its value."""
-        return PartFault(NAME, f"has a wrong {self._place}{name}: {_shown(self._values[name])}")
+        return PartFault(MANIFEST, f"has a wrong {self._place}{name}: {_shown(self._values[name])}")
 
     def check_names(self, names: Collection[str]) -> None:
         """Raises PartFault for a field that no row of a part has."""
         for name in self._values:
             if name not in names:
-                raise PartFault(NAME, f"has an unexpected {self._place}{_shown(name)}")
+                raise PartFault(MANIFEST, f"has an unexpected {self._place}{_shown(name)}")
 
     def field(self, name: str) -> Any:
         """The value of a field, of any type. Raises PartFault if the field is missing."""
         if name not in self._values:
-            raise PartFault(NAME, f"has no {self._place}{name}")
+            raise PartFault(MANIFEST, f"has no {self._place}{name}")
         return self._values[name]
 
     def text(self, name: str) -> str:
@@ -239,7 +239,7 @@ def _fields(pairs: list[tuple[str, Any]]) -> dict[str, Any]:
     found: dict[str, Any] = {}
     for name, value in pairs:
         if name in found:
-            raise PartFault(NAME, f"has {_shown(name)} twice")
+            raise PartFault(MANIFEST, f"has {_shown(name)} twice")
         found[name] = value
     return found
 

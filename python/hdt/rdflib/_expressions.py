@@ -27,6 +27,7 @@ _CASTS = {XSD[name] for name in "string dateTime float double decimal integer bo
 # What rdflib's functions raise for some literals that are no values of their types.
 _ILL_TYPED = (TypeError, ValueError, ArithmeticError, AttributeError, RecursionError)
 TRUE, FALSE = Literal(True), Literal(False)
+_BOOLEAN, _STRING = XSD.boolean, XSD.string  # (which rdflib makes anew at each use)
 
 
 def parts_of(expr: Any) -> Iterator[Any]:
@@ -45,9 +46,9 @@ def is_true(term: Any) -> bool:
     """The effective boolean value of a term (SPARQL 1.1, 17.2.2). Raises SPARQLError."""
     if isinstance(term, Literal):
         datatype = term.datatype
-        if datatype == XSD.boolean:
+        if datatype == _BOOLEAN:
             return term.value is True
-        if datatype is None or datatype == XSD.string:
+        if datatype is None or datatype == _STRING:
             return len(term) > 0
         if datatype in NUMERIC:
             number = number_of(term)
@@ -202,10 +203,14 @@ class Expression(Filter):
         self.is_pure = casts and not names & (_NEW_EACH_TIME | _OF_A_GRAPH)
         self._call = call_of(expr)
         self._numbers = _comparison_of(expr)
+        self._bound = _bound_of(expr)
         self._kept: dict[Any, Any] = {}
 
     def passing(self, batch: Batch, layout: Layout) -> Batch:
         """The rows for which it is true; an error is not."""
+        if self._bound and self._bound[0] in layout:
+            at, wanted = layout[self._bound[0]], self._bound[1]
+            return [row for row in batch if (row[at] is not None) is wanted]
         return [row for row, is_so in zip(batch, self._each(batch, layout, self._holds)) if is_so]
 
     def values(self, batch: Batch, layout: Layout) -> list[Optional[Cell]]:
@@ -281,6 +286,16 @@ def _comparison_of(expr: Any) -> Optional[tuple[Callable[..., bool], list[Variab
         given = number.value
         return (lambda value: test(given, value)), [other]
     return None
+
+
+def _bound_of(expr: Any) -> Optional[tuple[Variable, bool]]:
+    """The variable of BOUND or of its negation, and whether it is to have a value."""
+    if not isinstance(expr, Expr) or expr.name not in ("Builtin_BOUND", "UnaryNot"):
+        return None
+    if expr.name == "Builtin_BOUND":
+        return expr.arg, True
+    found = _bound_of(expr.expr)
+    return found and (found[0], not found[1])
 
 
 def conjuncts(expr: Any) -> list[Any]:

@@ -217,10 +217,10 @@ class OpenFile:
 
     def pages(self, search: Search) -> Iterator[Page]:
         """The triples that a search finds, in lists of up to 4,096, the first of up to 64; none of them is empty."""
-        page, following = self.graph.page_ids(*search, limit=_FIRST)
+        page, has_more = self.graph._first_ids(*search, _FIRST)
         if page:
             yield page
-        if following is not None:
+        if has_more:
             more = self.graph.find_ids(*search, start=_FIRST)
             while page := list(islice(more, _PORTION)):
                 yield page

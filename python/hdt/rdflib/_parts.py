@@ -7,7 +7,7 @@ from typing import Any
 
 import hdt
 from hdt.parts import open_any
-from hdt.parts._string_ids import StringIds
+from hdt.parts.string_ids import StringIds
 from hdt.rdflib._file import ROLES, Ids, OpenFile, Search, portions
 from hdt.rdflib._terms import Kept
 from rdflib.term import Identifier

@@ -5,6 +5,7 @@
 
 `Application` is a WSGI application for any server, with the values of `Config`. GET, POST with a form and POST with
 `application/sparql-query` are answered: as JSON, XML, CSV or TSV, and graphs as Turtle, N-Triples, JSON-LD or RDF/XML.
+GET without a query gives SPARQL 1.1 Service Description, with the title, licence and dates of the file's header.
 
 Each query runs in a process of its own, of which there are `processes`: so a query that takes too long, or too much
 memory, is ended, whatever it does. A query fetches nothing: SERVICE and FROM are refused, and there is no update.

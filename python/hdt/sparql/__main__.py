@@ -7,9 +7,8 @@ import logging
 import sys
 from wsgiref.simple_server import make_server
 
-from hdt.fragments import log_to_standard_error
-from hdt.fragments.__main__ import Handler, Server
-from hdt.fragments._log import escaped
+from hdt._web.log import escaped, log_to_standard_error
+from hdt._web.server import Handler, Server
 from hdt.parts import open_any
 from hdt.sparql import Application, Config
 

@@ -4,14 +4,14 @@ from __future__ import annotations
 
 import csv
 import io
-from collections.abc import Iterable
+from collections.abc import Iterable, Mapping
 from itertools import islice
-from typing import Any, NamedTuple
+from typing import Any, NamedTuple, Optional
 
 import hdt
 from hdt._rdflib_terms import string_of
-from hdt.fragments._formats import negotiated
-from hdt.fragments._request import Refusal
+from hdt._web.negotiation import chosen
+from hdt._web.request import Refusal
 from rdflib.graph import Graph
 from rdflib.plugins.sparql import processor
 from rdflib.term import BNode
@@ -38,7 +38,7 @@ def media_of(form: str, accept: str) -> str:
     offered = dict(GRAPHS) if form in ("CONSTRUCT", "DESCRIBE") else dict(SOLUTIONS)
     if form == "ASK":  # (neither CSV nor TSV has an answer of it)
         del offered[CSV], offered[TSV]
-    media = negotiated(accept, tuple(offered))
+    media = chosen(accept, tuple(offered))
     if media is None:
         raise Refusal("406 Not Acceptable", f"Available: {', '.join(offered)}.")
     return media
@@ -48,7 +48,7 @@ def written(result: Any, media: str, most: int) -> Written:
     """The answer of a query with at most so many solutions or triples. Raises Refusal, and what the query raises."""
     if result.type in ("CONSTRUCT", "DESCRIBE"):
         triples = list(islice(result.graph, most + 1))
-        return Written(media, _graph(triples[:most], GRAPHS[media]), len(triples) > most)
+        return Written(media, graph_bytes(triples[:most], media), len(triples) > most)
     if result.type == "ASK":
         return Written(media, result.serialize(format=SOLUTIONS[media]), False)
     rows = list(islice(result._genbindings or result.bindings, most + 1))
@@ -60,12 +60,15 @@ def written(result: Any, media: str, most: int) -> Written:
     return Written(media, body, len(rows) > most)
 
 
-def _graph(triples: Iterable[Any], form: str) -> bytes:
-    graph = Graph()
+def graph_bytes(triples: Iterable[Any], media: str, prefixes: Optional[Mapping[str, str]] = None) -> bytes:
+    """Triples in a format of RDF, with these prefixes if it has any. Raises Refusal if it can't have them."""
+    graph: Any = Graph()  # (whose `bind` has no types)
+    for prefix, namespace in (prefixes or {}).items():
+        graph.bind(prefix, namespace)
     for triple in triples:
         graph.add(triple)
     try:
-        body: bytes = graph.serialize(format=form, encoding="utf-8") or b""
+        body: bytes = graph.serialize(format=GRAPHS[media], encoding="utf-8") or b""
         return body
     except ValueError as error:  # (as RDF/XML has no way to write each predicate)
         raise Refusal("406 Not Acceptable", f"This answer can't be written in this format: {error}.") from None

@@ -6,9 +6,10 @@ import logging
 import time
 from collections.abc import Callable, Iterable, Mapping
 from typing import Any, NamedTuple, Union
+from urllib.parse import quote
 
-from hdt.fragments._log import escaped, traced
-from hdt.fragments._request import Headers, Refusal, bad, parameters
+from hdt._web.log import escaped, traced
+from hdt._web.request import HOST, Headers, Refusal, bad, parameters
 from hdt.sparql._config import Config
 from hdt.sparql._workers import Busy, Ended, Late, Reply, Workers
 
@@ -33,6 +34,13 @@ class Answer(NamedTuple):
     status: str
     headers: Headers
     body: bytes = b""
+
+
+def _url(environ: dict[str, Any], name: str) -> str:
+    """The URL of a dataset, by the host that the client names; empty if it names none."""
+    host = environ.get("HTTP_HOST", "")
+    place = quote(environ.get("SCRIPT_NAME", "").encode("latin-1")) + "/" + name
+    return f"{environ.get('wsgi.url_scheme', 'http')}://{host}{place}" if HOST.match(host) else ""
 
 
 class Application:
@@ -88,8 +96,11 @@ class Application:
         if name not in self.config.datasets:
             names = ", ".join("/" + it for it in self.config.datasets)
             raise Refusal("404 Not Found", f"There is nothing here. Queries are answered at {names}.")
-        request = {"file": self.config.datasets[name], "query": self._query(environ, method),
-                   "accept": environ.get("HTTP_ACCEPT", ""), "most": self.config.max_rows}
+        request: dict[str, Any] = {"file": self.config.datasets[name], "accept": environ.get("HTTP_ACCEPT", "")}
+        if method in ("GET", "HEAD") and not environ.get("QUERY_STRING"):
+            request["endpoint"] = _url(environ, name)
+        else:
+            request.update(query=self._query(environ, method), most=self.config.max_rows)
         return self._made(self.workers.ask(request, self.config.timeout))
 
     def _made(self, reply: Reply) -> Answer:

@@ -1,7 +1,7 @@
 """A process that answers queries, one after another: `python3 -m hdt.sparql._worker MEGABYTES`.
 
 It writes a line once it is ready. Then it reads requests from its standard input, a line of JSON for each, and writes
-to its standard output a line of JSON with the length of the body, and the body.
+to its standard output a line when it has one, then a line of JSON with the length of the body, and the body.
 """
 
 from __future__ import annotations
@@ -12,15 +12,14 @@ import resource
 import sys
 from typing import Any
 
-from hdt.fragments._dataset import Identity, identity_of
-from hdt.fragments._log import escaped, traced
-from hdt.fragments._request import Refusal, bad
-from hdt.parts._manifest import NAME
-from hdt.rdflib import plan_sparql
-from hdt.rdflib._describe import described
-from hdt.rdflib._store import HDTStore, exact_literals
-from hdt.rdflib._translation import parts_of, translated
+from hdt._files import MANIFEST
+from hdt._web.identity import Identity, identity_of
+from hdt._web.log import escaped, traced
+from hdt._web.request import Refusal, bad
+from hdt.rdflib import HDTStore, plan_sparql
+from hdt.rdflib.queries import described, exact_literals, parts_of, translated
 from hdt.sparql._answers import Written, media_of, written
+from hdt.sparql._description import description
 from pyparsing import ParseBaseException
 from rdflib.graph import Graph
 from rdflib.plugins.sparql import evaluate, processor
@@ -34,7 +33,7 @@ _FORMS = {"SelectQuery": "SELECT", "AskQuery": "ASK", "ConstructQuery": "CONSTRU
 
 def _identity(path: str) -> Identity:
     """What distinguishes a file, or the manifest of a folder of parts, from another one. Raises OSError."""
-    return identity_of(os.stat(os.path.join(path, NAME) if os.path.isdir(path) else path))
+    return identity_of(os.stat(os.path.join(path, MANIFEST) if os.path.isdir(path) else path))
 
 
 class Stores:
@@ -42,22 +41,31 @@ class Stores:
 
     def __init__(self) -> None:
         self._stores: dict[str, tuple[Identity, HDTStore]] = {}
+        self._refused: dict[str, Identity] = {}  # the files that are damaged, which are not tried again
 
     def store(self, path: str) -> HDTStore:
         """The store of a file, or of the one that was there before if it can't be opened. Raises Refusal."""
-        known = self._stores.get(path)
         try:
-            identity = _identity(path)
-            if known is None or known[0] != identity:
-                opened = HDTStore(path)
-                if known:
-                    known[1].close()
-                known = self._stores[path] = identity, opened
+            self._look(path)
         except (OSError, ValueError) as error:
             print(f"{escaped(path)} can't be opened: {error}", file=sys.stderr, flush=True)
-        if known is None:
+        if path not in self._stores:
             raise Refusal("503 Service Unavailable", "The file can't be opened now.", ("Retry-After", "60"))
-        return known[1]
+        return self._stores[path][1]
+
+    def _look(self, path: str) -> None:
+        """Open the file if it is another one than before. Raises OSError, and ValueError if it is damaged."""
+        known, identity = self._stores.get(path), _identity(path)
+        if identity in (known and known[0], self._refused.get(path)):
+            return
+        try:
+            opened = HDTStore(path)
+        except ValueError:
+            self._refused[path] = identity
+            raise
+        if known:
+            known[1].close()
+        self._stores[path] = identity, opened
 
 
 def checked(query: Any) -> None:
@@ -94,7 +102,11 @@ def answer(store: HDTStore, text: str, accept: str, most: int) -> Written:
 def reply(stores: Stores, request: dict[str, Any]) -> tuple[dict[str, Any], bytes]:
     """What is written for a request."""
     try:
-        found = answer(stores.store(request["file"]), request["query"], request["accept"], request["most"])
+        store, accept = stores.store(request["file"]), request["accept"]
+        if "endpoint" in request:
+            found = description(store.opened.graph, request["endpoint"], accept)
+        else:
+            found = answer(store, request["query"], accept, request["most"])
         return {"status": "200 OK", "media": found.media, "cut": found.is_cut, "headers": []}, found.body
     except Refusal as error:
         refusal = error
@@ -114,6 +126,8 @@ def main() -> None:
     out.write(b"ready\n")
     out.flush()
     for line in sys.stdin.buffer:
+        out.write(b"taken\n")
+        out.flush()
         head, body = reply(stores, json.loads(line))
         out.write(json.dumps({**head, "length": len(body)}).encode() + b"\n" + body)
         out.flush()

@@ -31,6 +31,10 @@ class Ended(Exception):
     """A process ended while it had a query, as for want of memory."""
 
 
+class Gone(Ended):
+    """A process ended before it read the query, as an idle one that was killed."""
+
+
 class Reply(NamedTuple):
     """What a process says of a query."""
 
@@ -54,7 +58,7 @@ class Worker:
         self._left, self._is_ready = b"", False
 
     def ask(self, request: dict[str, Any], seconds: float) -> Reply:
-        """The reply to a request. Raises Late or Ended, after which the process is of no use."""
+        """The reply to a request. Raises Late, Ended or Gone, after which the process is of no use."""
         assert self._process.stdin and self._process.stdout
         with selectors.DefaultSelector() as selector:
             selector.register(self._process.stdout, selectors.EVENT_READ)
@@ -65,8 +69,9 @@ class Worker:
             try:
                 self._process.stdin.write(json.dumps(request).encode() + b"\n")
                 self._process.stdin.flush()
-            except OSError:
-                raise Ended from None
+                self._line(selector, end)  # (it has the query)
+            except (OSError, Ended):
+                raise Gone from None
             head = json.loads(self._line(selector, end))
             pieces, length = [self._left], len(self._left)
             while length < head["length"]:
@@ -116,14 +121,19 @@ class Workers:
             self._free.put(None)
 
     def ask(self, request: dict[str, Any], seconds: float) -> Reply:
-        """The reply to a request. Raises Busy, Late or Ended."""
+        """The reply to a request. Raises Busy, Late or Ended. A process that was killed while idle is replaced."""
         try:
             worker = self._free.get_nowait()
         except queue.Empty:
             raise Busy from None
         try:
             worker = worker or Worker(self._memory)
-            reply = worker.ask(request, seconds)
+            try:
+                reply = worker.ask(request, seconds)
+            except Gone:
+                worker.end()
+                worker = Worker(self._memory)
+                reply = worker.ask(request, seconds)
         except BaseException:
             if worker:
                 worker.end()

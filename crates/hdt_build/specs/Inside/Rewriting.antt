@@ -1,5 +1,5 @@
 -- Rewriting the sections of a graph: each retains the strings that triples use, and IDs are mapped to new ones.
-use Rattle.std.specs.Prelude.{◌≡◌, ℕ, ◌+◌, ◌-◌, ◌<◌, ◌≤◌, List, [], length, drop, slice_index}
+use Rattle.std.specs.Prelude.{◌≡◌, ℕ, ◌+◌, ◌-◌, ◌%◌, ◌^◌, ◌<◌, ◌≤◌, List, [], length, drop, slice_index}
 use Rattle.std.specs.List.{Contains}
 use Rattle.std.specs.Option.{unwrap_or}
 use Rattle.std.specs.declared.cmp.Ordering.TheVariants.{Less, Greater}
@@ -142,6 +142,7 @@ IsRewrittenSection g section =
 abbrev pub new_id : IdMap → ℕ → ℕ
 new_id id_maps.Unchanged n = n
 new_id (id_maps.Listed v) n = slice_index v.items (n - 1)
+new_id (id_maps.Shifted first) n = (first + (n - 1)) % 2 ^ 64
 
 -- each ID of a role that triples use is mapped to the ID of its string among the terms
 abbrev pub HaveNewIds : GraphParts → Role → List (List ℕ) → (ℕ → ℕ) → Type 0

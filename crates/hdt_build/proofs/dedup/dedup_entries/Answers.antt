@@ -5,7 +5,7 @@ use Rattle.hdt_build.proofs.dedup.dedup_entries.Goals as goal
 pub loop-at-init : goal.loop-at-init
 loop-at-init c = record {
   listed =
-      rw c.in_ok-strings.ensures
+      rw c.new-strings.ensures
       (none_listed c.args.list.now c.args.ordered.now c.in_ok-ranks.ranks.items
       (omega (arith, c.in_ok-ranks.ensures.len, c.len.ensures, c.in_ok-ranks.ranks.ok.0)));
 }

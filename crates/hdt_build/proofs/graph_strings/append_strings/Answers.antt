@@ -1,20 +1,18 @@
-use Rattle.std.proofs.Common.{◌≡◌, ◌∙◌, ℕ, ◌+◌, ◌-◌, [], length, get_or, ap, sym, refl, arith}
-use Rattle.std.proofs.lemmas.List.{length_push}
+use Rattle.std.proofs.Common.{◌≡◌, ◌∙◌, ◌++◌, ◌∷◌, ℕ, ◌+◌, ◌-◌, [], List, get_or, ap, take}
+use Rattle.std.proofs.Common.{append_assoc, sym, refl}
+use Rattle.std.proofs.Common.{arith}
+use Rattle.std.proofs.lemmas.List.{take_all, take_more}
 use Rattle.hdt_dict.specs.Dictionary.{role_strings}
 use Rattle.hdt_file.specs.Graph.{graph_view}
 use Rattle.hdt_build.proofs.CursorSteps.{goes, ended}
-use Rattle.hdt_build.proofs.GraphIndices.{all_indices, one_more_index}
-use Rattle.hdt_build.proofs.IndexTriples.{goes_on}
+use Rattle.hdt_build.proofs.GraphIndices.{appended, shifted_indices}
 use Rattle.hdt_build.proofs.StringsOfIds.{term_is}
 use Rattle.hdt_build.proofs.graph_strings.append_strings.Goals as goal
 
 pub strings-init : goal.strings-init
 strings-init c = record {
   progress = rw c.strings-strings.ensures (record { within = omega arith; ahead = refl });
-  long = rw (c.in_ok-made.ensures.items, c.strings-strings.ensures) refl;
-  on = record { longer = omega arith; kept = λ k lt. refl };
-  first = rw c.in_ok-made.ensures.items
-      (record { within = λ k lt. absurd (omega (arith, lt)); is = λ k lt. absurd (omega (arith, lt)) });
+  added = rw (c.strings-strings.ensures, c.new-run.ensures) refl;
 }
 
 pub strings-smaller : goal.strings-smaller
@@ -26,35 +24,41 @@ strings-smaller c =
 
 pub strings-preserved : goal.strings-preserved
 strings-preserved c =
-    let l = c.strings in
-    let i = l.invariant in
+    let i = c.strings.invariant in
     let all = role_strings (graph_view c.args.graph.now).dictionary c.args.role in
-    let w = l.strings in
+    let w = c.strings.strings in
     let new = c.next.new.self in
     let go = goes all w new c.in-Some.id i.progress (sym c.in_ok-id.ensures.id ∙ c.in-Some.is)
     c.in_ok-id.ensures.ok in
-    let at : w.given + 1 - 1 ≡ length l.made.items = omega (arith, i.long) in
-    let text : new.last ≡ get_or all (length l.made.items) [] =
+    let at : w.given + 1 - 1 ≡ w.given = omega arith in
+    let text : new.last ≡ get_or all w.given [] =
     go.last ∙ (term_is all (w.given + 1) (omega arith) ∙ ap (λ (k : ℕ). get_or all k []) at) in
+    let more = take_more all w.given [] (omega (arith, go.given, go.progress.within)) in
     record {
       progress = go.progress;
-      long = omega (
-        arith,
-        i.long,
-        go.given,
-        ap length c.in_ok-push.ensures.items,
-        length_push l.made.items c.in_ok-index.index,
-      );
-      on = goes_on _ _ _ i.on c.in_ok-index.ensures.list;
-      first = rw c.in_ok-push.ensures.items
-          (one_more_index all l.terms c.push_string.new.terms l.made.items i.first c.in_ok-index.ensures.list
-          c.in_ok-index.index c.in_ok-index.ensures.within (c.in_ok-index.ensures.is ∙ (c.string.ensures ∙ text)));
+      added = ap (λ (xs : List (List ℕ)). c.run_from.new.terms ++ xs) c.in_ok-push.ensures
+          ∙ (sym (append_assoc c.run_from.new.terms c.in_ok-run.run' (c.string.result.now ∷ []))
+          ∙ (ap (λ (xs : List (List ℕ)). xs ++ c.string.result.now ∷ []) (c.in_ok-run.ensures ∙ i.added)
+          ∙ (append_assoc c.args.terms.now (take w.given all) (c.string.result.now ∷ [])
+          ∙ ap (λ (xs : List (List ℕ)). c.args.terms.now ++ xs)
+          (ap (λ (x : List ℕ). take w.given all ++ x ∷ []) (c.string.ensures ∙ text)
+          ∙ (sym more ∙ ap (λ (k : ℕ). take k all) (sym go.given))))));
     }
 
 pub returns-clause-indices : goal.returns-clause-indices
 returns-clause-indices c =
     let g = graph_view c.args.graph.now in
+    let all = role_strings g.dictionary c.args.role in
     let i = c.strings.invariant in
-    let none = ended (role_strings g.dictionary c.args.role) c.strings.strings c.in_ok-id.field-0 i.progress
+    let none = ended all c.strings.strings c.in_ok-id.field-0 i.progress
     c.in_ok-id.ensures.id (λ k. c.in_default.not-Some k) in
-    all_indices g c.args.role c.strings.terms c.strings.made.items i.first (i.long ∙ none)
+    let added = c.in_ok-add.ensures ∙ i.added
+    ∙ ap (λ (xs : List (List ℕ)). c.args.terms.now ++ xs)
+    (take_all c.strings.strings.given all (omega (arith, none))) in
+    shifted_indices g c.args.role c.args.terms.now c.add.new.self added
+    (omega (arith, c.len-end.ensures, c.before.drop-2.ranges)) _
+    (rw (c.len-end.ensures, c.count.ensures) refl)
+
+pub returns-clause-list : goal.returns-clause-list
+returns-clause-list c =
+    appended c.args.terms.now _ c.add.new.self (c.in_ok-add.ensures ∙ c.strings.invariant.added)

@@ -1,9 +1,7 @@
-use Rattle.std.proofs.Common.{◌≡◌, length}
+use Rattle.std.proofs.Common.{◌≡◌, ◌++◌, length, take}
 use Rattle.hdt_dict.specs.Dictionary.{role_strings}
 use Rattle.hdt_file.specs.Graph.{graph_view}
 use Rattle.hdt_build.specs.Inside.Rewriting.{IsProgressOf}
-use Rattle.hdt_build.specs.Inside.SortedEntries.{ExtendsList}
-use Rattle.hdt_build.proofs.GraphIndices.{AreFirstIndices}
 use Rattle.hdt_build.proofs.graph_strings.append_strings.Given as goal
 
 abbrev pub invariant-strings : goal.invariant-strings
@@ -11,9 +9,7 @@ invariant-strings l =
     let all = role_strings (graph_view l.fn.graph).dictionary l.fn.role in
     record {
       progress : IsProgressOf all l.strings;
-      long : length l.made.items ≡ l.strings.given;
-      on : ExtendsList l.fn.terms l.terms;
-      first : AreFirstIndices all l.terms l.made.items;
+      added : l.terms ++ l.run ≡ l.fn.terms ++ take l.strings.given all;
     }
 
 abbrev pub decreases-strings : goal.decreases-strings

@@ -1,13 +1,16 @@
-use Rattle.std.proofs.Common.{◌≡◌, append_assoc}
+use Rattle.std.proofs.Common.{◌≡◌, ◌∙◌, append_assoc, sym}
+use Rattle.hdt_dict.specs.Laws.Members.{SameMembers-trans}
 use Rattle.hdt_dict.specs.Laws.Split.{split_sections}
 use Rattle.hdt_file.specs.Graph.{graph_view}
 use Rattle.hdt_build.specs.Canonical.{canonical_file}
 use Rattle.hdt_build.specs.Inside.Rewriting.{lists_of_sections}
 use Rattle.hdt_build.specs.Layouts.{denoted_by}
 use Rattle.hdt_build.proofs.BuiltForm.{made_of}
-use Rattle.hdt_build.proofs.Denoting.{some_triple, writable}
+use Rattle.hdt_build.proofs.Denoting.{some_triple}
 use Rattle.hdt_build.proofs.DenotedStrings.{some_denoted, denoted_texts}
 use Rattle.hdt_build.proofs.RewrittenSections.{rewritten_form}
+use Rattle.hdt_build.proofs.SequencePushes.{many, sequences_are, some_y, some_z}
+use Rattle.hdt_build.proofs.TripleRuns.{one_run}
 use Rattle.hdt_build.proofs.rewriting.rewritten.Goals as goal
 
 pub head_and_dictionary-requires-clause-sections : goal.head_and_dictionary-requires-clause-sections
@@ -17,15 +20,15 @@ head_and_dictionary-requires-clause-sections c =
     split_sections _ _ _ (lists_of_sections c.in_ok-sections.sections) c.in_ok-sections.ensures.rewritten.sections
     texts.subjects_are texts.predicates_are texts.objects_are
 
-pub put_triples-requires : goal.put_triples-requires
-put_triples-requires c =
+pub put-requires : goal.put-requires
+put-requires c =
     let g = graph_view c.args.graph.now in
     let d = lists_of_sections c.in_ok-sections.sections in
-    let form = rewritten_form g c.is_graph.ensures d _ c.in_ok-sections.ensures.rewritten c.in_ok-triples.triples.items
-    c.in_ok-triples.ensures.ascending c.in_ok-triples.ensures.same in
-    rw c.as_slice.ensures.value
-    (writable d c.in_ok-triples.triples.items form
-    (some_triple (denoted_by g) d c.in_ok-triples.triples.items form (some_denoted g c.is_graph.ensures)))
+    let m = c.in_ok-sequences.ensures in
+    let form = rewritten_form g c.is_graph.ensures d _ c.in_ok-sections.ensures.rewritten m.triples m.ascending
+    (SameMembers-trans _ _ _ m.same (one_run _ _ _ c.new-triples.ensures c.in_ok-append_triples.ensures)) in
+    let some = some_triple (denoted_by g) d m.triples form (some_denoted g c.is_graph.ensures) in
+    record { pairs = some_y _ _ m.sequences some; triples = some_z _ _ m.sequences some }
 
 pub returns : goal.returns
 unfolding canonical_file
@@ -33,17 +36,19 @@ returns c =
     let g = graph_view c.args.graph.now in
     let h = c.is_graph.ensures in
     let d = lists_of_sections c.in_ok-sections.sections in
-    let ts = c.in_ok-triples.triples.items in
-    let bytes = c.put_triples.new.out.items in
-    let form = rewritten_form g h d _ c.in_ok-sections.ensures.rewritten ts c.in_ok-triples.ensures.ascending
-    c.in_ok-triples.ensures.same in
+    let m = c.in_ok-sequences.ensures in
+    let ts = m.triples in
+    let bytes = c.put.new.out.items in
+    let form = rewritten_form g h d _ c.in_ok-sections.ensures.rewritten ts m.ascending
+    (SameMembers-trans _ _ _ m.same (one_run _ _ _ c.new-triples.ensures c.in_ok-append_triples.ensures)) in
     let file : bytes ≡ canonical_file g.header c.args.block_size d ts =
     rw (
-      c.in_ok-put_triples.ensures.ok,
-      c.as_slice.ensures.value,
+      c.in_ok-put.ensures,
+      sequences_are ts _ m.sequences,
       c.in_ok-bytes.ensures,
       c.in_ok-sections.ensures.blocks.shared,
       c.header.ensures,
     ) (simp append_assoc) in
     made_of (denoted_by g) d ts g.header c.args.block_size bytes _ (some_denoted g h) (denoted_texts g h) form file
-    (rw (c.as_slice-2.ensures.value, c.as_slice-3.ensures.value) at (c.report_of-report.ensures d c.lens-lens.ensures))
+    (rw c.as_slice.ensures.value at (c.counted_report-report.ensures d ts c.lens-lens.ensures
+    (c.len-count.ensures ∙ sym (many ts _ m.sequences))))

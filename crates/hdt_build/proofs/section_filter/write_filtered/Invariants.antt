@@ -1,5 +1,5 @@
-use Rattle.std.proofs.Common.{◌≡◌, ◌≤◌, [], length, get_or}
-use Rattle.hdt_front.specs.Section.{before}
+use Rattle.std.proofs.Common.{◌≡◌, ◌≤◌, [], drop, length, get_or}
+use Rattle.hdt_build.specs.Inside.PackedStrings.{remaining_strings}
 use Rattle.hdt_build.specs.Inside.Filtering.{IsInFilter}
 use Rattle.hdt_build.proofs.RunMerging.{InWork, Ahead}
 use Rattle.hdt_build.proofs.section_filter.write_filtered.Given as goal
@@ -12,5 +12,5 @@ invariant-loop-at l = record {
       (length l.strings)) l.fn.ids_before l.out.strings l.fn.ids.items l.ids.items;
   block : l.out.block_size ≡ l.block_size;
   few : length l.out.strings ≤ l.at;
-  text : l.text.items ≡ before l.strings l.at;
+  ahead : remaining_strings l.reader ≡ drop l.at l.strings;
 }

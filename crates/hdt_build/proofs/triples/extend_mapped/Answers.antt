@@ -11,8 +11,8 @@ loop-triple-preserved c =
     let f = mapped_triple c.args.indices.now c.args.indices.now c.args.indices.now in
     record {
       mapped = rw c.in_ok-push.ensures.items
-          (mapped_more f c.args.triples.now l.triple-index c.args.out.now.items l.out.items c.loop-triple-test.true
-          l.invariant.mapped);
+          (mapped_more f (0, 0, 0) c.args.triples.now l.triple-index c.args.out.now.items l.out.items
+          c.loop-triple-test.true l.invariant.mapped);
     }
 
 pub returns : goal.returns

@@ -1,31 +1,31 @@
-use Rattle.std.proofs.Common.{◌≡◌, ◌∙◌, ◌∷◌, ℕ, arith, length, List, [], None, ap, inl, map, refl, rules, subst, sym}
+use Rattle.std.proofs.Common.{◌≡◌, ◌∷◌, [], ap, inl, map, refl, rules, subst, sym}
 use Rattle.std.specs.Vec.Iter.{into_iter_items}
 use Rattle.std.proofs.lemmas.Result.{err_from_is_err_and}
 use Rattle.hdt_wire.specs.Counted.{inner}
-use Rattle.hdt_build.specs.Documents.{AddsDocument}
-use Rattle.hdt_tool.specs.SplitInputs.{input_prefix}
+use Rattle.hdt_tool.specs.Changes.{update}
+use Rattle.hdt_tool.specs.SplitInputs.{Turn, first_turn}
 use Rattle.hdt_build.specs.Reading.{IsBuildFaultOf}
 use Rattle.hdt_tool.specs.BuildInputs.{AddsInTurn, IsFaultOfDocumentAt, StopsAdding, document_fault}
 use Rattle.hdt_tool.specs.declared.splitting.SplitInputsFault.TheVariants.{OutOfMemory}
-use Rattle.hdt_tool.proofs.DocumentRuns.{adds_next, fault_of_document, mixed, no_memory, stops_next}
+use Rattle.hdt_tool.proofs.DocumentRuns.{fault_of_document, mixed, no_memory}
 use Rattle.hdt_tool.proofs.SplitRuns.{none_left}
 use Rattle.hdt_tool.proofs.building_inputs.read_documents.Goals as goal
 
 pub returns-in-Err-clause-stopped : goal.returns-in-Err-clause-stopped
 returns-in-Err-clause-stopped g c =
     let mode = c.args.blank_nodes in
+    let turn : Turn = record { mode = mode; first = c.inputs.first; number = c.inputs.number } in
     let fault = document_fault c.inputs.number c.in-Err.fault in
     let all : into_iter_items c.into_iter-input-iterator.result ≡ c.args.inputs.items = search rules in
     let here : into_iter_items c.inputs.input-iterator ≡ c.in-Some.input ∷ into_iter_items c.next.new.self =
     search rules in
     let read = ap (λ input. g.R.Read.remaining input) c.new-input.ensures.inner in
-    subst (λ stop. StopsAdding mode None 0 (map (λ input. g.R.Read.remaining input) c.args.inputs.items) [] stop)
+    subst (λ stop. StopsAdding (first_turn mode) (map (λ input. g.R.Read.remaining input) c.args.inputs.items) [] stop)
     (sym c.document_fault.ensures)
-    (subst (λ items. StopsAdding mode None 0 (map (λ input. g.R.Read.remaining input) items) [] fault) all
+    (subst (λ items. StopsAdding (first_turn mode) (map (λ input. g.R.Read.remaining input) items) [] fault) all
     (c.inputs.invariant.1 fault
-    (subst (λ items. StopsAdding mode c.inputs.first c.inputs.number
-    (map (λ input. g.R.Read.remaining input) items) c.inputs.builder fault) (sym here)
-    (inl (fault_of_document mode c.inputs.first c.inputs.number (g.R.Read.remaining c.in-Some.input)
+    (subst (λ items. StopsAdding turn (map (λ input. g.R.Read.remaining input) items) c.inputs.builder fault) (sym here)
+    (inl (fault_of_document turn (g.R.Read.remaining c.in-Some.input)
     (g.R.Read.remaining (inner c.with_document.new.input)) c.in-Err.fault
     (subst (λ i. IsBuildFaultOf i (g.R.Read.remaining (inner c.with_document.new.input)) c.in-Err.fault) read
     c.in-Err.ensures.fault))))))
@@ -33,6 +33,7 @@ returns-in-Err-clause-stopped g c =
 pub returns-in_err-first-clause-stopped : goal.returns-in_err-first-clause-stopped
 returns-in_err-first-clause-stopped g c =
     let mode = c.args.blank_nodes in
+    let turn : Turn = record { mode = mode; first = c.inputs.first; number = c.inputs.number } in
     let fault = c.in_err-first.field-0.0 in
     let all : into_iter_items c.into_iter-input-iterator.result ≡ c.args.inputs.items = search rules in
     let here : into_iter_items c.inputs.input-iterator ≡ c.in-Some.input ∷ into_iter_items c.next.new.self =
@@ -40,69 +41,42 @@ returns-in_err-first-clause-stopped g c =
     let read = ap (λ input. g.R.Read.remaining input) c.new-input.ensures.inner in
     let p = err_from_is_err_and c.from_residual-in_err-first.result c.from_residual-in_err-first.ensures.1 in
     rw (p.1, p.2)
-    (subst (λ items. StopsAdding mode None 0 (map (λ input. g.R.Read.remaining input) items) [] fault) all
+    (subst (λ items. StopsAdding (first_turn mode) (map (λ input. g.R.Read.remaining input) items) [] fault) all
     (c.inputs.invariant.1 fault
-    (subst (λ items. StopsAdding mode c.inputs.first c.inputs.number
-    (map (λ input. g.R.Read.remaining input) items) c.inputs.builder fault) (sym here)
-    (inl (subst (λ i. IsFaultOfDocumentAt mode c.inputs.first c.inputs.number i fault) read
-    (mixed mode c.inputs.first c.inputs.number _ _ c.inputs.builder _ _ fault c.in-Ok.ensures.added
+    (subst (λ items. StopsAdding turn (map (λ input. g.R.Read.remaining input) items) c.inputs.builder fault) (sym here)
+    (inl (subst (λ i. IsFaultOfDocumentAt turn i fault) read
+    (mixed turn _ _ c.inputs.builder _ _ fault c.in-Ok.ensures.added
     c.in_err-first.ensures.err.0 c.in_err-first.ensures.err.1))))))
 
 pub returns-in_err-prefix-clause-stopped : goal.returns-in_err-prefix-clause-stopped
 returns-in_err-prefix-clause-stopped g c =
     let mode = c.args.blank_nodes in
+    let turn : Turn = record { mode = mode; first = c.inputs.first; number = c.inputs.number } in
     let all : into_iter_items c.into_iter-input-iterator.result ≡ c.args.inputs.items = search rules in
     let here : into_iter_items c.inputs.input-iterator ≡ c.in-Some.input ∷ into_iter_items c.next.new.self =
     search rules in
     let p = err_from_is_err_and c.from_residual-in_err-prefix.result c.from_residual-in_err-prefix.ensures.1 in
     rw (p.1, p.2)
-    (subst (λ items. StopsAdding mode None 0 (map (λ input. g.R.Read.remaining input) items) [] OutOfMemory) all
+    (subst (λ items. StopsAdding (first_turn mode) (map (λ input. g.R.Read.remaining input) items) [] OutOfMemory) all
     (c.inputs.invariant.1 OutOfMemory
-    (subst (λ items. StopsAdding mode c.inputs.first c.inputs.number
-    (map (λ input. g.R.Read.remaining input) items) c.inputs.builder OutOfMemory) (sym here) (inl tt))))
+    (subst (λ items. StopsAdding turn (map (λ input. g.R.Read.remaining input) items) c.inputs.builder OutOfMemory)
+    (sym here) (inl tt))))
 
 pub returns-clause-ok : goal.returns-clause-ok
 returns-clause-ok g c =
     let mode = c.args.blank_nodes in
+    let turn : Turn = record { mode = mode; first = c.inputs.first; number = c.inputs.number } in
     let all : into_iter_items c.into_iter-input-iterator.result ≡ c.args.inputs.items = search rules in
     let ended : into_iter_items c.inputs.input-iterator ≡ [] =
     none_left (into_iter_items c.inputs.input-iterator) (search rules) in
-    subst (λ items. AddsInTurn mode None 0 (map (λ input. g.R.Read.remaining input) items) [] c.inputs.builder) all
+    subst (λ items. AddsInTurn (first_turn mode) (map (λ input. g.R.Read.remaining input) items)
+    (update [] c.inputs.builder)) all
     (c.inputs.invariant.0 c.inputs.builder
-    (subst (λ items. AddsInTurn mode c.inputs.first c.inputs.number
-    (map (λ input. g.R.Read.remaining input) items) c.inputs.builder c.inputs.builder) (sym ended) refl))
+    (subst (λ items. AddsInTurn turn (map (λ input. g.R.Read.remaining input) items)
+    (update c.inputs.builder c.inputs.builder)) (sym ended) refl))
 
 pub returns-in_err-builder-clause-stopped : goal.returns-in_err-builder-clause-stopped
 returns-in_err-builder-clause-stopped g c =
     let p = err_from_is_err_and c.from_residual.result c.from_residual.ensures.1 in
-    rw (p.1, p.2) (no_memory c.args.blank_nodes None 0 (map (λ input. g.R.Read.remaining input) c.args.inputs.items) [])
-
-pub inputs-preserved : goal.inputs-preserved
-inputs-preserved g c =
-    let mode = c.args.blank_nodes in
-    let here : into_iter_items c.inputs.input-iterator ≡ c.in-Some.input ∷ into_iter_items c.next.new.self =
-    search rules in
-    let len = ap length here in
-    let read = ap (λ input. g.R.Read.remaining input) c.new-input.ensures.inner in
-    let more = c.in-Ok.made.0 in
-    let has = c.in-Ok.made.1 in
-    let added : AddsDocument (input_prefix mode c.inputs.number) (g.R.Read.remaining c.in-Some.input) c.inputs.builder
-    more has =
-    subst (λ i. AddsDocument (input_prefix mode c.inputs.number) i c.inputs.builder more has) read
-    (subst
-    (λ (p : List ℕ). AddsDocument p (g.R.Read.remaining (inner c.new-input.result)) c.inputs.builder more has)
-    (c.deref.ensures.value ∙ c.in_ok-prefix.ensures.is) c.in-Ok.ensures.added) in
-    let first = c.in_ok-first.ensures.ok in
-    let rest = map (λ input. g.R.Read.remaining input) (into_iter_items c.next.new.self) in (
-      λ after h. c.inputs.invariant.0 after
-          (subst (λ items. AddsInTurn mode c.inputs.first c.inputs.number
-          (map (λ input. g.R.Read.remaining input) items) c.inputs.builder after) (sym here)
-          (adds_next mode c.inputs.first c.in_ok-first.first c.inputs.number (g.R.Read.remaining c.in-Some.input) rest
-          c.inputs.builder more after has added first.1 first.0 h)),
-      λ stop h. c.inputs.invariant.1 stop
-          (subst (λ items. StopsAdding mode c.inputs.first c.inputs.number
-          (map (λ input. g.R.Read.remaining input) items) c.inputs.builder stop) (sym here)
-          (stops_next mode c.inputs.first c.in_ok-first.first c.inputs.number (g.R.Read.remaining c.in-Some.input) rest
-          c.inputs.builder more has stop added first.1 first.0 h)),
-      omega (arith, c.inputs.invariant.2, len),
-    )
+    rw (p.1, p.2)
+    (no_memory (first_turn c.args.blank_nodes) (map (λ input. g.R.Read.remaining input) c.args.inputs.items) [])

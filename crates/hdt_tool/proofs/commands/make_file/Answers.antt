@@ -1,6 +1,6 @@
 use Rattle.std.proofs.Common.{◌↔◌, List, ℕ, IsErrOf, subst, sym}
 use Rattle.std.proofs.lemmas.Result.{IfErr-weaker, IfOk-weaker}
-use Rattle.hdt_tool.specs.Changes.{change}
+use Rattle.hdt_tool.specs.Changes.{change, update}
 use Rattle.hdt_build.specs.Options.{AreValidOptions}
 use Rattle.hdt_build.specs.declared.options.Options.{Options}
 use Rattle.hdt_tool.specs.Outcomes.{IfBuild, IsFaultOfBytes, IsFaultOfInput, YieldsAppended}
@@ -20,8 +20,8 @@ pub returns-in_ok-bytes-in-Rewrite-clause-ok : goal.returns-in_ok-bytes-in-Rewri
 returns-in_ok-bytes-in-Rewrite-clause-ok g c =
     let input = change g.R.Read.remaining c.args.input.now c.read_all.new.input in
     IfOk-weaker c.rewrite_file.result _ _
-    (λ text h. subst (λ (a : Action). YieldsAppended a input text.items c.args.made.now.items
-    c.rewrite_file.new.made.items) (sym c.in-Rewrite.is)
+    (λ text h. subst (λ (a : Action). YieldsAppended a input text.items
+    (update c.args.made.now.items c.rewrite_file.new.made.items)) (sym c.in-Rewrite.is)
     (rewrites c.in-Rewrite.block_size input c.in_ok-bytes-in-Rewrite.bytes.items c.deref.result.now text.items
     c.args.made.now.items c.rewrite_file.new.made.items c.in_ok-bytes-in-Rewrite.ensures.ok
     c.deref.ensures.value h)) c.rewrite_file.ensures.ok

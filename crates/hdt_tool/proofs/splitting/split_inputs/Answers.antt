@@ -1,17 +1,19 @@
-use Rattle.std.proofs.Common.{◌≡◌, ◌∙◌, ◌∷◌, ℕ, List, [], Option, None, ap, inl, map, refl, rules, subst, sym}
+use Rattle.std.proofs.Common.{◌≡◌, ◌∙◌, ◌∷◌, ℕ, List, [], Option, ap, inl, map, refl, rules, subst, sym}
 use Rattle.std.specs.Vec.Iter.{into_iter_items}
 use Rattle.std.proofs.lemmas.Result.{err_from_is_err_and}
 use Rattle.hdt_wire.specs.Counted.{inner, failures}
 use Rattle.hdt_terms.specs.Split.{FailsOnce, SplitsInput}
 use Rattle.hdt_terms.specs.declared.split.SplitFault.TheVariants.{Write}
-use Rattle.hdt_tool.specs.SplitInputs.{SplitsInTurn, IsBlankNodesFault, IsFaultOfInputAt, StopsInTurn}
+use Rattle.hdt_tool.specs.Changes.{update}
+use Rattle.hdt_tool.specs.SplitInputs.{IsBlankNodesFault, IsFaultOfInputAt, SplitsInTurn, StopsInTurn, Turn, first_turn}
 use Rattle.hdt_tool.specs.declared.splitting.SplitInputsFault.TheVariants.{Input, OutOfMemory}
-use Rattle.hdt_tool.proofs.SplitRuns.{alone, fault_of_input, mixed, none_left, stops_at_fault}
+use Rattle.hdt_tool.proofs.SplitRuns.{fault_of_input, mixed, none_left, stops_at_fault}
 use Rattle.hdt_tool.proofs.splitting.split_inputs.Goals as goal
 
 pub returns-in-Err-clause-stopped : goal.returns-in-Err-clause-stopped
 returns-in-Err-clause-stopped g c =
     let mode = c.args.blank_nodes in
+    let turn : Turn = record { mode = mode; first = c.inputs.first; number = c.inputs.number } in
     let old = map (λ out. g.W.Write.contents (inner out)) c.args.outs.now in
     let before = map (λ out. g.W.Write.contents (inner out)) c.inputs.outs in
     let after = map (λ out. g.W.Write.contents (inner out)) c.split_document.new.outs in
@@ -20,19 +22,19 @@ returns-in-Err-clause-stopped g c =
     let here : into_iter_items c.inputs.input-iterator ≡ c.in-Some.input ∷ into_iter_items c.next.new.self =
     search rules in
     let read = ap (λ input. g.R.Read.remaining input) c.new-input.ensures.inner in
-    subst (λ items. StopsInTurn mode None 0 (map (λ input. g.R.Read.remaining input) items) old after fault) all
+    subst (λ items. StopsInTurn (first_turn mode) (map (λ input. g.R.Read.remaining input) items) (update old after)
+    fault) all
     (c.inputs.invariant.1 after fault
-    (subst (λ items. StopsInTurn mode c.inputs.first c.inputs.number
-    (map (λ input. g.R.Read.remaining input) items) before after fault) (sym here)
-    (inl (subst (λ (i : Option (List ℕ)). IsFaultOfInputAt mode c.inputs.first c.inputs.number i before after fault)
-    read
-    (alone mode c.inputs.first c.inputs.number _ before after fault
-    (stops_at_fault mode c.inputs.number c.deref.result.now _ _ before after c.in-Err.fault
-    (c.deref.ensures.value ∙ c.in_ok-prefix.ensures.is) c.in-Err.ensures.stopped))))))
+    (subst (λ items. StopsInTurn turn (map (λ input. g.R.Read.remaining input) items) (update before after) fault)
+    (sym here)
+    (inl (subst (λ (i : Option (List ℕ)). IsFaultOfInputAt turn i (update before after) fault) read
+    (stops_at_fault turn c.deref.result.now _ _ (update before after) c.in-Err.fault
+    (c.deref.ensures.value ∙ c.in_ok-prefix.ensures.is) c.in-Err.ensures.stopped)))))
 
 pub returns-in_err-first-clause-stopped : goal.returns-in_err-first-clause-stopped
 returns-in_err-first-clause-stopped g c =
     let mode = c.args.blank_nodes in
+    let turn : Turn = record { mode = mode; first = c.inputs.first; number = c.inputs.number } in
     let old = map (λ out. g.W.Write.contents (inner out)) c.args.outs.now in
     let before = map (λ out. g.W.Write.contents (inner out)) c.inputs.outs in
     let after = map (λ out. g.W.Write.contents (inner out)) c.split_document.new.outs in
@@ -43,13 +45,13 @@ returns-in_err-first-clause-stopped g c =
     let read = ap (λ input. g.R.Read.remaining input) c.new-input.ensures.inner in
     let p = err_from_is_err_and c.from_residual-in_err-first.result c.from_residual-in_err-first.ensures.1 in
     rw (p.1, p.2)
-    (subst (λ items. StopsInTurn mode None 0 (map (λ input. g.R.Read.remaining input) items) old after fault) all
+    (subst (λ items. StopsInTurn (first_turn mode) (map (λ input. g.R.Read.remaining input) items) (update old after)
+    fault) all
     (c.inputs.invariant.1 after fault
-    (subst (λ items. StopsInTurn mode c.inputs.first c.inputs.number
-    (map (λ input. g.R.Read.remaining input) items) before after fault) (sym here)
-    (inl (subst (λ (i : Option (List ℕ)). IsFaultOfInputAt mode c.inputs.first c.inputs.number i before after fault)
-    read
-    (mixed mode c.inputs.first c.inputs.number _ before after c.in-Ok.report fault
+    (subst (λ items. StopsInTurn turn (map (λ input. g.R.Read.remaining input) items) (update before after) fault)
+    (sym here)
+    (inl (subst (λ (i : Option (List ℕ)). IsFaultOfInputAt turn i (update before after) fault) read
+    (mixed turn _ (update before after) c.in-Ok.report fault
     (subst
     (λ (p : List ℕ). SplitsInput p (g.R.Read.remaining (inner c.new-input.result)) before after c.in-Ok.report)
     (c.deref.ensures.value ∙ c.in_ok-prefix.ensures.is) c.in-Ok.ensures.ok)
@@ -79,19 +81,22 @@ returns-in_err-first-clause-write g c =
 pub returns-clause-ok : goal.returns-clause-ok
 returns-clause-ok g c =
     let mode = c.args.blank_nodes in
+    let turn : Turn = record { mode = mode; first = c.inputs.first; number = c.inputs.number } in
     let old = map (λ out. g.W.Write.contents (inner out)) c.args.outs.now in
     let after = map (λ out. g.W.Write.contents (inner out)) c.inputs.outs in
     let all : into_iter_items c.into_iter-input-iterator.result ≡ c.args.inputs.items = search rules in
     let ended : into_iter_items c.inputs.input-iterator ≡ [] =
     none_left (into_iter_items c.inputs.input-iterator) (search rules) in
-    subst (λ items. SplitsInTurn mode None 0 (map (λ input. g.R.Read.remaining input) items) old after) all
+    subst (λ items. SplitsInTurn (first_turn mode) (map (λ input. g.R.Read.remaining input) items) (update old after))
+    all
     (c.inputs.invariant.0 after
-    (subst (λ items. SplitsInTurn mode c.inputs.first c.inputs.number
-    (map (λ input. g.R.Read.remaining input) items) after after) (sym ended) refl))
+    (subst (λ items. SplitsInTurn turn (map (λ input. g.R.Read.remaining input) items) (update after after)) (sym ended)
+    refl))
 
 pub returns-in_err-prefix-clause-stopped : goal.returns-in_err-prefix-clause-stopped
 returns-in_err-prefix-clause-stopped g c =
     let mode = c.args.blank_nodes in
+    let turn : Turn = record { mode = mode; first = c.inputs.first; number = c.inputs.number } in
     let old = map (λ out. g.W.Write.contents (inner out)) c.args.outs.now in
     let before = map (λ out. g.W.Write.contents (inner out)) c.inputs.outs in
     let all : into_iter_items c.into_iter-input-iterator.result ≡ c.args.inputs.items = search rules in
@@ -99,7 +104,8 @@ returns-in_err-prefix-clause-stopped g c =
     search rules in
     let p = err_from_is_err_and c.from_residual.result c.from_residual.ensures.1 in
     rw (p.1, p.2)
-    (subst (λ items. StopsInTurn mode None 0 (map (λ input. g.R.Read.remaining input) items) old before OutOfMemory) all
+    (subst (λ items. StopsInTurn (first_turn mode) (map (λ input. g.R.Read.remaining input) items) (update old before)
+    OutOfMemory) all
     (c.inputs.invariant.1 before OutOfMemory
-    (subst (λ items. StopsInTurn mode c.inputs.first c.inputs.number
-    (map (λ input. g.R.Read.remaining input) items) before before OutOfMemory) (sym here) (inl refl))))
+    (subst (λ items. StopsInTurn turn (map (λ input. g.R.Read.remaining input) items) (update before before)
+    OutOfMemory) (sym here) (inl refl))))

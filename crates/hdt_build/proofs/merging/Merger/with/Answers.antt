@@ -19,13 +19,13 @@ invariant_of-result c =
     let before = c.self.invariant in
     let found = c.in_ok-indices.ensures in
     let is = graph_added g c.is_graph.ensures c.append_graph.new.terms c.in_ok-indices.indices found.maps old.strings
-    old.ids.items found.list before.sound in
-    rw c.in_ok-extend_with_graph.ensures (record {
-      sound = joined_within old.strings c.append_graph.new.terms found.list old.ids.items before.sound
+    old.ids found.list before.sound in
+    rw c.in_ok-append_triples.ensures (record {
+      sound = joined_within old.strings c.append_graph.new.terms found.list old.ids before.sound
           (map (with_new_ids c.in_ok-indices.indices) g.triples)
           (mapped_within g c.is_graph.ensures c.append_graph.new.terms c.in_ok-indices.indices found.maps);
       texts = subst HasDictionaryStrings (sym is)
-          (joined_texts (string_triples_of old.strings old.ids.items) (denoted_by g) before.texts
+          (joined_texts (string_triples_of old.strings old.ids) (denoted_by g) before.texts
           (denoted_texts g c.is_graph.ensures));
     })
 
@@ -35,8 +35,8 @@ returns-clause-added c =
     let old = c.self.inside in
     let found = c.in_ok-indices.ensures in
     let is = graph_added g c.is_graph.ensures c.append_graph.new.terms c.in_ok-indices.indices found.maps old.strings
-    old.ids.items found.list c.self.invariant.sound in
-    rw c.in_ok-extend_with_graph.ensures
+    old.ids found.list c.self.invariant.sound in
+    rw c.in_ok-append_triples.ensures
     (is ∙ ap (λ (ts : List StringTriple). ts ++ denoted_by g) c.self.view_is)
 
 pub returns-clause-some : goal.returns-clause-some
@@ -45,11 +45,11 @@ returns-clause-some c =
     let old = c.self.inside in
     let found = c.in_ok-indices.ensures in
     let is = graph_added g c.is_graph.ensures c.append_graph.new.terms c.in_ok-indices.indices found.maps old.strings
-    old.ids.items found.list c.self.invariant.sound in
-    rw c.in_ok-extend_with_graph.ensures
+    old.ids found.list c.self.invariant.sound in
+    rw c.in_ok-append_triples.ensures
     (omega (
       arith,
       ap length is,
-      length-append (string_triples_of old.strings old.ids.items) (denoted_by g),
+      length-append (string_triples_of old.strings old.ids) (denoted_by g),
       some_denoted g c.is_graph.ensures,
     ))

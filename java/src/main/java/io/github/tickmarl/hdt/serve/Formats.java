@@ -2,6 +2,7 @@ package io.github.tickmarl.hdt.serve;
 
 import java.util.LinkedHashMap;
 import java.util.Map;
+import java.util.regex.Pattern;
 import org.apache.jena.riot.Lang;
 import org.apache.jena.riot.resultset.ResultSetLang;
 
@@ -15,6 +16,8 @@ final class Formats {
     static final Map<String, Lang> GRAPHS = new LinkedHashMap<>();
 
     private static final int MOST = 100; // media types of a header that are looked at
+    private static final Pattern SEMICOLON = Pattern.compile("\\s*;\\s*");
+    private static final Pattern Q = Pattern.compile("[qQ]=(0(\\.\\d{0,3})?|1(\\.0{0,3})?)");
 
     static {
         ROWS.put("application/sparql-results+json", ResultSetLang.RS_JSON);
@@ -53,7 +56,7 @@ final class Formats {
         double quality = 0;
         int specific = -1;
         for (String range : accept.split(",", MOST)) {
-            String[] parts = range.trim().split("\\s*;\\s*", 20);
+            String[] parts = SEMICOLON.split(range.trim(), 20);
             String name = parts[0].toLowerCase(java.util.Locale.ROOT);
             boolean isKind = name.endsWith("/*") && type.startsWith(name.substring(0, name.length() - 1));
             int rank = name.equals(type) ? 2 : isKind ? 1 : name.equals("*/*") ? 0 : -1;
@@ -67,7 +70,7 @@ final class Formats {
 
     private static double q(String[] parts) {
         for (String part : parts) {
-            if (part.matches("[qQ]=(0(\\.\\d{0,3})?|1(\\.0{0,3})?)")) {
+            if (Q.matcher(part).matches()) {
                 return Double.parseDouble(part.substring(2));
             }
         }

@@ -1,7 +1,0 @@
-use Rattle.std.proofs.Common.{ℕ, List, [], ap}
-use Rattle.hdt_build.specs.Inside.FrontCoding.{coded_strings}
-use Rattle.hdt_build.proofs.front_coded.FrontCoded.new.Goals as goal
-
-pub returns : goal.returns
-unfolding coded_strings
-returns c = ap (λ (k : List ℕ). coded_strings [] k c.in_ok-new.field-0) c.new.ensures.items
