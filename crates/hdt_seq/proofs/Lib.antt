@@ -1,4 +1,5 @@
 mod Reading
+pub mod SequenceWriting
 mod BitReading
 mod LoadedBits
 mod OnesOfWords

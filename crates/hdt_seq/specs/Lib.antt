@@ -1,5 +1,6 @@
 pub mod PackedBits
 pub mod Sequence
+pub mod SequenceWriting
 pub mod Numbers
 pub mod Bits
 pub mod Width

@@ -28,6 +28,7 @@ mod checks;
 mod directory;
 mod numbers;
 mod packing;
+mod sequence_writer;
 mod writing;
 
 pub use bits::{Bits, Steps};
@@ -35,4 +36,5 @@ pub use checks::{byte_at, crc8_at, packed_at};
 pub use directory::{Directory, rank_select_inverse};
 pub use numbers::Numbers;
 pub use packing::width_of;
+pub use sequence_writer::SequenceWriter;
 pub use writing::{bits_round_trip, numbers_round_trip, put_bits, put_numbers};

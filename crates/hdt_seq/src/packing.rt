@@ -13,13 +13,13 @@ use std::alloc::AllocError;
 
 /// Pending bits: fewer than 64, as the lowest bits of a word.
 #[derive(Drop)]
-struct PendingBits {
-    word: u128,
-    filled: u8,
+pub(crate) struct PendingBits {
+    pub(crate) word: u128,
+    pub(crate) filled: u8,
 }
 
 /// Appends the lowest bytes of a word, little-endian. If memory runs out, `out` is unchanged.
-fn append_bytes(word: u128, count: u8, out: &mut Vec<u8>) -> Result<(), AllocError>
+pub(crate) fn append_bytes(word: u128, count: u8, out: &mut Vec<u8>) -> Result<(), AllocError>
     requires { count ≤ 16 }
     ensures ok { OnOk result (out.new.items ≡ out.old.items ++ little_bytes count word) }
     ensures err { OnErr result (out.new.items ≡ out.old.items) }
@@ -33,7 +33,7 @@ fn append_bytes(word: u128, count: u8, out: &mut Vec<u8>) -> Result<(), AllocErr
 }
 
 /// Adds an entry to the pending bits; 64 bits are appended as eight bytes.
-fn append_entry(
+pub(crate) fn append_entry(
     rest: &mut PendingBits,
     entry: u64,
     width: u8,
@@ -49,6 +49,8 @@ fn append_entry(
         ≡ out.old.items ++ little_bytes (8 * ((rest.old.filled + width) / 64))
         (rest.old.word + entry * 2 ^ rest.old.filled)) }
     ensures err { OnErr result (out.new.items ≡ out.old.items) }
+    ensures still { rest.new.filled < 64 }
+    ensures below { entry < 2 ^ width → rest.new.word < 2 ^ rest.new.filled }
 {
     let word = rest.word + (u128::from(entry) << rest.filled);
     let filled = rest.filled + width;

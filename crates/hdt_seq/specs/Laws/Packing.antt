@@ -283,6 +283,34 @@ Packs-more width xs word filled before out x h =
       ) (append_assoc before (little_bytes k v) (little_bytes m (word + x * 2 ^ filled)));
     }
 
+-- the word after one entry more has no more bits than `filled`
+pub small_next : (word filled width x : ℕ) → word < 2 ^ filled → x < 2 ^ width
+    → (word + x * 2 ^ filled) / 2 ^ (8 * (8 * ((filled + width) / 64))) < 2 ^ ((filled + width) % 64)
+small_next word filled width x a b =
+    let n : ℕ = filled + width in
+    let split : n ≡ n % 64 + 8 * (8 * (n / 64)) = omega arith in
+    let some : x + 1 ≤ 2 ^ width = omega (arith, b) in
+    let wide : 2 ^ n ≡ 2 ^ filled * 2 ^ width = pow-add 2 filled width in
+    let high : (x + 1) * 2 ^ filled ≤ 2 ^ filled * 2 ^ width =
+    omega (arith, mul-le-mul_left (2 ^ filled) some, mul_comm (x + 1) (2 ^ filled)) in
+    let one : (x + 1) * 2 ^ filled ≡ x * 2 ^ filled + 2 ^ filled = omega arith in
+    let below : word + x * 2 ^ filled < 2 ^ n = rw wide (omega (arith, a, high, one)) in
+    shr_below (word + x * 2 ^ filled) (n % 64) (8 * (8 * (n / 64)))
+    (subst (λ (m : ℕ). word + x * 2 ^ filled < 2 ^ m) split below)
+
+-- the same, of a word of 128 bits
+pub small_next_word : (word filled width x y : ℕ) → y ≡ x → x < 2 ^ 64 → filled < 64 → word < 2 ^ filled
+    → x < 2 ^ width
+    → (word + y * 2 ^ filled % 2 ^ 128) / 2 ^ (8 * (8 * ((filled + width) / 64))) < 2 ^ ((filled + width) % 64)
+small_next_word word filled width x y is few lt small fits =
+    let at : filled ≤ 64 = omega (arith, lt) in
+    let room : 2 ^ filled ≤ 2 ^ 64 = pow-le-pow_right (omega arith) at in
+    let below : x * 2 ^ filled < 2 ^ 64 * 2 ^ 64 =
+    omega (arith, few, mul-le-mul_left x room, mul_comm x (2 ^ filled), mul_comm x (2 ^ 64)) in
+    let same : y * 2 ^ filled % 2 ^ 128 ≡ x * 2 ^ filled =
+    ap (λ (v : ℕ). v * 2 ^ filled % 2 ^ 128) is ∙ mod-eq_of_lt (omega (arith, below)) in
+    rw same (small_next word filled width x small fits)
+
 -- appending the remaining bytes completes the packed bytes
 pub Packs-all : (width : ℕ) (xs : List ℕ) (word filled : ℕ) (before out : List ℕ)
     → Packs width xs word filled before out
