@@ -11,6 +11,7 @@ pub mod Order
 pub mod GraphIndices
 pub mod IndexTriples
 pub mod PackedTriples
+pub mod PackedNumbers
 pub mod PackedStrings
 pub mod MergedTriples
 pub mod MergedSequences

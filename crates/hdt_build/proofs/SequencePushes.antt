@@ -148,11 +148,11 @@ second p = p.1
 -- ---- one more triple
 
 module _ (ts : List Triple) (t : Triple) (before after : TripleSequences) (pushed : AreSequencesOf ts before)
-    (object : after.array_z.items ≡ before.array_z.items ++ t.2 ∷ []) (last : after.last ≡ (t.0, t.1)) where
+    (object : after.array_z ≡ before.array_z ++ t.2 ∷ []) (last : after.last ≡ (t.0, t.1)) where
   pairs_more : all_pairs (ts ++ t ∷ []) ≡ all_pairs ts ++ (t.0, t.1) ∷ []
   pairs_more = map-append pair_of ts (t ∷ [])
 
-  objects_are : after.array_z.items ≡ map (λ t. t.2) (ts ++ t ∷ [])
+  objects_are : after.array_z ≡ map (λ t. t.2) (ts ++ t ∷ [])
   objects_are = object ∙ ap (λ (os : List ℕ). os ++ t.2 ∷ []) pushed.array_z
       ∙ sym (map-append (λ (u : Triple). u.2) ts (t ∷ []))
 
@@ -180,7 +180,7 @@ module _ (ts : List Triple) (t : Triple) (before after : TripleSequences) (pushe
     -- a triple of the last pair
     pub same_pushed : true ≡ pair_eq (t.0, t.1) before.last
         → after.bitmap_z.items ≡ with_bit true before.bitmap_z.items
-        → after.bitmap_y.items ≡ before.bitmap_y.items → after.array_y.items ≡ before.array_y.items
+        → after.bitmap_y.items ≡ before.bitmap_y.items → after.array_y ≡ before.array_y
         → AreSequencesOf (ts ++ t ∷ []) after
     same_pushed is bits marks predicates =
         let d = distinct_are true is bits in
@@ -196,7 +196,7 @@ module _ (ts : List Triple) (t : Triple) (before after : TripleSequences) (pushe
     pub other_pushed : (s : Bool) → false ≡ pair_eq (t.0, t.1) before.last → s ≡ nat_eq t.0 before.last.0
         → after.bitmap_z.items ≡ with_bit false before.bitmap_z.items
         → after.bitmap_y.items ≡ with_bit s before.bitmap_y.items
-        → after.array_y.items ≡ before.array_y.items ++ t.1 ∷ [] → AreSequencesOf (ts ++ t ∷ []) after
+        → after.array_y ≡ before.array_y ++ t.1 ∷ [] → AreSequencesOf (ts ++ t ∷ []) after
     other_pushed s is same bits marks predicates =
         let d = distinct_are false is bits in
         let ps = distinct_pairs ts in
@@ -221,8 +221,8 @@ module _ (ts : List Triple) (t : Triple) (before after : TripleSequences) (pushe
 pub first_pushed : (t : Triple) (before after : TripleSequences) → AreSequencesOf [] before
     → after.bitmap_z.items ≡ with_bit false before.bitmap_z.items
     → after.bitmap_y.items ≡ with_bit false before.bitmap_y.items
-    → after.array_y.items ≡ before.array_y.items ++ t.1 ∷ []
-    → after.array_z.items ≡ before.array_z.items ++ t.2 ∷ [] → after.last ≡ (t.0, t.1) → AreSequencesOf (t ∷ []) after
+    → after.array_y ≡ before.array_y ++ t.1 ∷ []
+    → after.array_z ≡ before.array_z ++ t.2 ∷ [] → after.last ≡ (t.0, t.1) → AreSequencesOf (t ∷ []) after
 first_pushed t before after h bits marks predicates objects last = record {
   bitmap_y = marks ∙ ap (with_bit false) h.bitmap_y;
   bitmap_z = bits ∙ ap (with_bit false) h.bitmap_z;
@@ -265,7 +265,7 @@ some_bits : {X : Type 0} (same : X → X → Bool) (xs : List X) → 0 < length 
 some_bits same [] some = absurd (omega arith)
 some_bits same (x ∷ xs) some = omega (arith, length_bits same x xs)
 
-pub many : (ts : List Triple) (made : TripleSequences) → AreSequencesOf ts made → length ts ≡ length made.array_z.items
+pub many : (ts : List Triple) (made : TripleSequences) → AreSequencesOf ts made → length ts ≡ length made.array_z
 many ts made h = sym (ap (λ (os : List ℕ). length os) h.array_z ∙ length-map ts (λ (t : Triple). t.2))
 
 pub some_z : (ts : List Triple) (made : TripleSequences) → AreSequencesOf ts made → 0 < length ts
@@ -284,18 +284,18 @@ some_y ts made h some =
 -- ---- what `push` does
 
 some_before : (u : Triple) (us : List Triple) (before : TripleSequences) → AreSequencesOf (u ∷ us) before
-    → 0 < length before.array_z.items
+    → 0 < length before.array_z
 some_before u us before h = omega (arith, ap (λ (os : List ℕ). length os) h.array_z)
 
-none_before : (before : TripleSequences) → AreSequencesOf [] before → length before.array_z.items ≡ 0
+none_before : (before : TripleSequences) → AreSequencesOf [] before → length before.array_z ≡ 0
 none_before before h = ap (λ (os : List ℕ). length os) h.array_z
 
 pub pushed_same : (ts : List Triple) (t : Triple) (before after : TripleSequences) (b : Bool) → b ≡ true
-    → (length before.array_z.items ≡ 0 → b ≡ false)
-    → (0 < length before.array_z.items → b ≡ pair_eq (t.0, t.1) before.last)
-    → after.array_z.items ≡ before.array_z.items ++ t.2 ∷ [] → after.last ≡ (t.0, t.1)
+    → (length before.array_z ≡ 0 → b ≡ false)
+    → (0 < length before.array_z → b ≡ pair_eq (t.0, t.1) before.last)
+    → after.array_z ≡ before.array_z ++ t.2 ∷ [] → after.last ≡ (t.0, t.1)
     → after.bitmap_z.items ≡ with_bit b before.bitmap_z.items
-    → after.bitmap_y.items ≡ before.bitmap_y.items → after.array_y.items ≡ before.array_y.items
+    → after.bitmap_y.items ≡ before.bitmap_y.items → after.array_y ≡ before.array_y
     → AreSequencesOf ts before → AreSequencesOf (ts ++ t ∷ []) after
 pushed_same ts t before after false is none some objects last bits marks predicates h = absurd cc
 pushed_same [] t before after true is none some objects last bits marks predicates h =
@@ -307,20 +307,20 @@ pushed_same (u ∷ us) t before after true is none some objects last bits marks 
 first_by : (t : Triple) (before after : TripleSequences) (s : Bool) → s ≡ false → AreSequencesOf [] before
     → after.bitmap_z.items ≡ with_bit false before.bitmap_z.items
     → after.bitmap_y.items ≡ with_bit s before.bitmap_y.items
-    → after.array_y.items ≡ before.array_y.items ++ t.1 ∷ []
-    → after.array_z.items ≡ before.array_z.items ++ t.2 ∷ [] → after.last ≡ (t.0, t.1) → AreSequencesOf (t ∷ []) after
+    → after.array_y ≡ before.array_y ++ t.1 ∷ []
+    → after.array_z ≡ before.array_z ++ t.2 ∷ [] → after.last ≡ (t.0, t.1) → AreSequencesOf (t ∷ []) after
 first_by t before after true is h bits marks predicates objects last = absurd cc
 first_by t before after false is h bits marks predicates objects last =
     first_pushed t before after h bits marks predicates objects last
 
 pub pushed_other : (ts : List Triple) (t : Triple) (before after : TripleSequences) (b s : Bool) → b ≡ false
-    → (0 < length before.array_z.items → b ≡ pair_eq (t.0, t.1) before.last)
-    → (length before.array_z.items ≡ 0 → s ≡ false)
-    → (0 < length before.array_z.items → s ≡ nat_eq t.0 before.last.0)
-    → after.array_z.items ≡ before.array_z.items ++ t.2 ∷ [] → after.last ≡ (t.0, t.1)
+    → (0 < length before.array_z → b ≡ pair_eq (t.0, t.1) before.last)
+    → (length before.array_z ≡ 0 → s ≡ false)
+    → (0 < length before.array_z → s ≡ nat_eq t.0 before.last.0)
+    → after.array_z ≡ before.array_z ++ t.2 ∷ [] → after.last ≡ (t.0, t.1)
     → after.bitmap_z.items ≡ with_bit b before.bitmap_z.items
     → after.bitmap_y.items ≡ with_bit s before.bitmap_y.items
-    → after.array_y.items ≡ before.array_y.items ++ t.1 ∷ []
+    → after.array_y ≡ before.array_y ++ t.1 ∷ []
     → AreSequencesOf ts before → AreSequencesOf (ts ++ t ∷ []) after
 pushed_other ts t before after true s is some none same objects last bits marks predicates h = absurd cc
 pushed_other [] t before after false s is some none same objects last bits marks predicates h =

@@ -6,4 +6,5 @@ pub mod PackedStrings
 pub mod Sequences
 pub mod Comparing
 pub mod PackedTriples
+pub mod PackedNumbers
 pub mod TripleRuns

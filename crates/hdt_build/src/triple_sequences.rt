@@ -5,9 +5,10 @@ ghost use Rattle.hdt_triples.specs.TripleSequences.{Triple};
 ghost use Rattle.hdt_triples.specs.Writing.{canonical_sequences, pair_eq};
 ghost use Rattle.hdt_build.specs.Inside.Sequences.{AreSequencesOf, sequences_in, with_bit};
 
+use crate::packed_numbers::PackedNumbers;
 use crate::packed_triples::PackedTriples;
 use hdt_file::Layout;
-use hdt_seq::{put_bits, put_numbers};
+use hdt_seq::put_bits;
 use hdt_triples::Pattern;
 use hdt_wire::{Kind, put_control};
 use std::alloc::{AllocError, Global};
@@ -19,8 +20,8 @@ const ANY: Pattern = Pattern {
     o: None,
 };
 
-/// The sequences of the triples so far. It holds 9 bytes for each triple, and 9 for each pair of a subject and a
-/// predicate.
+/// The sequences of the triples so far. For each triple they take the VByte of its object and a byte, and for each pair
+/// of a subject and a predicate the VByte of its predicate and a byte.
 #[derive(Drop)]
 pub(crate) struct TripleSequences {
     /// A 1-bit for each pair that is the last of its subject.
@@ -28,9 +29,9 @@ pub(crate) struct TripleSequences {
     /// A 1-bit for each triple that is the last of its pair.
     bitmap_z: Vec<bool>,
     /// The predicates of the pairs.
-    array_y: Vec<u64>,
+    array_y: PackedNumbers,
     /// The objects of the triples.
-    array_z: Vec<u64>,
+    array_z: PackedNumbers,
     /// The subject and the predicate of the last triple.
     last: (u64, u64),
 }
@@ -50,38 +51,38 @@ fn push_bit(bits: &mut Vec<bool>, same: bool) -> Result<(), AllocError>
 impl TripleSequences {
     ghost use Rattle.hdt_triples.specs.TripleSequences.{Triple};
 
-    /// The sequences of no triples, with room for so many.
+    /// The sequences of no triples, whose bitmaps have room for so many.
     pub(crate) fn with_capacity(alloc: Global, count: usize) -> Result<TripleSequences, AllocError>
         ensures { IfOk result (AreSequencesOf []) }
     {
         Ok(TripleSequences {
             bitmap_y: Vec::with_capacity(alloc, count)?,
             bitmap_z: Vec::with_capacity(alloc, count)?,
-            array_y: Vec::with_capacity(alloc, count)?,
-            array_z: Vec::with_capacity(alloc, count)?,
+            array_y: PackedNumbers::new(alloc),
+            array_z: PackedNumbers::new(alloc),
             last: (0, 0),
         })
     }
 
     /// The number of triples.
     pub(crate) fn len(&self) -> usize
-        ensures { result ≡ length self.now.array_z.items }
+        ensures { result ≡ length self.now.array_z }
     {
         self.array_z.len()
     }
 
     /// Whether the last triple has this subject.
     fn has_subject(&self, subject: u64) -> bool
-        ensures none { length self.now.array_z.items ≡ 0 → result ≡ false }
-        ensures some { 0 < length self.now.array_z.items → result ≡ nat_eq subject self.now.last.0 }
+        ensures none { length self.now.array_z ≡ 0 → result ≡ false }
+        ensures some { 0 < length self.now.array_z → result ≡ nat_eq subject self.now.last.0 }
     {
-        !self.array_z.is_empty() && subject == self.last.0
+        self.array_z.len() > 0 && subject == self.last.0
     }
 
     /// Whether the last triple has this subject and this predicate.
     fn has_pair(&self, subject: u64, predicate: u64) -> bool
-        ensures none { length self.now.array_z.items ≡ 0 → result ≡ false }
-        ensures some { 0 < length self.now.array_z.items → result ≡ pair_eq (subject, predicate) self.now.last }
+        ensures none { length self.now.array_z ≡ 0 → result ≡ false }
+        ensures some { 0 < length self.now.array_z → result ≡ pair_eq (subject, predicate) self.now.last }
     {
         self.has_subject(subject) && predicate == self.last.1
     }
@@ -123,10 +124,9 @@ impl TripleSequences {
         drop(bitmap_y);
         put_bits(bitmap_z.as_slice(), out)?;
         drop(bitmap_z);
-        put_numbers(array_y.as_slice(), out)?;
+        array_y.put(out)?;
         drop(array_y);
-        put_numbers(array_z.as_slice(), out)?;
-        Ok(())
+        array_z.put(out)
     }
 }
 

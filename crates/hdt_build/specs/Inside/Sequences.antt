@@ -20,17 +20,16 @@ abbrev pub sequences_in : TripleSequences → BitmapTriples
 sequences_in made = record {
   bitmap_y = made.bitmap_y.items;
   bitmap_z = made.bitmap_z.items;
-  array_y =
-      made.array_y.items;
-  array_z = made.array_z.items;
+  array_y = made.array_y;
+  array_z = made.array_z;
 }
 
 -- the sequences are those of the triples, and the last pair is that of the last triple
 pub record AreSequencesOf (ts : List Triple) (made : TripleSequences) : Type 0 where
   pub bitmap_y : made.bitmap_y.items ≡ group_end_bits nat_eq (map (λ p. p.0) (distinct_pairs ts))
   pub bitmap_z : made.bitmap_z.items ≡ group_end_bits pair_eq (all_pairs ts)
-  pub array_y : made.array_y.items ≡ map (λ p. p.1) (distinct_pairs ts)
-  pub array_z : made.array_z.items ≡ map (λ t. t.2) ts
+  pub array_y : made.array_y ≡ map (λ p. p.1) (distinct_pairs ts)
+  pub array_z : made.array_z ≡ map (λ t. t.2) ts
   pub last : made.last ≡ last_or (0, 0) (all_pairs ts)
 
 -- the sequences have all triples but the remaining ones

@@ -1,4 +1,5 @@
 use Rattle.std.proofs.Common.{◌≡◌, ◌++◌, List, ℕ, append_assoc, ap, ◌∙◌}
+use Rattle.std.proofs.lemmas.Result.{on_ok_weaker}
 use Rattle.hdt_wire.specs.declared.control.Kind.TheVariants as kinds
 use Rattle.hdt_wire.specs.Control.{control}
 use Rattle.hdt_seq.specs.Numbers.{numbers_encoding}
@@ -21,13 +22,12 @@ returns c =
     let made = c.args.self in
     let a = ap (λ l. c.put_control.new.out.items ++ bits_encoding l) c.as_slice.ensures.value in
     let b = ap (λ l. c.put_bits.new.out.items ++ bits_encoding l) c.as_slice-2.ensures.value in
-    let y = ap (λ l. c.put_bits-2.new.out.items ++ numbers_encoding l) c.as_slice-3.ensures.value in
-    let z = ap (λ l. c.put_numbers.new.out.items ++ numbers_encoding l) c.as_slice-4.ensures.value in
     let r1 = more old _ _ _ _ c.in_ok-put_control.ensures.ok (c.in_ok-put_bits.ensures.ok ∙ a) in
     let r2 = more old _ _ _ _ r1 (c.in_ok-put_bits-2.ensures.ok ∙ b) in
-    let r3 = more old _ _ _ _ r2 (c.in_ok-put_numbers.ensures.ok ∙ y) in
-    more old _ _ _ _ r3 (c.in_ok-put_numbers-2.ensures.ok ∙ z)
+    let r3 = more old _ _ _ _ r2 c.in_ok-put.ensures in
+    on_ok_weaker c.put-2.result (λ e. more old _ _ _ _ r3 e
     ∙ ap (λ (l : List ℕ). old
     ++ l) (regrouped (control kinds.Triples order_property) (bits_encoding made.bitmap_y.items)
-    (bits_encoding made.bitmap_z.items) (numbers_encoding made.array_y.items)
-    (numbers_encoding made.array_z.items))
+    (bits_encoding made.bitmap_z.items) (numbers_encoding made.array_y)
+    (numbers_encoding made.array_z)))
+    c.put-2.ensures
