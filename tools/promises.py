@@ -58,7 +58,7 @@ def rows_of(text: str) -> Iterator[tuple[str, list[str]]]:
 def exported(texts: contracts.Texts) -> set[str]:
     """Return the functions that a library exports, also to C and constant ones."""
     library = contracts.exported(texts) is not None
-    return {it.name for it in contracts.functions(texts) if library and it.is_exported} - {""}
+    return {it.name.split("::")[-1] for it in contracts.functions(texts) if library and it.is_exported}
 
 
 # A case: whether it holds, and what is wrong otherwise.
