@@ -110,15 +110,16 @@ def main() -> int:
     """Compare; return the exit status."""
     words = command_line("contracts", __doc__)
     words.add_argument("revision", metavar="REVISION", help="the earlier commit")
-    archive = ["git", "-C", str(TOP), "archive", words.parse_args().revision, "crates"]
+    words.add_argument("--top", type=Path, default=TOP, metavar="DIR", help="the repository (this one)")
+    given = words.parse_args()
+    archive = ["git", "-C", str(given.top), "archive", given.revision, "crates"]
     with tempfile.TemporaryDirectory() as folder:
         data = subprocess.run(archive, check=True, stdout=subprocess.PIPE).stdout
         subprocess.run(["tar", "-x", "-C", folder], input=data, check=True)
-        crates = [sorted((top / "crates").iterdir()) for top in (Path(folder), TOP)]
+        crates = [sorted((top / "crates").iterdir()) for top in (Path(folder), given.top)]
         old, new = (dict(it for crate in some for it in contracts(sources(crate))) for some in crates)
     found = list(differences(old, new))
-    print("\n".join(found))
-    print(f"{len(new)} functions, {len(found)} differences")
+    print(*found, f"{len(new)} functions, {len(found)} differences", sep="\n")
     return int(bool(found))
 
 
