@@ -29,7 +29,7 @@ prove:
 	@$(PYTHON) -B -m tools.gate
 
 dist: build
-	@$(PYTHON) -B -m tools.dist
+	@$(PYTHON) -B -m tools.build --dist
 
 install:
 	@tools/install

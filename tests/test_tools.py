@@ -1,64 +1,38 @@
-"""The commands in `tools/`, and what checks the scripts and the packages: mypy, flake8, shellcheck."""
+"""The commands in `tools/`, the launcher `hdt`, and what checks scripts and packages: mypy, flake8, shellcheck."""
 
 from __future__ import annotations
 
 import re
 import shutil
-import sys
 from pathlib import Path
 
 import pytest
 
 from support.built import PROGRAM as BUILT_PROGRAM, SAMPLES, SHARED_LIBRARY, TOP
-from support.program import Result, run
-from support.tools import tool
+from support.program import Result, failed, run
+from support.tools import tool, write
 
 MODULES = sorted(it.stem for it in (TOP / "tools").glob("*.py") if "__main__" in it.read_text())
 SCRIPTS = ["hdt", "test", "tools/current", "tools/install", "tools/package", ".ci/run"]
 FOLDERS = ["tools", "python", "reference", "tests"]
+CHECKS = [*(["shellcheck", "-s", "sh", it] for it in SCRIPTS), ["flake8", "--extend-exclude=build", *FOLDERS]]
+TYPES = pytest.param(["mypy", "--strict", "--no-error-summary", "--exclude=/build/", *FOLDERS], marks=pytest.mark.slow)
 
 
 @pytest.mark.parametrize("name", MODULES)
 def test_help(name: str) -> None:
-    """`--help` says how the command is called and what it is for, in lines of 120 columns."""
+    """`--help` says how the command is called."""
     status, out, err = tool(name, "--help")
-    assert (status, err) == (0, b"")
-    assert out.decode().startswith(f"usage: python3 -m tools.{name} [-h]")
-    assert [it for it in out.decode().splitlines() if len(it) > 120] == []
+    assert (status, out.startswith(f"usage: python3 -m tools.{name} [-h]".encode()), err) == (0, True, b"")
 
 
-def found(*words: str | Path) -> list[str]:
-    """Return what a check of Python files says, without what it says of all together."""
-    ran = run([*words], cwd=TOP, env={"MYPYPATH": "python"}, seconds=600)
-    lines = (ran.out + ran.err).decode().splitlines()
-    return [it for it in lines if not it.startswith(("Found ", "Success: "))]
-
-
-def python_files(*folders: str) -> list[Path]:
-    """Return the Python files in these folders, without those that are made."""
-    files = (it.relative_to(TOP) for folder in folders for it in (TOP / folder).rglob("*.py"))
-    return sorted(it for it in files if "build" not in it.parts)
-
-
-@pytest.mark.parametrize("script", SCRIPTS)
-@pytest.mark.skipif(not shutil.which("shellcheck"), reason="there is no shellcheck")
-def test_shellcheck(script: str) -> None:
-    """Shell scripts are clean, and for any POSIX shell."""
-    assert run(["shellcheck", "-s", "sh", TOP / script]) == Result(0, b"", b"")
-
-
-@pytest.mark.skipif(not shutil.which("flake8"), reason="there is no flake8")
-@pytest.mark.parametrize("folder", FOLDERS)
-def test_flake8(folder: str) -> None:
-    """Python files are clean."""
-    assert found("flake8", *python_files(folder)) == []
-
-
-@pytest.mark.slow
-@pytest.mark.skipif(not shutil.which("mypy"), reason="there is no mypy")
-def test_mypy(tmp_path: Path) -> None:
-    """Python files have the types that they say."""
-    assert found("mypy", "--strict", "--cache-dir", tmp_path, *python_files(*FOLDERS)) == []
+@pytest.mark.parametrize("words", [*CHECKS, TYPES], ids=" ".join)
+def test_clean(tmp_path: Path, words: list[str]) -> None:
+    """Scripts are clean and for any POSIX shell, Python files are clean and have the types that they say."""
+    if not shutil.which(words[0]):
+        pytest.skip(f"there is no {words[0]}")
+    env = {"MYPYPATH": "python", "MYPY_CACHE_DIR": str(tmp_path)}
+    assert run(words, cwd=TOP, env=env, seconds=600) == Result(0, b"", b"")
 
 
 PRIVATE = re.compile(r"^ *(?:from|import) hdt\.([a-z]\w*)(?:\.| import )_[a-z]\w*", re.M)
@@ -101,80 +75,125 @@ done
 """,
     "bin/rattle": '#!/bin/sh\nwhile [ "$1" != -o ]; do shift; done\necho library >"$2"\n',
 }
+# The program says which folder it is in, its input and its arguments.
 TREE = {
+    "hdt": (TOP / "hdt").read_text(),
     "crates.txt": "hdt:\nhdt_c staticlib:\n",
-    "crates/hdt/src/main.rt": "#!/bin/sh\necho the program: $1\n",
+    "crates/hdt/src/main.rt": """\
+#!/bin/sh
+folder=$(readlink -f "$0")
+folder=${folder%/*/*}
+echo ${folder##*/}: "$(cat) [$*]"
+exit 7
+""",
     "crates/hdt_c/src/lib.rt": "",
     "c/hdt.map": "{ global: hdt_*; local: *; };\n",
 }
-PROGRAM = Result(0, b"the program: word\n", b"")
+# What belongs to the sources, and files beside them that don't.
+SOURCES = ["c/hdt.map", "crates.txt", "crates/b/proofs/A.antt", "crates/hdt/specs/Lib.antt", "crates/hdt/src/a/lib.rt"]
+OTHERS = ["README.md", "crates/hdt/PROMISES.md", "crates/hdt/wrong/zero.edit", "crates/hdt/out/one.log"]
+FROM_SOURCE = "to build it from source, with the Rattle kit: make (see CONTRIBUTING.md)"
+CHANGED = failed(2, "the sources have changed since dist/ was made, and nothing is built from them: make")
 
 
 class Tree:
     """A small tree with all scripts, and a kit that makes files."""
 
     def __init__(self, folder: Path) -> None:
-        self.top, self.kit = folder / "tree", folder / "kit"
-        shutil.copytree(TOP / "tools", self.top / "tools", ignore=shutil.ignore_patterns("__pycache__"))
-        shutil.copy(TOP / "hdt", self.top)
-        for path, text in [*((self.top / it, TREE[it]) for it in TREE), *((self.kit / it, KIT[it]) for it in KIT)]:
-            path.parent.mkdir(parents=True, exist_ok=True)
-            path.write_text(text)
-            path.chmod(0o755)
+        self.top, self.kit = folder / "a tree", folder / "kit"
 
-    def tool(self, name: str, *words: str) -> Result:
+    def tool(self, words: str) -> Result:
         """Run a module of the tree's `tools`."""
-        path = {"PATH": f"{self.kit}/bin:/usr/bin:/bin"}
-        return run([sys.executable, "-B", "-m", f"tools.{name}", *words], cwd=self.top, env=path)
+        return tool(*words.split(), path=f"{self.kit}/bin:/usr/bin:/bin", top=self.top)
 
-    def hdt(self) -> Result:
-        """Run the launcher."""
-        return run([self.top / "hdt", "word"], cwd=self.top)
+    def hdt(self, command: str = "./hdt") -> Result:
+        """Run a command in the tree, the launcher; commands beside the tree come first on the path."""
+        env = {"PATH": f"{self.top.parent}:/usr/bin:/bin"}
+        return run(["sh", "-c", command], stdin=b"input", cwd=self.top, env=env)
+
+
+@pytest.fixture(scope="module")
+def shipped(tmp_path_factory: pytest.TempPathFactory) -> Path:
+    """A folder with a tree that is built and has its dist/, and with its kit."""
+    tree = Tree(tmp_path_factory.mktemp("shipped"))
+    write(tree.kit, KIT)
+    shutil.copytree(TOP / "tools", write(tree.top, TREE) / "tools", ignore=shutil.ignore_patterns("__pycache__"))
+    status, out, err = tree.tool("build")
+    assert (status, out) == (0, b""), err
+    assert b"hdt is proved, 1 of 2\n" in err and b"hdt_c was proved before, 2 of 2\n" in err
+    files = {it.name for it in (tree.top / "out/x86_64-linux-gnu").iterdir()}
+    assert files == {"hdt", "libhdt.a", "libhdt.so"}
+    assert tree.tool("build --dist") == Result(0, b"", b"hdt: made dist/x86_64-linux-gnu\n")
+    return tree.top.parent
 
 
 @pytest.fixture
-def tree(tmp_path: Path) -> Tree:
-    """A small tree and a kit that makes files."""
-    return Tree(tmp_path)
+def tree(tmp_path: Path, shipped: Path) -> Tree:
+    """Such a tree and kit."""
+    return Tree(shutil.copytree(shipped, tmp_path / "folder"))
 
 
-@pytest.mark.parametrize("words", ["build", "build --link", "dist", "gate", "gate link", "gate dist"])
+def runs(folder: str, words: str = "") -> Result:
+    """What the program of a folder does."""
+    return Result(7, f"{folder}: input [{words}]\n".encode(), b"")
+
+
+@pytest.mark.parametrize("words", ["build", "build --link", "build --dist", "gate", "gate link", "gate dist"])
 def test_without_kit(tree: Tree, words: str) -> None:
     """Where the kit, or what is built with it, is missing, a line says so, and nothing is built or shipped."""
-    shutil.rmtree(tree.kit)
-    status, out, err = tree.tool(*words.split())
+    for folder in (tree.kit, tree.top / "out", tree.top / "dist"):
+        shutil.rmtree(folder)
+    status, out, err = tree.tool(words)
     text = (out + err).decode()
     assert re.search("no Rattle kit|is not built|nothing is built|No such file or directory: '.*/MANIFEST'", text), text
     assert (status > 0, "Traceback" in text, list(tree.top.rglob("MANIFEST"))) == (True, False, [])
     assert not words.startswith("gate") or text.splitlines()[-1] == "0 passed, 1 failed"
 
 
-def test_build_and_dist(tree: Tree) -> None:
-    """What is built and shipped belongs to the sources, and is run; when they change, it is neither."""
-    status, out, err = tree.tool("build")
-    assert (status, out) == (0, b""), err
-    assert b"hdt is proved, 1 of 2\n" in err and b"hdt_c was proved before, 2 of 2\n" in err
-    files = {it.name for it in (tree.top / "out/x86_64-linux-gnu").iterdir()}
-    assert files == {"hdt", "libhdt.a", "libhdt.so"}
-    assert tree.hdt() == PROGRAM
-    assert tree.tool("dist") == Result(0, b"", b"hdt: made dist/x86_64-linux-gnu, with kit of files 1\n")
-    shutil.rmtree(tree.top / "out")
-    assert tree.hdt() == PROGRAM
-    (tree.top / "crates/hdt_c/src/lib.rt").write_text("// more\n")
-    assert tree.hdt().status == 2
-    assert tree.tool("build").status == 0 and tree.hdt() == PROGRAM
-    (tree.top / "crates/hdt/src/main.rt").write_text("#!/bin/sh\necho another program\n")
-    told = "hdt: nothing is built of the sources as they are: out/ does not belong to the sources: make\n"
-    assert tree.tool("dist") == Result(2, b"", told.encode())
-    assert tree.tool("build", "--link").status == 2  # (what was proved was of older sources)
-    assert tree.hdt().status == 2
+@pytest.mark.parametrize("changed", [*SOURCES, "crates/new/src/lib.rt"])
+def test_changed_sources(tree: Tree, changed: str) -> None:
+    """Nothing but what the sources of a manifest's checksum built runs, or is shipped. Other files don't count."""
+    write(tree.top, dict.fromkeys(OTHERS, ""))
+    assert tree.hdt() == runs("dist")
+    write(tree.top, {changed: TREE.get(changed, "") + "# more\n"})
+    assert (tree.hdt(), *(tree.tool(f"build {it}").status for it in ("--link", "--dist"))) == (CHANGED, 2, 2)
+    assert (tree.tool("build").status, tree.hdt()) == (0, runs("out"))
+    (tree.top / "out/x86_64-linux-gnu/hdt").unlink()
+    assert tree.hdt() == failed(2, f"missing or altered: out/x86_64-linux-gnu/hdt; {FROM_SOURCE}")
+    for folder in ("dist", "out"):
+        shutil.rmtree(tree.top / folder)
+    assert tree.hdt() == failed(2, "dist/MANIFEST is missing; to restore it: git checkout dist")
 
 
 def test_sources_that_change_during_the_proofs(tree: Tree) -> None:
     """Files do not belong to sources that are newer than the proofs that they come from."""
     (tree.kit / "edit").write_text("echo '// changed' >>crates/hdt/src/main.rt\n")
-    assert tree.tool("build").status == 2
-    assert tree.hdt().status == 2
+    assert (tree.tool("build").status, tree.hdt()) == (2, CHANGED)
+
+
+@pytest.mark.parametrize("has, is_enough", [("2.34", True), ("2.100", True), ("2.4", False), ("", False)])
+def test_other_machines(tree: Tree, has: str, is_enough: bool) -> None:
+    """The line says what the machine lacks: the version of glibc, the architecture, or, before, whole files."""
+    text = (tree.top / "dist/MANIFEST").read_text()
+    getconf = f"#!/bin/sh\n[ -n '{has}' ] && echo glibc {has}\n"
+    write(tree.top, {"dist/MANIFEST": text.replace("glibc 2.17", "glibc 2.34"), "../getconf": getconf})
+    line = f"the program needs glibc 2.34, and this machine has {has or 'none'}; {FROM_SOURCE}"
+    assert tree.hdt() == (runs("dist") if is_enough else failed(2, line))
+    write(tree.top, {"../uname": "#!/bin/sh\necho aarch64\n"})
+    assert tree.hdt() == failed(2, f"the program is for x86_64, and this machine is aarch64; {FROM_SOURCE}")
+    write(tree.top, {"dist/x86_64-linux-gnu/libhdt.so": "DIST"})
+    assert b"hdt: missing or altered: dist/x86_64-linux-gnu/libhdt.so; to restore it" in tree.hdt().err
+
+
+@pytest.mark.parametrize("command", ["./hdt", "sh hdt", "PATH=:$PATH hdt", "../bin/hdt", "CDPATH=/usr ./hdt"])
+def test_ways_to_call(tree: Tree, command: str) -> None:
+    """It runs the program of its own tree by every name, with a closed descriptor too, and leaves nothing."""
+    (tree.top.parent / "bin").mkdir()
+    (tree.top.parent / "bin/hdt").symlink_to(tree.top / "hdt")
+    before = sorted(tree.top.rglob("*"))
+    assert tree.hdt(f"{command} 'a  b' '*'") == runs("dist", "a  b *")
+    assert tree.hdt(f"{command} >&-").status == 7
+    assert sorted(tree.top.rglob("*")) == before
 
 
 SIGNED = 'sum=$(sha256sum <$f | cut -c1-64); sed -i "\\|$f|d" dist/MANIFEST; echo "file $sum 6 ${f#*/}" >>dist/MANIFEST'
@@ -192,19 +211,16 @@ DISTS: dict[str, list[str]] = {
 }
 
 
-def test_gate_of_dist(tree: Tree) -> None:
+@pytest.mark.parametrize("command", DISTS)
+def test_gate_of_dist(tree: Tree, command: str) -> None:
     """The gate compares dist/ with the sources, and with what was just built if the kit is the same."""
-    assert [tree.tool(it).status for it in ("build", "dist")] == [0, 0]
-    shutil.move(tree.top / "dist", tree.top / "shipped")
-    for command, wanted in DISTS.items():
-        shutil.copytree(tree.top / "shipped", tree.top / "dist")
-        assert run(["sh", "-c", command], cwd=tree.top).status == 0
-        status, out, err = tree.tool("gate", "dist")
-        lines = [it for it in out.decode().splitlines() if it.startswith("dist: ") and "not compared" not in it]
-        assert (status, err, len(lines)) == (1 if wanted else 0, b"", len(wanted)), (command, out)
-        assert all(text in line for text, line in zip(wanted, lines)), (command, lines)
-        assert re.search(rf"\d+ passed, {len(wanted)} failed\n$", out.decode())
-        shutil.rmtree(tree.top / "dist")
+    wanted = DISTS[command]
+    assert run(["sh", "-c", command], cwd=tree.top).status == 0
+    status, out, err = tree.tool("gate dist")
+    lines = [it for it in out.decode().splitlines() if it.startswith("dist: ") and "not compared" not in it]
+    assert (status, err, len(lines)) == (1 if wanted else 0, b"", len(wanted)), out
+    assert all(text in line for text, line in zip(wanted, lines)), lines
+    assert re.search(rf"\d+ passed, {len(wanted)} failed\n$", out.decode())
 
 
 # ---- tools that are no part of the gate
@@ -214,26 +230,22 @@ def test_differential(tmp_path: Path) -> None:
     """The same program differs nowhere; another one is found out by what it prints and by the files that it leaves."""
     status, out, err = tool("differential", BUILT_PROGRAM, BUILT_PROGRAM, "--requests", "100")
     assert (status, err, out.splitlines()[-1]) == (0, b"", b"100 requests, 0 differences")
-    changed = tmp_path / "hdt"
     wrong = '[ "$1" != verify ] || exec echo ok\n[ "$1" != dump ] || : >left\n'
-    changed.write_text(f'#!/bin/sh\n{wrong}{BUILT_PROGRAM} "$@"\n')
-    changed.chmod(0o755)
-    status, out, err = tool("differential", BUILT_PROGRAM, changed, "--requests", "100")
+    write(tmp_path, {"hdt": f'#!/bin/sh\n{wrong}{BUILT_PROGRAM} "$@"\n'})
+    status, out, err = tool("differential", BUILT_PROGRAM, tmp_path / "hdt", "--requests", "100")
     assert (status, err) == (1, b"")
     differing = set(re.findall(rb"^request \d+: \['(\w+)', .*\] differs in .*?(\w+): ", out, re.M))
     assert differing == {(b"verify", b"out"), (b"verify", b"err"), (b"dump", b"files")}
 
 
 @pytest.mark.skipif(not Path("/usr/bin/time").exists(), reason="there is no /usr/bin/time")
-def test_measuring(tmp_path: Path) -> None:
-    """Each tool prints its table; a program that fails is told."""
+def test_measuring() -> None:
+    """Each tool prints its table, and docs/SIZING.md has the head of that of `tools.memory`."""
     memory = tool("memory", "--scale", "0.00001")
     assert [len(re.findall(rb"^\| .* \| 59 to 100 \|", memory.out, re.M)), memory.err] == [5, b""]
     table = (TOP / "docs/SIZING.md").read_text()
     assert [line for line in memory.out.decode().splitlines()[2:4] if line not in table] == []
-    shutil.copy("/usr/bin/false", tmp_path / "hdt")
-    words = [sys.executable, "-B", "-m", "tools.memory", "--scale", "0.00001"]
-    assert run(words, cwd=TOP, env={"HDT_BUILT": str(tmp_path)}).err.startswith(b"memory: ")
     python = {"HDT_LIBRARY": str(SHARED_LIBRARY), "PYTHONPATH": "python"}
-    speed = run([sys.executable, "-B", "python/speed.py", SAMPLES / "three.hdt", "--rounds", "1"], cwd=TOP, env=python)
+    words = ["python3", "-B", "python/speed.py", SAMPLES / "three.hdt", "--rounds", "1"]
+    speed = run(words, cwd=TOP, env=python)
     assert [len(re.findall(rb"^\| [a-z].*\d \|$", speed.out, re.M)), speed.err] == [14, b""]

@@ -2,9 +2,11 @@
 
     python3 -m tools.build            prove what is not proved yet (`rt ci`), then link
     python3 -m tools.build --link     only link, if the sources are those that such a run has proved
+    python3 -m tools.build --dist     only copy what is built into dist/, which is shipped; commit it once for a release
 
-It needs the Rattle kit. `rt ci` proves crates side by side, as processors and memory allow, and keeps what it has
-proved, also if it is interrupted. All linking is done by the kit's own tools, so the files depend on no other compiler.
+It needs the Rattle kit, but for --dist. `rt ci` proves crates side by side, as processors and memory allow, and keeps
+what it has proved, also if it is interrupted. All linking is done by the kit's own tools, so the files depend on no
+other compiler.
 """
 
 from __future__ import annotations
@@ -55,6 +57,16 @@ def keep_proved(began: str) -> None:
     PROVED.write_text(began + "\n")
 
 
+def progress(line: str, began: float, done: int) -> int:
+    """Print what a line of `rt ci` says of a crate; return how many crates are done."""
+    if found := re.match(r"rt: (\w+) (proved|is kept|NOT PROVED)", line):
+        done += found[2] != "NOT PROVED"
+        clock = int(time.monotonic() - began)
+        said = {"is kept": "was proved before"}.get(found[2], f"is {found[2]}")
+        print(f"hdt: {clock // 60}:{clock % 60:02} {found[1]} {said}, {done} of {len(crates())}", file=sys.stderr)
+    return done
+
+
 def prove() -> None:
     """Run `rt ci`, print a line for each crate that is proved, and keep its output in out/prove.log.
 
@@ -63,25 +75,16 @@ def prove() -> None:
     kit()
     log = TOP / "out/prove.log"
     log.parent.mkdir(exist_ok=True)
-    sources = manifest.sources()
-    began, done, whole = time.monotonic(), 0, len(crates())
-    told = f"proving {whole} crates on {lanes()} processors; CONTRIBUTING.md says how long that takes"
+    sources, began, done = manifest.sources(), time.monotonic(), 0
+    told = f"proving {len(crates())} crates on {lanes()} processors; CONTRIBUTING.md says how long that takes"
     print(f"hdt: {told}", file=sys.stderr)
-    environment = {"RT_JOBS": str(lanes()), **os.environ}
-    pipe, both = subprocess.PIPE, subprocess.STDOUT
-    with open(log, "w") as kept:
-        ran = subprocess.Popen(
-            ["rt", "ci"], cwd=TOP, stdout=pipe, stderr=both, text=True, errors="replace", env=environment
-        )
+    pipe, both, env = subprocess.PIPE, subprocess.STDOUT, {"RT_JOBS": str(lanes()), **os.environ}
+    with open(log, "w", buffering=1) as kept:
+        ran = subprocess.Popen(["rt", "ci"], cwd=TOP, stdout=pipe, stderr=both, text=True, errors="replace", env=env)
         assert ran.stdout
         for line in ran.stdout:
             kept.write(line)
-            kept.flush()
-            if found := re.match(r"rt: (\w+) (proved|is kept|NOT PROVED)", line):
-                done += found[2] != "NOT PROVED"
-                clock = int(time.monotonic() - began)
-                said = {"is kept": "was proved before"}.get(found[2], f"is {found[2]}")
-                print(f"hdt: {clock // 60}:{clock % 60:02} {found[1]} {said}, {done} of {whole}", file=sys.stderr)
+            done = progress(line, began, done)
     if ran.wait():
         raise Failed(f"rt ci did not pass; see {log.relative_to(TOP)}")
     keep_proved(sources)
@@ -159,19 +162,34 @@ def link() -> None:
     (manifest.BUILT / "MANIFEST").write_text(made.text())
 
 
+def ship() -> str:
+    """Make dist/ of what is built, and return its path. Raises Failed."""
+    try:
+        manifest.current(manifest.BUILT)
+    except (OSError, ValueError) as why:
+        raise Failed(f"nothing is built of the sources as they are: {why}: make") from None
+    to = manifest.SHIPPED / manifest.PLATFORM
+    shutil.rmtree(to, ignore_errors=True)
+    shutil.copytree(manifest.BUILT / manifest.PLATFORM, to)
+    shutil.copy(manifest.BUILT / "MANIFEST", manifest.SHIPPED)
+    return str(to.relative_to(TOP))
+
+
 def main() -> int:
     """Run the command line."""
     words = command_line("build", __doc__)
     words.add_argument("--link", action="store_true", help="only link what is proved")
+    words.add_argument("--dist", action="store_true", help="only make dist/ of what is built")
     given = words.parse_args()
     try:
-        if not given.link:
+        if not given.link and not given.dist:
             prove()
-        link()
+        if not given.dist:
+            link()
+        print(f"hdt: made {ship() if given.dist else f'out/{manifest.PLATFORM}'}", file=sys.stderr)
     except (Failed, NoKit) as why:
         print(f"hdt: {why}", file=sys.stderr)
         return 2
-    print(f"hdt: built in {(manifest.BUILT / manifest.PLATFORM).relative_to(TOP)}", file=sys.stderr)
     return 0
 
 

@@ -17,13 +17,11 @@ from collections.abc import Iterator
 from pathlib import Path
 from typing import NamedTuple, Optional
 
+from tools import rattle_text
 from tools.repository import TOP, command_line
 
-# Where an `impl`, a type or a function begins, as `rt fmt` lays them out.
-ITEM = re.compile(r'^(?=impl\b|(?:pub )?(?:struct|enum) | *(?:pub\S* )?(?:const )?(?:extern "C" )?fn )', re.M)
-IMPL = re.compile(r"impl(?:<[^>]*>)?\s+([\w:<>', ]+ for )?(\w+)")
-FUNCTION = re.compile(r'( *)(pub )?(?:pub\(crate\) )?(?:const )?(extern "C" )?fn (\w+)')
 CLAUSE = re.compile(r"^\s*(requires|ensures)\b(?: *\*)?(?:\s+(\w+))?\s*(?=\{)", re.M)
+VIEW = re.compile(r"^impl(?:<[^>]*>)? Model for (\w+).*?^\}", re.M | re.S)
 
 # The texts of a crate's src/, by path; the parts of a contract, by their names.
 Texts = dict[str, str]
@@ -31,13 +29,12 @@ Parts = dict[str, str]
 
 
 class Function(NamedTuple):
-    """A function: the type in whose block it is, if any; whether users of the crate see it; what is before its body.
+    """A function: its file, its name behind its type's, if it has one, and whether users of the crate see it.
 
-    Without a name, it is what a block has before its functions.
+    `head` is what is between name and clauses.
     """
 
     path: str
-    owner: str
     name: str
     is_exported: bool
     head: str
@@ -45,7 +42,7 @@ class Function(NamedTuple):
 
     def parts(self) -> Parts:
         """Return the signature, and the clauses by kind and label: those without a label are numbered."""
-        parts: Parts = {"signature": plain(self.head.partition(f"fn {self.name}")[2])}
+        parts: Parts = {"signature": plain(self.head)}
         for text in re.split(r"^(?=\s*(?:requires|ensures)\b)", self.clauses, flags=re.M):
             if clause := CLAUSE.match(text):
                 label = clause[2] or str(sum(it.startswith(clause[1]) for it in parts))
@@ -68,30 +65,21 @@ def exported(texts: Texts) -> Optional[set[str]]:
 
 
 def functions(texts: Texts) -> Iterator[Function]:
-    """Give the functions of a crate, and what its blocks have before theirs; a program shows all that is public."""
+    """Give the functions of a crate; a program shows all that is public."""
     names = exported(texts)
     for path, text in texts.items():
-        owner = ""
-        for part in ITEM.split(re.sub(r"//.*", "", text)):
-            if block := IMPL.match(part):
-                owner = block[2]
-                is_view = block[1] == "Model for " and (names is None or owner in names)
-                yield Function(path, owner, "", is_view, "", part)
-            elif function := FUNCTION.match(part):
-                indent, public, foreign, name = function.groups()
-                own = owner if indent else ""
-                is_exported = bool(public) and (names is None or (own or name) in names)
-                is_shown = is_exported or bool(foreign) or path == "src/main.rt"
-                yield Function(path, own, name, is_shown, *head_and_clauses(part))
+        for it in rattle_text.functions(re.sub(r"//.*", "", text)):
+            owner = it.owner()
+            is_exported = it.is_public and (names is None or (owner or it.name) in names)
+            is_shown = is_exported or "extern" in it.words or path == "src/main.rt"
+            yield Function(path, f"{owner}::{it.name}" if owner else it.name, is_shown, it.head, it.clauses)
 
 
-def head_and_clauses(function: str) -> tuple[str, str]:
-    """Return the text of a function before its clauses, and the clauses; its body begins with a line `{` then."""
-    body = re.search(r"^ *\{\}?$", function, re.M)
-    clause = CLAUSE.search(function[: body.start()]) if body else None
-    if not body or not clause:
-        return function.partition("{\n")[0].partition("{}")[0], ""
-    return function[: clause.start()], function[clause.start() : body.start()]
+def views(texts: Texts) -> Iterator[tuple[str, str]]:
+    """Give the files and texts of the views of a crate's exported types."""
+    names = exported(texts)
+    found = ((path, it) for path, text in texts.items() for it in VIEW.finditer(text))
+    yield from ((path, it[0]) for path, it in found if names is None or it[1] in names)
 
 
 def plain(text: str) -> str:
@@ -102,8 +90,8 @@ def plain(text: str) -> str:
 def contracts(crate: Texts) -> Iterator[tuple[str, Parts]]:
     """Give the functions that a library exports: type and name, and the parts of the contract."""
     for it in functions(crate) if exported(crate) is not None else ():
-        if it.name and it.is_exported:
-            yield f"{it.owner}::{it.name}" if it.owner else it.name, it.parts()
+        if it.is_exported:
+            yield it.name, it.parts()
 
 
 def differences(old: dict[str, Parts], new: dict[str, Parts]) -> Iterator[str]:
@@ -122,15 +110,16 @@ def main() -> int:
     """Compare; return the exit status."""
     words = command_line("contracts", __doc__)
     words.add_argument("revision", metavar="REVISION", help="the earlier commit")
-    archive = ["git", "-C", str(TOP), "archive", words.parse_args().revision, "crates"]
+    words.add_argument("--top", type=Path, default=TOP, metavar="DIR", help="the repository (this one)")
+    given = words.parse_args()
+    archive = ["git", "-C", str(given.top), "archive", given.revision, "crates"]
     with tempfile.TemporaryDirectory() as folder:
         data = subprocess.run(archive, check=True, stdout=subprocess.PIPE).stdout
         subprocess.run(["tar", "-x", "-C", folder], input=data, check=True)
-        crates = [sorted((top / "crates").iterdir()) for top in (Path(folder), TOP)]
+        crates = [sorted((top / "crates").iterdir()) for top in (Path(folder), given.top)]
         old, new = (dict(it for crate in some for it in contracts(sources(crate))) for some in crates)
     found = list(differences(old, new))
-    print("\n".join(found))
-    print(f"{len(new)} functions, {len(found)} differences")
+    print(*found, f"{len(new)} functions, {len(found)} differences", sep="\n")
     return int(bool(found))
 
 

@@ -127,11 +127,12 @@ def definitions(top: Path) -> dict[Name, Definition]:
 def named_by_contracts(crate: Path, only: str = "") -> Iterator[Name]:
     """Give what the clauses of a crate's exported functions and the views of its types name, or one function's."""
     texts = contracts.sources(crate)
-    imported = {path: imports(text) for path, text in texts.items()}
-    for it in contracts.functions(texts):
-        if only == (f"{it.owner}::{it.name}" if it.owner else it.name) if only else it.is_exported:
-            words = named(it.clauses, " ".join(re.findall(r"\b(\w+): ", it.head)))
-            yield from (imported[it.path][word] for word in words if word in imported[it.path])
+    of_functions = ((it.path, named(it.clauses, " ".join(re.findall(r"\b(\w+): ", it.head))))
+                    for it in contracts.functions(texts) if (it.name == only if only else it.is_exported))
+    of_views = () if only else ((path, named(text)) for path, text in contracts.views(texts))
+    for path, words in (*of_functions, *of_views):
+        imported = imports(texts[path])
+        yield from (imported[word] for word in words if word in imported)
 
 
 def reached(found: dict[Name, Definition], top: Path, only: str = "") -> set[Name]:

@@ -113,9 +113,9 @@ class Crate(repository.Crate):
         if len(mutants) == 1:
             return mutants[0].texts
         texts = {}
-        for path in {path for it in mutants for path, _, _ in it.bodies}:
+        for path in {path for it in mutants for path, _ in it.bodies}:
             rest, bodies = self.parts[path]
-            changed = {at[1:]: body for it in mutants for at, body in it.bodies.items() if at[0] == path}
+            changed = {key: body for it in mutants for (of, key), body in it.bodies.items() if of == path}
             texts[path] = rattle_text.joined(rest, bodies | changed)
         return texts
 
@@ -127,7 +127,7 @@ class Mutant:
         self.crate, self.file, self.name, self.label = crate, file, file.stem, f"{crate.name}/{file.stem}"
         # The texts of the files that it changes, by path; the bodies that it changes, by path, number and name.
         self.texts: dict[str, str] = {}
-        self.bodies: dict[tuple[str, int, str], str] = {}
+        self.bodies: dict[tuple[str, rattle_text.Key], str] = {}
         self.functions: set[str] = set()
         self.is_alone = False
 
@@ -161,17 +161,14 @@ class Mutant:
         """Apply the changes, and find the functions that they are in by the names of a check. Raises BadMutant."""
         self.apply()
         for path, text in self.texts.items():
-            try:
-                rest, bodies = rattle_text.split(text)
-            except (ValueError, IndexError, StopIteration):
-                raise BadMutant(f"{path} has an open bracket with it") from None
+            rest, bodies = rattle_text.split(text)
             was_rest, was = self.crate.parts[path]
             if rest != was_rest or bodies.keys() != was.keys() or CYCLE.search(text):
                 self.is_alone, self.bodies, self.functions = True, {}, set()
                 return
-            self.bodies |= {(path, *at): body for at, body in bodies.items() if body != was[at]}
-        for path, _, name in self.bodies:
-            found = rattle_text.names_of(self.crate.name, path, name, checked)
+            self.bodies |= {(path, key): body for key, body in bodies.items() if body != was[key]}
+        for path, (_, impl, name) in self.bodies:
+            found = rattle_text.names_of(self.crate.name, path, impl, name, checked)
             if len(found) != 1:
                 has = ", ".join(found) or "no such"
                 raise BadMutant(f"which function of the check is {name} of {path}? It has {has}")

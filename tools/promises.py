@@ -15,6 +15,7 @@ from __future__ import annotations
 
 import re
 import sys
+from collections import Counter
 from collections.abc import Iterable, Iterator
 from functools import lru_cache
 from pathlib import Path
@@ -22,14 +23,14 @@ from pathlib import Path
 from tools import contracts, repository
 from tools.repository import TOP, command_line, print_table
 
-# Clauses that traits of the library state.
-OF_TRAITS = {"output", "from_gives"}
-# Methods whose clauses come from a derive.
-DERIVED = {"is_clone"}
+# Clauses that traits of the library state, and methods whose clauses come from a derive.
+OF_TRAITS, DERIVED = {"output", "from_gives"}, {"is_clone"}
 # The crates that promise nothing: tests and probes.
 WITHOUT_PROMISES = re.compile(r"\w+_tests|hdt_probe(_\w+)?")
 # The first row of a table of promises.
 HEAD = ["promise", "function", "clause", "wrong bodies refused (edits)"]
+# A case: whether it holds, and what is wrong otherwise.
+Case = tuple[bool, str]
 
 
 @lru_cache(maxsize=None)
@@ -45,48 +46,26 @@ def quoted(cell: str) -> list[str]:
     return [it.split("::")[-1] for it in re.findall(r"`([^`]+)`", braces)]
 
 
-def rows_of(text: str) -> Iterator[tuple[str, list[str]]]:
-    """Give the rows of the tables of promises: the line, and its cells."""
+def rows_of(text: str) -> Iterator[list[str]]:
+    """Give the cells of the rows of the tables of promises."""
     is_inside = False
     for line in text.split("\n"):
         cells = [it.strip() for it in line.strip("|").split(" | ")] if line.startswith("|") else []
         if is_inside and cells and not line.startswith("|---"):
-            yield line, cells
+            yield cells
         is_inside = cells == HEAD or is_inside and bool(cells)
 
 
-def exported(texts: contracts.Texts) -> set[str]:
-    """Return the functions that a library exports, also to C and constant ones."""
-    library = contracts.exported(texts) is not None
-    return {it.name for it in contracts.functions(texts) if library and it.is_exported} - {""}
-
-
-# A case: whether it holds, and what is wrong otherwise.
-Case = tuple[bool, str]
-
-
-@lru_cache(maxsize=None)
-def names_of(code: str) -> tuple[set[str], set[str], set[str]]:
-    """Return the names of functions and types, of traits, and of clauses in a source text."""
-    items = set(re.findall(r"\b(?:fn|struct|enum|trait|const(?! fn\b)) (\w+)", code))
-    traits = set(re.findall(r"\bimpl(?:<[^>]*>)? (?:\w+::)*(\w+)(?:<[^>]*>)? for ", code)) | DERIVED
-    return items, traits, set(re.findall(r"\b(?:ensures|requires)\*? (\w+) \{", code)) | OF_TRAITS
-
-
-def check_row(crate: Path, code: str, cells: list[str], mutants: list[str]) -> Iterator[Case]:
-    """Check the names in a row of a table; those of mutants of the crate are added to `mutants`."""
-    items, traits, clauses = names_of(code)
+def check_row(crate: Path, cells: list[str], items: set[str], clauses: set[str], own: list[str]) -> Iterator[Case]:
+    """Check the names in a row of a table; `own` are its mutants of this crate."""
     for name in quoted(cells[1]):
-        is_there = name in items | traits or (crate / "src" / name).is_file()
-        yield is_there, f"there is no function, type or trait {name}"
+        yield name in items or (crate / "src" / name).is_file(), f"there is no function, type or trait {name}"
     for name in quoted(cells[2]):
         yield name in clauses | items, f"there is no clause {name}, of {cells[1]}"
-    named = re.sub(r"\([^)]*\)", "", cells[3])
-    for name, other in re.findall(r"`([^`]+)` in (\w+)", named):
+    for name, other in re.findall(r"`([^`]+)` in (\w+)", cells[3]):
         yield name in mutants_of(crate.parent / other), f"there is no mutant {name} in {other}"
-    own = quoted(re.sub(r"`[^`]+` in \w+", "", named))
-    mutants += own
-    yield from ((name in mutants_of(crate), f"there is no mutant {name}") for name in own)
+    for name in own:
+        yield name in mutants_of(crate), f"there is no mutant {name}"
 
 
 def check(crate: Path) -> Iterator[Case]:
@@ -95,18 +74,25 @@ def check(crate: Path) -> Iterator[Case]:
     if not file.is_file():
         yield False, "there is no PROMISES.md"
         return
-    mutants: list[str] = []
-    functions: set[str] = set()
     code = "\n".join(texts.values())
-    for line, cells in rows_of(file.read_text()):
-        yield len(cells) == len(HEAD), f"a row without its four cells: {line[:100]}"
+    items = DERIVED.union(
+        re.findall(r"\b(?:fn|struct|enum|trait|const(?! fn\b)) (\w+)", code),
+        re.findall(r"\bimpl(?:<[^>]*>)? (?:\w+::)*(\w+)(?:<[^>]*>)? for ", code),
+    )
+    clauses = OF_TRAITS.union(re.findall(r"\b(?:ensures|requires)\*? (\w+) \{", code))
+    mutants, functions = Counter[str](), set[str]()
+    for cells in rows_of(file.read_text()):
+        yield len(cells) == len(HEAD), f"a row without its four cells: {' | '.join(cells)[:100]}"
         if len(cells) == len(HEAD):
+            cells[3] = re.sub(r"\([^)]*\)", "", cells[3])
+            own = quoted(re.sub(r"`[^`]+` in \w+", "", cells[3]))
+            mutants.update(own)
             functions.update(quoted(cells[1]))
-            yield from check_row(crate, code, cells, mutants)
+            yield from check_row(crate, cells, items, clauses, own)
     for name in mutants_of(crate):
-        times = mutants.count(name)
-        yield times == 1, f"the mutant {name} is named {times} times, and not once"
-    for name in sorted(exported(texts)):
+        yield mutants[name] == 1, f"the mutant {name} is named {mutants[name]} times, and not once"
+    is_library = contracts.exported(texts) is not None
+    for name in sorted({it.name.split("::")[-1] for it in contracts.functions(texts) if is_library and it.is_exported}):
         yield name in functions, f"the exported function {name} is in no row"
 
 

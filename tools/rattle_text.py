@@ -1,177 +1,109 @@
-"""The functions of a Rattle source file: their bodies, and the names that a check has for them."""
+"""The functions of a Rattle source file that is laid out as `rt fmt` does, and the names that a check has for them."""
 
 from __future__ import annotations
 
 import re
-from collections.abc import Iterable
+from collections.abc import Iterable, Iterator
+from typing import NamedTuple
 
-Items = list[tuple[int, str]]
-
-# A comment, a string, a character, a lifetime, a word, blanks, or one other sign.
+# Whitespace and comments; a string or a character, in which the signs of a comment are none.
 TOKEN = re.compile(
-    r"""//[^\n]*|/\*|[bc]?r(\#*)".*?"\1|"""
-    r"""[bc]?"(?:[^"\\]|\\.)*"|'(?=\\)(?:[^'\\\n]|\\[^\n])*'|'[^\n\\']'|'[A-Za-z_]\w*|r\#[A-Za-z_]\w*|\w+|\s+|.""",
-    re.S | re.A,
+    r"""(\s|//[^\n]*|/\*.*?\*/)+|[bc]?r(\#*)".*?"\2|[bc]?"(?:[^"\\]|\\.)*"|'(?:[^'\\\n]|\\[^\n]+?)'""", re.S
 )
-# The words before a brace that opens a clause or another text of the logic.
-CLAUSE = re.compile(r"(?:(?:requires|ensures)(?: \*)?(?: \w+)?|ghost \w+ : .*)$", re.S)
-WORD = re.compile(r"[A-Za-z_]\w*$")
+# The head of an impl, and its trait, the trait's arguments and its type.
+IMPL = re.compile(r"impl(?:<.*?>)? (?:(?:\w+::)*(\w+)(?:<(.*)>)? for )?(?:\w+::)*(\w+)")
+# Such a head, or a function: indent, visibility, other words, name, what is before its body, and this. The line with
+# the brace that opens the body is not indented further, and so is the one with the brace that closes it.
+ITEM = re.compile(
+    r'^impl\b.*|^( *)(pub\S* )?((?:const |extern "C" )*)fn (\w+)(?![^{\n]*;$)'
+    r"([^{\n]*|(?:.*\n)+?\1(?:\)[^{\n]*)?)(\{\}|\{.*\n(?:.*\n)*?\1\})$",
+    re.M,
+)
+CLAUSE = re.compile(r"^\s*(?:requires|ensures)\b", re.M)
 
 
-def end_of_comment(text: str, at: int) -> int:
-    """Return where the comment that begins at `at`, and those nested in it, end."""
-    depth, end = 1, at + 2
-    while depth and end < len(text):
-        opens, closes = text.startswith("/*", end), text.startswith("*/", end)
-        depth += opens - closes
-        end += 2 if opens or closes else 1
-    return end
+class Function(NamedTuple):
+    """A function with a body: the head of its impl, or nothing, and the parts of its text.
+
+    `clauses` is what is between the head and the body; `start` and `end` are where this begins and ends.
+    """
+
+    impl: str
+    is_public: bool
+    words: str
+    name: str
+    head: str
+    clauses: str
+    start: int
+    end: int
+
+    def owner(self) -> str:
+        """Return the name of the type in whose impl it is, or nothing."""
+        found = IMPL.match(self.impl)
+        return found[3] if found else ""
 
 
-def tokens(text: str) -> Items:
-    """Return the offsets and tokens of all but whitespace and comments."""
-    found: Items = []
-    at = 0
-    while at < len(text):
-        token = TOKEN.match(text, at)[0]  # type: ignore[index]
-        if token == "/*":
-            at = end_of_comment(text, at)
+def functions(text: str) -> Iterator[Function]:
+    """Give the outermost functions of a source text."""
+    impl = ""
+    for it in ITEM.finditer(text):
+        if not it[4]:
+            impl = it[0]
             continue
-        if not token.isspace() and not token.startswith("//"):
-            found.append((at, token))
-        at += len(token)
-    return found
+        clause = CLAUSE.search(it[5])
+        at = clause.start() if clause else len(it[5])
+        own = impl if it[1] else ""
+        yield Function(own, it[2] == "pub ", it[3], it[4], it[5][:at], it[5][at:], it.start(6), it.end(6))
 
 
 def without_comments(text: str) -> str:
     """Return the text with one space in place of whitespace and comments."""
-    parts: list[str] = []
-    end = 0
-    for at, token in tokens(text):
-        parts += [" ", token] if at > end else [token]
-        end = at + len(token)
-    return "".join(parts)
+    return TOKEN.sub(lambda it: " " if it[1] else it[0], text).rstrip()
 
 
-def after_block(items: Items, i: int) -> int:
-    """The index behind the bracket that matches the one at i."""
-    depth = 0
-    while i < len(items):
-        depth += (items[i][1] in ("(", "[", "{")) - (items[i][1] in (")", "]", "}"))
-        i += 1
-        if not depth:
-            return i
-    raise ValueError("a bracket is not closed")
+# A function among those of a file: its number, its impl's head and its name.
+Key = tuple[int, str, str]
 
 
-def body_of(items: Items, i: int) -> int:
-    """Return the index of the brace that opens a function's body, or of its `;`; its name is the item before i."""
-    words: list[str] = []
-    while items[i][1] != ";":
-        token = items[i][1]
-        if token == "{" and not CLAUSE.search(" ".join(words)):
-            return i
-        if token in ("(", "[", "{"):
-            i, words = after_block(items, i), []
-        else:
-            words.append(token)
-            i += 1
-    return i
+def split(text: str) -> tuple[str, dict[Key, str]]:
+    """Return the text without bodies, and the bodies.
 
-
-def functions(text: str) -> list[tuple[str, int, int]]:
-    """Return the outermost functions with a body: the name with its impl's type, and where the body begins and ends.
-
-    A `const fn` is left out: its value can be part of a type or a constant, which other functions read.
+    Those of a `const fn` stay: its value can be part of a type or a constant, which other functions read.
     """
-    items = tokens(text)
-    found: list[tuple[str, int, int]] = []
-
-    def function(i: int, owner: str) -> int:
-        start = body_of(items, i + 2)
-        if items[start][1] == ";":
-            return start + 1
-        end = after_block(items, start)
-        if "const" not in (items[i - 1][1], items[i - 2][1]):
-            found.append((f"{owner}{items[i + 1][1]}", items[start][0], items[end - 1][0] + 1))
-        return end
-
-    def block(i: int, owner: str) -> int:
-        head = next(j for j in range(i + 1, len(items)) if items[j][1] in ("{", ";"))
-        if items[head][1] == ";":
-            return head + 1
-        end = after_block(items, head)
-        walk(head + 1, end - 1, f"{owner}{' '.join(it for _, it in items[i:head])}/")
-        return end
-
-    def walk(i: int, end: int, owner: str) -> None:
-        while i < end:
-            token = items[i][1]
-            if token == "fn" and i + 1 < end and WORD.match(items[i + 1][1]):
-                i = function(i, owner)
-            elif token in ("impl", "trait", "mod"):
-                i = block(i, owner)
-            elif token in ("(", "[", "{"):
-                i = after_block(items, i)
-            else:
-                i += 1
-
-    walk(0, len(items), "")
-    return found
-
-
-def split(text: str) -> tuple[str, dict[tuple[int, str], str]]:
-    """Return the text without bodies, and the bodies by the number and name of their function."""
     rest: list[str] = []
-    bodies: dict[tuple[int, str], str] = {}
+    bodies: dict[Key, str] = {}
     at = 0
-    for number, (name, start, end) in enumerate(functions(text)):
-        rest.append(text[at:start])
-        bodies[number, name] = text[start:end]
-        at = end
+    for it in functions(text):
+        if "const " not in it.words:
+            rest.append(text[at : it.start])
+            bodies[len(bodies), it.impl, it.name] = text[it.start : it.end]
+            at = it.end
     return "\0".join([*rest, text[at:]]), bodies
 
 
-def joined(rest: str, bodies: dict[tuple[int, str], str]) -> str:
+def joined(rest: str, bodies: dict[Key, str]) -> str:
     """Return the text that `split` took apart, with these bodies."""
     return "".join(a + b for a, b in zip(rest.split("\0"), [*bodies.values(), ""]))
 
 
-def names_in(text: str) -> list[str]:
-    """Return the names in the words of a type or a trait, without those of its type arguments, and lifetimes."""
-    while text != (shorter := re.sub(r"<[^<>]*>", "", text)):
-        text = shorter
-    return [it for it in re.findall(r"(?<![\w'])[A-Za-z_]\w*", text) if it not in ("mut", "dyn")]
+def names_of(crate: str, path: str, impl: str, name: str, checked: Iterable[str]) -> list[str]:
+    """Return those of a check's names that a function of a file can have; `impl` is the head of its impl, or empty.
 
-
-def owner_of(words: list[str]) -> tuple[str, str]:
-    """Return how a check names the type or impl with this head: the usual name, and that with the trait's arguments."""
-    head = f" {' '.join(words)} ".partition(" where ")[0]
-    trait, is_for, own = head.rpartition(" for ")
-    if not is_for:
-        return next(iter(names_in(own)), ""), ""
-    name, usual = names_in(trait)[-1], names_in(own)[-1] + names_in(trait)[-1]
-    # `impl From<hdt_wire::Fault> for Fault` is FaultFromHdt_wireFault
-    inside = names_in(f"{trait} ".rpartition(f" {name} ")[2].strip().removeprefix("<").removesuffix(">"))
-    return usual, usual + "".join(it[0].upper() + it[1:] for it in inside)
-
-
-def names_of(crate: str, path: str, name: str, checked: Iterable[str]) -> list[str]:
-    """Return those of a check's names that a function of a file, named as `functions` names it, can have."""
-    *owners, last = name.split("/")
-    module = [it for it in path.removeprefix("src/").removesuffix(".rt").split("/") if it not in ("lib", "main", "mod")]
-    of = exact = ""
-    for owner in owners:
-        kind, *words = owner.split(" ")
-        if kind == "mod":
-            module += words[:1]
-        else:
-            of, exact = owner_of(words)
-    for owner in (exact, of):
-        whole = "::".join([crate, *module, *([owner] if owner else []), last])
-        if whole in checked:
-            return [whole]
+    A check calls `impl From<hdt_wire::Fault> for Fault` FaultFromHdt_wireFault, or by its type and its trait alone.
+    """
+    parts = path.removeprefix("src/").removesuffix(".rt").split("/")
+    module = "::".join([crate, *(it for it in parts if it not in ("lib", "main", "mod"))])
+    found = IMPL.match(impl)
+    if not found:
+        return [it for it in checked if it == f"{module}::{name}"]
+    trait, arguments, own = (it or "" for it in found.groups())
+    usual = own + trait
+    exact = usual + "".join(it[0].upper() + it[1:] for it in re.findall(r"[A-Za-z]\w*", arguments.partition("<")[0]))
+    for owner in (exact, usual):
+        if f"{module}::{owner}::{name}" in checked:
+            return [f"{module}::{owner}::{name}"]
     # An impl may stand in another file than its type, by whose module the check calls it.
-    named = [it for it in checked if of and it.endswith(f"::{last}") and "::fn::" not in it]
-    start = "::".join([crate, *module, of])
-    return [it for it in named if it.endswith(f"::{of}::{last}")] or [it for it in named if it.startswith(start)]
+    named = [it for it in checked if it.endswith(f"::{name}") and "::fn::" not in it]
+    return [it for it in named if it.endswith(f"::{usual}::{name}")] or [
+        it for it in named if it.startswith(f"{module}::{usual}")
+    ]
