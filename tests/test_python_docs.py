@@ -69,7 +69,7 @@ def test_help() -> None:
     assert text.startswith("Python Library Documentation: package hdt")
     for name in hdt.__all__:
         assert re.search(rf"\b{name}\b", text), name
-    assert text.count("\n") < 555 and "inherited from" not in text and "__init__(" not in text
+    assert text.count("\n") < 400 and "inherited from" not in text and "__init__(" not in text
     assert "deprecated" not in text and "older name of" in pydoc.plain(pydoc.render_doc(hdt.Graph.find_ids))
     assert re.search(r"^    class Graph\(", text, re.M) and not re.search(r"hdt\._(?:graph|calls)\.(?!_)", text)
     assert re.search(r"^VERSION\n    2\.1\.0$", text, re.M)

@@ -15,15 +15,14 @@ back, or a URIRef, BNode or Literal of rdflib. In a pattern None matches any ter
 brackets, raise ValueError.
 
 A role is `"subject"`, `"predicate"` or `"object"`; another word raises ValueError. The strings of a role have IDs from
-1, by which `Graph.ids` finds triples. Older names of its searches, as `Graph.find_ids`, still work. Threads may share a
-graph. Results have classes with a `help` of their own: `Counts`, `Ids`, `IdArray`.
+1, by which `Graph.ids` finds triples. Older names of its searches, as `Graph.find_ids`, still work, and `hdt.compat`
+has pyHDT's class. Threads may share a graph. Files of 64 MiB and more are mapped, not read: such a file must not change
+while a graph of it is open or a call reads it (`open` says more).
 
-Files of 64 MiB and more are mapped, not read: such a file must not change while a graph of it is open or a call reads
-it (`open` says more). Exceptions: `Fault` (not a valid HDT file), `LineFault` (not N-Triples), `NoTriples`, all three
-with the `path`, and `NotATerm`, all of them ValueError; MemoryError; OSError of files. After an exception a graph is as
-it was.
-
-`__version__` is the version of the package, `LIBHDT_VERSION` that of the library, as "1.2".
+Results and exceptions have a `help` of their own: `Counts`, `Ids`, `IdArray`; `Fault` (not a valid HDT file),
+`LineFault` (not N-Triples), `ConversionFault` (not another syntax), `NoTriples` and `NotATerm`, each a ValueError;
+`NoConverter`. MemoryError, and OSError of files, are Python's. After an exception a graph is as it was. `__version__`
+is the version of the package, `LIBHDT_VERSION` that of the library, as "1.3".
 """
 
 from __future__ import annotations
@@ -69,7 +68,10 @@ for _name in __all__:
     if _name not in ("Path", "Role"):
         globals()[_name].__module__ = __name__  # (so they are shown and pickled by their public names)
 
+_APART = {"Counts", "IdArray", "Ids", "__dir__"}
+_APART |= {name for name, it in globals().items() if isinstance(it, type) and issubclass(it, Exception)}
+
 
 def __dir__() -> list[str]:
-    """All names, but for the classes of results, which have a `help` of their own."""
-    return [name for name in globals() if name not in ("Counts", "IdArray", "Ids", "__dir__")]
+    """All names, but for results and exceptions, which have a `help` of their own."""
+    return [name for name in globals() if name not in _APART]

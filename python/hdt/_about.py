@@ -38,7 +38,7 @@ def said_of(header: bytes) -> dict[str, list[str]]:
 
 
 def _dataset(graph: Graph) -> Optional[str]:
-    """The dataset that a header is about; None if there are several."""
+    """The dataset that a header is about, or None if there are several."""
     for kind in DATASETS:
         found = [s for s, _, _ in graph.find(p=RDF_TYPE, o=kind, limit=2)]
         if found:

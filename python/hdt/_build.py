@@ -59,36 +59,33 @@ def build(
 ) -> Counts:
     """Build an HDT file from RDF, and return its counts. The output is replaced atomically, only if all went well.
 
-    `nt_path` is a path; a folder, for the files below it that have a suffix of those below; a binary file that is open;
+    `nt_path` is a path; a folder, for the files below it that have one of the suffixes below; an open binary file;
     triples, as those of `Graph.find` or of an rdflib graph: tuples of dictionary strings, `Term`s, terms of rdflib or,
     if the predicate is in brackets, terms of N-Triples, or lines of N-Triples; or an iterable of such.
 
-    The suffix of a name says the syntax, else `syntax`: `"ntriples"` (.nt, and any other name), `"turtle"` (.ttl),
+    The suffix of a name, else `syntax`, says the syntax: `"ntriples"` (.nt, and any other name), `"turtle"` (.ttl),
     `"trig"`, `"nquads"` (.nq), `"rdfxml"` (.rdf, .owl, .xml), `"jsonld"`, `"n3"`. After it may be .gz, .bz2, .xz or
     .zst. serdi converts Turtle and TriG, rapper RDF/XML, if they are installed; else, and for the other syntaxes,
     rdflib does. `converter` is the one to use. What a document refers to is not fetched.
 
-    `base` is the absolute IRI, without brackets, that names the file in its header (http://example.org/dataset if it is
-    None), and that relative IRIs are resolved by; without it, by the file: IRI of the input. `block_size` is the number
-    of strings in a block, 1 to 65535. Labels of blank nodes in different inputs are different nodes, as of
-    `blank_nodes="apart"`: those of the first input get the prefix `f0_`, those of the second one `f1_`; with `"one"`
-    they are the same, which needs N-Triples or N-Quads. Labels of a single input stay, but for what the converter does.
-    Named graphs are an error, unless `graphs="merge"` takes the union of all graphs.
+    `base`, an absolute IRI without brackets, names the file in its header (None: http://example.org/dataset), and
+    resolves relative IRIs, as the file: IRI of the input does without it. A block has `block_size` strings, 1 to 65535.
+    A blank node label in several inputs is several nodes (`blank_nodes="apart"`: labels get the prefix `f0_`, `f1_` and
+    so on) or, by `"one"`, for N-Triples and N-Quads, one. A single input's labels stay, unless it is converted. Named
+    graphs are an error, unless `graphs="merge"` takes the union of all graphs.
 
-    Limit documents of strangers: a line with more than `longest_line` bytes, without its end, is an error (`TooLong`,
-    in the column after these bytes), as are inputs whose N-Triples have more than `largest_text` bytes. At most 1 MiB
-    of text after these bytes is looked at. `progress` is True, for a bar (by tqdm, if installed) on standard error; or
-    a function of the bytes that were read and of their number, or None. The build comes after it. `metadata` has
-    arguments of `hdt.metadata` by their names, as `{"title": "Examples"}`, and `header` is a header itself, as of
-    `rewrite`.
+    Limit untrusted documents: a line of more than `longest_line` bytes, without its end, is an error (`TooLong`, in the
+    column after them), as is N-Triples of more than `largest_text` bytes; at most 1 MiB after these is looked at.
+    `progress` is True, for a bar (by tqdm, if installed) on standard error, or a function of the bytes read so far and
+    of their number, or None; the build comes after it. `metadata` has arguments of `hdt.metadata` by their names, as
+    `{"title": "Examples"}`; `header` is a whole header, as of `rewrite`.
 
     Errors: `LineFault` for N-Triples and N-Quads, with path and line, and for a header, `ConversionFault` for other
     syntaxes, `NoTriples`, ValueError for options, named graphs, or an input that is the output, `NoConverter`,
-    TypeError, MemoryError, OSError, also for damaged archives, and what iterables, files and `progress` raise.
-
-    The time is that of sorting the strings and the triples, and of the converter. One N-Triples file is in memory, or
-    mapped, with what is built. Other inputs are read in pieces, and written as N-Triples to a file without a name in
-    the folder of the output, which needs room for both. rdflib's parsers have documents in memory.
+    TypeError, MemoryError, OSError, also for damaged archives, and what iterables, files and `progress` raise. The time
+    is that of sorting strings and triples, and of the converter. One N-Triples file is in memory, or mapped, with what
+    is built. Other inputs are read in pieces (documents by rdflib whole), and written as N-Triples to a file without a
+    name in the folder of the output, which needs room for both.
 
     >>> hdt.build("graph.nt", "graph.hdt", base="http://example.org/graph")
     Counts(triples=3, shared=2, subjects=0, predicates=2, objects=1)
@@ -210,7 +207,7 @@ class _Writer:
         return self._size
 
     def _conversion(self, source: Source) -> Optional[Conversion]:
-        """How an input is converted; None if it needs no converter."""
+        """How an input is converted, or None if it needs no converter."""
         if source.syntax in (NTRIPLES, NQUADS):
             return None
         converter = converter_of(source.syntax, self._options.converter, source.title())

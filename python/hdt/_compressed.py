@@ -30,7 +30,7 @@ _NAMES = {".gz": "gzip", ".bz2": "bzip2", ".xz": "xz", ".zst": "Zstandard"}
 
 
 def suffix_of(name: str) -> str:
-    """The suffix of a compressed file in a name, in lower case; empty if there is none."""
+    """The suffix of a name that says how the file is compressed, in lower case, or an empty string."""
     return next((suffix for suffix in SUFFIXES if name.lower().endswith(suffix)), "")
 
 

@@ -106,7 +106,7 @@ def converter_of(syntax: str, wanted: Optional[str], title: str) -> Converter:
 
 
 class Conversion(NamedTuple):
-    """How an input is converted: what it is called, its syntax, its base (None if it has none), and by what."""
+    """How an input is converted: what it is called, its syntax, its base or None, and by what."""
 
     path: Optional[str]
     title: str

@@ -137,8 +137,7 @@ def _checked(block_size: int) -> int:
 def verify(path: Path, tight: bool = False) -> Counts:
     """Validate a whole file and return its counts. With `tight` unused strings are an error, too.
 
-    Errors: `Fault` with the first error and its byte offset, MemoryError, OSError. The time is linear in the file; with
-    `tight`, memory is linear in the triples and strings.
+    Errors: `Fault`, MemoryError, OSError. Time is linear in the file; with `tight`, memory in triples and strings.
 
     >>> hdt.verify("graph.hdt").triples
     3
@@ -189,9 +188,8 @@ def rewrite(
     is replaced, by this text as it is, which may be empty: there can be no block size, and all other bytes stay, but
     for the header's length and the CRC over it. The output is replaced atomically; both paths may be the same.
 
-    Errors: `Fault` as of `verify`; `LineFault`, without a path, if the header is not N-Triples; ValueError for the
-    block size; TypeError if it is no integer; MemoryError; OSError. The time is linear in the file, but for sorting the
-    triples if the order of the IDs changes.
+    Errors: `Fault`; `LineFault`, without a path, if the header is not N-Triples; ValueError, TypeError for the block
+    size; MemoryError; OSError. The time is linear in the file, but for sorting the triples if the order of IDs changes.
 
     >>> hdt.rewrite("graph.hdt", "other.hdt", block_size=4) == hdt.verify("other.hdt")
     True

@@ -25,20 +25,17 @@ from ._terms import Term, string_of
 class Graph(OpenHandle, metaclass=Documented):
     """An open file: `open` opens a path, `Graph(data)` the bytes of any object with the buffer protocol.
 
-    Those bytes are borrowed, not copied: they must not change while the graph is open. Errors: those of `open`,
-    TypeError.
+    These bytes are borrowed: they must not change while the graph is open. Errors: those of `open`, TypeError. The
+    length of a graph is the number of its triples; iterating gives them as `find` does; `(s, p, o) in graph` looks for
+    one. Once it is closed, every call but `close` raises ValueError.
 
-    Its length is the number of its triples; iterating gives them as `find` does; `(s, p, o) in graph` looks for one. A
-    pattern is three terms, of which None is any; calls of `ids` take IDs, too. `""`, `"?"`, and a string in brackets
-    that the file lacks raise ValueError. (If a file of another program has `""` or `"?"`, `number` gives its ID.) Once
-    a graph is closed, every call but `close` raises ValueError.
+    A pattern is three terms, of which None is any; calls of `ids` take IDs, too. `""`, `"?"`, and a string in brackets
+    that the file lacks raise ValueError. (If a file of another program has `""` or `"?"`, `number` gives its ID.)
 
-    Threads may share a graph, but not an iterator: their calls run at the same time. A call beside others may need
-    another handle, a kilobyte that later calls use, too; without memory for it, it raises MemoryError. A forked process
-    shares the graphs of its parent, also if other threads were in calls.
-
-    A graph can't be copied. One that `open` made is pickled as its path and options: it opens the file again, and
-    raises ValueError there if the path leads to another file by then, or the file was written to.
+    Threads may share a graph, but not an iterator: their calls run at the same time. A call beside others may take
+    another kilobyte, which later calls use, too, or raise MemoryError. A forked process shares its parent's graphs. A
+    graph can't be copied. One that `open` made is pickled as its path and options: unpickling opens the file again, and
+    raises ValueError if it is another one by then.
 
     >>> graph = hdt.open("graph.hdt")  # the graph of all examples below
     >>> print(graph, ("u:a", "u:p", "u:b") in graph, next(iter(graph)))
@@ -63,13 +60,9 @@ class Graph(OpenHandle, metaclass=Documented):
         return graph
 
     def close(self) -> None:
-        """Close it and free its memory, after the calls that run in other threads; later ones raise ValueError.
+        """Close it and free its memory, once no other thread is in a call.
 
-        A second call only waits for the same ones.
-
-        >>> other = hdt.open("graph.hdt")
-        >>> other.close()
-        >>> other
+        >>> other = hdt.open("graph.hdt"); other.close(); other
         <hdt.Graph, closed>
         """
         self._end()
@@ -124,7 +117,7 @@ class Graph(OpenHandle, metaclass=Documented):
         return self._put(library.hdt_header) or b""
 
     def count(self, role: Role) -> int:
-        """How many strings a role has; their IDs are 1 to that. Constant time. Raises ValueError.
+        """The number of a role's strings, which is their greatest ID. Constant time. Raises ValueError.
 
         >>> graph.count("object")
         3
@@ -134,9 +127,7 @@ class Graph(OpenHandle, metaclass=Documented):
     # ---- strings and their IDs
 
     def number(self, role: Role, term: Union[str, Term]) -> Optional[int]:
-        """The ID of a term, or of any dictionary string, in a role; None if the role doesn't have it.
-
-        Errors: ValueError for the role, TypeError. It takes a binary search and the strings of a block.
+        """The ID of a term in a role, or None if it has none. It takes a binary search. Raises ValueError, TypeError.
 
         >>> graph.number("object", '"x"'), graph.number("object", "u:none")
         (3, None)
@@ -145,9 +136,7 @@ class Graph(OpenHandle, metaclass=Documented):
         return self._number(role_number(role), string)
 
     def string(self, role: Role, n: int) -> str:
-        """The string with ID n in a role. It decodes a block of strings; `strings` is faster for many.
-
-        Errors: IndexError if n isn't 1 to `count(role)`, ValueError for the role, TypeError.
+        """The string with an ID in a role. It decodes a block. Raises IndexError for another ID, ValueError, TypeError.
 
         >>> graph.string("object", 3)
         '"x"'
@@ -158,9 +147,7 @@ class Graph(OpenHandle, metaclass=Documented):
         return string.decode()
 
     def strings(self, role: Role, ids: Iterable[int]) -> list[str]:
-        """The strings with these IDs in a role, in their order. Errors: those of `string`.
-
-        It is one call of the library, which decodes each block of strings once if the IDs ascend: so sort many of them.
+        """The strings with these IDs in a role. It decodes a block once if the IDs ascend. Errors: those of `string`.
 
         >>> graph.strings("object", [1, 3]), graph.strings("subject", range(1, 3))
         (['u:a', '"x"'], ['u:a', 'u:b'])
@@ -176,18 +163,16 @@ class Graph(OpenHandle, metaclass=Documented):
     def terms(self, role: Role) -> Iterator[str]:
         """Iterate over all strings of a role, in the order of their IDs, in linear time. Raises ValueError.
 
-        They are looked up in portions of up to 4,096, fewer if they are long.
-
         >>> list(graph.terms("object"))
         ['u:a', 'u:b', '"x"']
         """
         return chain.from_iterable(self._portions_of_all(role_number(role), self.count(role)))
 
     def ids_with_prefix(self, prefix: str, role: Role) -> list[range]:
-        """The IDs of the strings of a role that begin with a prefix, as ranges: none, one or two, none empty.
+        """The IDs of the strings of a role that begin with a prefix, as up to two ranges, none of them empty.
 
-        A role has two sections, each with ascending strings: first what is a subject and an object, then what is only
-        one of them. Errors: ValueError for the role, TypeError. It takes about as long as `number`.
+        Strings ascend within those that are a subject and an object, and within the others, which follow. Errors:
+        ValueError for the role, TypeError. It takes about as long as `number`.
 
         >>> graph.ids_with_prefix("u:", "object"), graph.ids_with_prefix('"', "object")
         ([range(1, 3)], [range(3, 4)])
@@ -195,9 +180,7 @@ class Graph(OpenHandle, metaclass=Documented):
         return self._with_prefix(role_number(role), encoded(prefix))
 
     def predicates(self) -> Iterator[tuple[str, int]]:
-        """Iterate over the predicates in the order of their IDs, each with the number of its triples.
-
-        All are counted at once, in time that is at most linear in the triples, times a logarithm.
+        """Iterate over the predicates by ID, each with the number of its triples, in at most the time of sorting them.
 
         >>> dict(graph.predicates())
         {'u:p': 2, 'u:q': 1}
@@ -216,7 +199,7 @@ class Graph(OpenHandle, metaclass=Documented):
         return Ids(self)
 
     def matching(self, s: Given = None, p: Given = None, o: Given = None) -> int:
-        """How many triples `find` gives. Raises TypeError. It takes at most a scan of them, and often less.
+        """The number of triples that `find` gives, in the time of a scan of them or less. Raises TypeError.
 
         >>> graph.matching(), graph.matching(p="u:p")
         (3, 2)
@@ -240,12 +223,9 @@ class Graph(OpenHandle, metaclass=Documented):
     ) -> Iterator[StringTriple]:
         """Iterate over the triples that have each given term, in the order of the file, each once.
 
-        They are tuples of dictionary strings. The first `start` matches are left out, and at most `limit` are given.
-        Errors: TypeError, ValueError for a negative number.
-
-        The time is linear in the triples, those left out and the graph's strings; the first triples come at once. It
-        keeps IDs and strings of up to 65,536 triples (fewer if strings are long, or a 64th of the number of strings),
-        and those of roles with few strings (up to a million that take 64 MiB).
+        They are tuples of dictionary strings, at most `limit` after `start` others. The time is linear in the triples,
+        those left out and the graph's strings; the first ones come at once. It keeps up to 65,536 triples, or a 64th of
+        the number of strings, with strings, and those of roles that have few (64 MiB). Errors: TypeError, ValueError.
 
         >>> list(graph.find("u:a")), list(graph.find(limit=1, start=2))
         ([('u:a', 'u:p', 'u:b'), ('u:a', 'u:q', '"x"')], [('u:b', 'u:p', 'u:a')])
@@ -307,10 +287,9 @@ class Graph(OpenHandle, metaclass=Documented):
     def position(
         self, s: Part = None, p: Part = None, o: Part = None, *, skip: int = 0, start: int = 0
     ) -> Optional[int]:
-        """The position of the match after the first `skip` ones from position `start` on; None if there is none.
+        """The position of the match after `skip` others from position `start` on, or None if there are no more.
 
-        It is for `page`. Errors: those of `find`. The time is linear in `skip`, but that of a page if the parts that
-        are given are the first ones.
+        The time is linear in `skip`, but that of a page if no part follows a None. Errors: those of `find`.
 
         >>> graph.position(p="u:p", skip=1), graph.position("u:a", skip=2), graph.position(p="u:p", start=1)
         (2, None, 2)
@@ -318,10 +297,7 @@ class Graph(OpenHandle, metaclass=Documented):
         return self._position(self._checked(pattern_of(s, p, o)), window(skip, None)[0], window(start, None)[0])
 
     def text(self, s: Given = None, p: Given = None, o: Given = None) -> str:
-        """Return the triples of `find` as N-Triples, one a line. `text_pieces` and `write_text` take less memory.
-
-        Errors: `NotATerm` if a string has no form in N-Triples, which only files of other programs have; TypeError,
-        MemoryError.
+        """The triples of `find` as N-Triples, in memory. Errors: `NotATerm` if a string has no such form, TypeError.
 
         >>> graph.text("u:b")
         '<u:b> <u:p> <u:a> .\\n'
@@ -340,10 +316,7 @@ class Graph(OpenHandle, metaclass=Documented):
         return self._page_text(self._checked(pattern_of(s, p, o)), first, most or 0)
 
     def text_pieces(self, s: Given = None, p: Given = None, o: Given = None) -> Iterator[str]:
-        """Iterate over the text of `text` in pieces of up to 1,024 lines, none of them empty.
-
-        Errors: those of `text`; `NotATerm` comes after the pieces before. It keeps one piece, which looks up its own
-        strings: the time is that of `page` for each.
+        """Iterate over the text of `text` in pieces of up to 1,024 lines, each in the time of `page`. Errors: as there.
 
         >>> sum(map(len, graph.text_pieces()))
         58
@@ -352,9 +325,7 @@ class Graph(OpenHandle, metaclass=Documented):
         return self._pieces(self._checked(matched(s, p, o)))
 
     def write_text(self, file: IO[Any], s: Given = None, p: Given = None, o: Given = None) -> None:
-        """Write the text of `text` to a file that is open for bytes, as UTF-8, or for text, piece by piece.
-
-        Errors: those of `text_pieces`, and what the file raises. It takes the time and the memory of `text_pieces`.
+        """Write the pieces of `text_pieces` to an open binary or text file, in that time. Errors: as there; the file's.
 
         >>> with open("some.nt", "wb") as file: graph.write_text(file, o='"x"')
         """

@@ -33,7 +33,7 @@ def _cut(text: str, ends: list[int]) -> list[str]:
 
 
 def _answer(answer: int) -> Optional[int]:
-    """What the library answers; None if there is no answer. Raises MemoryError."""
+    """The result of a call of the library, or None if it found nothing. Raises MemoryError."""
     if answer < _library.CLOSED:
         return answer
     if answer == _library.NO_MEMORY:
@@ -45,7 +45,7 @@ class OpenHandle(Handles):
     """The calls of the library on an open graph, with Python's values. Threads may make them at the same time."""
 
     def _asked(self, call: Any, *parameters: Any) -> Optional[int]:
-        """The answer of a call on this graph; None if there is none. Raises MemoryError."""
+        """The result of a call on this graph, or None if it found nothing. Raises MemoryError."""
         return _answer(self._call(call, parameters))
 
     def _text_made(self, made: Made, call: Any, *parameters: Any) -> str:
@@ -67,15 +67,15 @@ class OpenHandle(Handles):
         return (counts.shared + counts.subjects, counts.predicates, counts.shared + counts.objects)[role]
 
     def _string(self, role: int, number: int) -> Optional[bytes]:
-        """The bytes of the string with an ID; None where there is none."""
+        """The bytes of the string with an ID, or None if no string has it."""
         return self._put(library.hdt_string, role, c_uint64(number if 0 <= number < 2**64 else 0))
 
     def _number(self, role: int, string: bytes) -> Optional[int]:
-        """The ID of a string; None where there is none."""
+        """The ID of a string in a role, or None if the role doesn't have it."""
         return _answer(self._call(library.hdt_number, (role, string, c_size_t(len(string))), is_brief=True))
 
     def _strings(self, role: int, numbers: Iterable[int]) -> Optional[list[str]]:
-        """The strings of these IDs, in their order; None where one of them is that of no string."""
+        """The strings of these IDs, in their order, or None if one of the IDs has no string."""
         try:
             ids = array.array("Q", numbers)
         except OverflowError:
@@ -134,7 +134,7 @@ class OpenHandle(Handles):
         return found
 
     def _page(self, pattern: Pattern, start: int, room: int) -> tuple[array.array[int], Optional[int]]:
-        """The matches from a position on, at most `room`, and the position of the next one; None if it is the last."""
+        """At most `room` matches from a position on, and the position of the next one, or None if there are no more."""
         room = min(room, max(self._counts.triples - start, 0))
         page, following = _ZERO * (3 * room or 1), _ZERO[:]
         places = page.buffer_info()[0], room, following.buffer_info()[0]
@@ -155,7 +155,7 @@ class OpenHandle(Handles):
         return list(rows(page[: 3 * got])), page[-1] != _library.ABSENT
 
     def _position(self, pattern: Pattern, skip: int, start: int = 0) -> Optional[int]:
-        """The position of the match after the first `skip` ones from a position on; None if there are no more.
+        """The position of the match after `skip` others from a position on, or None if there are no more.
 
         If the matches follow one another in the file, it is `skip` positions after the first one. Else so many are
         walked over.

@@ -119,7 +119,7 @@ class Handles(Locked):
             self._free.append(shared)
 
     def _put(self, call: Any, *parameters: Any) -> Optional[bytes]:
-        """The bytes that a call puts into room that is large enough; None if there are none. Raises what `_call` does.
+        """The bytes that a call puts into a large enough buffer, or None if there are none. Raises what `_call` does.
 
         (It is `_call` once more, as the room is that of the handle.)
         """

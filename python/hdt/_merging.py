@@ -92,13 +92,12 @@ def merge(
 
     The file is the one that `build` makes of the triples as one text, so a blank node label in two inputs is one node.
     `base` and `block_size` are those of `build`. The output is replaced atomically, and may be one of the inputs.
-    Graphs stay open. `progress` is that of `build`, of the bytes of the files that are open; the merge comes after it.
+    Graphs stay open. `progress` is that of `build`, of the bytes of opened files; the merge comes after it.
 
-    Errors: `Fault` with the path of an input and its first error; ValueError for the options and for a closed graph;
-    `NoTriples` if there are no inputs; TypeError; MemoryError; OSError; what `progress` raises. The time is linear in
-    the inputs, with their strings decoded, except for sorting. Memory beside the inputs, which are all open: their
-    strings, front-coded, with 24 bytes each, and once more the distinct ones; 5 to 9 bytes for each triple of each
-    input, and as much for sorting, with 24 MB; and the file.
+    Errors: `Fault` with an input's path; ValueError for options and a closed graph; `NoTriples` without an input;
+    TypeError; MemoryError; OSError; what `progress` raises. The time is linear in the inputs, with their strings
+    decoded, except for sorting. Memory beside the inputs, which are all open: their strings, front-coded, with 24 bytes
+    each, and the distinct ones again; 5 to 9 bytes a triple, and as much for sorting, with 24 MB; and the file.
 
     >>> hdt.merge([graph, "graph.hdt"], "merged.hdt")
     Counts(triples=3, shared=2, subjects=0, predicates=2, objects=1)

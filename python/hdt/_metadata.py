@@ -124,15 +124,14 @@ def metadata(
     """Describe a graph, or the file at a path: N-Triples for its header, which `rewrite` takes.
 
     They name the graph (`base`; without it as in its header, if `build` made that, else http://example.org/dataset) as
-    an hdt:Dataset and a void:Dataset, with VoID's numbers: of triples, of different subjects, properties and objects,
-    and of classes, the objects of rdf:type. The first ones are those of the file's strings, so `rewrite` a file first
-    if it has strings that no triple uses. The time is that of `open` and linear in the triples with rdf:type.
+    an hdt:Dataset and a void:Dataset, with VoID's numbers: triples, different subjects, properties and objects, and
+    classes, the objects of rdf:type. `rewrite` a file first if no triple uses some of its strings: these are counted,
+    too. The time is that of `open` and linear in the triples with rdf:type.
 
     The other arguments, which `build` takes, too, are properties of Dublin Core, each with a value or several: `Term`s,
     dates, times or texts. A text that is an absolute IRI is one for `license`, `publisher`, `creator` and `source`; for
-    `issued`, `created` and `modified` 2026-11-29 is a date; other texts are plain literals. `properties` has more, by
-    their IRIs; their texts are literals. Errors: `Fault` as of `open`, ValueError for texts that are no terms,
-    TypeError, MemoryError, OSError.
+    `issued`, `created` and `modified` 2026-11-29 is a date; other texts are plain literals, as are all of `properties`,
+    which has more by their IRIs. Errors: those of `open`, ValueError for texts that no term has, TypeError.
 
     >>> text = hdt.metadata("graph.hdt", title="Examples", license="https://creativecommons.org/publicdomain/zero/1.0/")
     >>> hdt.rewrite("graph.hdt", "described.hdt", header=text).triples

@@ -10,7 +10,7 @@ TERMS = (URIRef, BNode, Literal)
 
 
 def string_of(term: object, scope: str = "") -> Optional[str]:
-    """Return the dictionary string of a term of rdflib; None for what can be no term of a file.
+    """Return the dictionary string of a term of rdflib, or None for what no file can have as a term.
 
     That is anything but a URIRef, a BNode or a Literal; a URIRef that is empty or would be read as another kind of
     term, as it begins with a quote or `_:`; a datatype with a quote; a blank node whose label doesn't begin with

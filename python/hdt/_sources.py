@@ -32,7 +32,7 @@ class Source(NamedTuple):
     triples: Any = None
 
     def base(self) -> Optional[str]:
-        """The IRI of the file, without the suffix of a compressed one; None if it has no name."""
+        """The IRI of the file, without the suffix of a compressed one, or None if it has no name."""
         return None if self.name is None else _Path(os.path.abspath(without_compression(self.name))).as_uri()
 
     def title(self) -> str:

@@ -25,7 +25,7 @@ def without_compression(name: str) -> str:
 
 
 def syntax_of(name: str) -> Optional[str]:
-    """The syntax that the suffix of a name says, before that of a compressed file; None if it says none."""
+    """The syntax that a name's suffix says, before that of a compressed file, or None if it says nothing."""
     return SUFFIXES.get(os.path.splitext(without_compression(name))[1].lower())
 
 

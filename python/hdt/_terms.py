@@ -81,16 +81,12 @@ class Term(metaclass=Documented):
     """A term: an IRI, a blank node or a literal. Terms with the same fields are equal. Its calls take linear time.
 
     `kind` is `"iri"`, `"blank"` or `"literal"`. `lexical` is the IRI, the label without `_:`, or the text of the
-    literal, without escapes. `language` and `datatype`, an IRI, are those of a literal; a plain one has neither. They
-    are kept as they are: no case is folded, no number normalized. Raises ValueError if it is not a term: an IRI has to
-    be absolute, a label, a language tag and a datatype those of N-Triples, and no text has U+0000. An IRI that isn't a
-    datatype may have characters that N-Triples excludes, as a space: those of some files do.
+    literal, without escapes. A literal may have a `language` or a `datatype`, an IRI; no case is folded, no number
+    normalized. Raises ValueError if it is not a term: an IRI has to be absolute, a label, a tag and a datatype those of
+    N-Triples; no text has U+0000. An IRI that isn't a datatype may have a space, or the like, as some files have.
 
     >>> hdt.Term("literal", "chat", language="fr").format()
     '"chat"@fr'
-    >>> hdt.Term("iri", "relative")
-    Traceback (most recent call last):
-    ValueError: not a term: 'relative': not an absolute IRI
     """
 
     kind: Kind
@@ -116,12 +112,10 @@ class Term(metaclass=Documented):
 
     @classmethod
     def parse(cls, string: str) -> Term:
-        """Take a dictionary string apart. Raises TypeError, and ValueError for a string that is no term.
+        """Take a dictionary string apart. Raises TypeError, and ValueError for a string that isn't a term.
 
         >>> hdt.Term.parse('"1"^^<http://www.w3.org/2001/XMLSchema#integer>').lexical
         '1'
-        >>> hdt.Term.parse("_:b")
-        Term(kind='blank', lexical='b', language=None, datatype=None)
         """
         string = string_of(string)
         if not string.startswith('"'):
@@ -163,9 +157,7 @@ class Term(metaclass=Documented):
         return cls("literal", _unescaped(literal), language, None if kind == _XSD_STRING else kind)
 
     def format_ntriples(self) -> str:
-        """The term as N-Triples, with as few escapes as there may be.
-
-        An IRI with characters that N-Triples excludes gets escapes that other programs, and `build`, refuse.
+        """The term as N-Triples. An IRI's characters that N-Triples excludes get escapes, which `build` refuses.
 
         >>> print(hdt.Term("literal", 'a "quoted" word').format_ntriples())
         "a \\"quoted\\" word"

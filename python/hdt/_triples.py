@@ -92,7 +92,7 @@ def _formatted(string: str) -> str:
 
 
 def first_of(given: Iterable[Any]) -> tuple[Optional[Any], Iterator[Any]]:
-    """The first item of an iterable, or None if there is none, and all items."""
+    """The first item of an iterable, or None if it is empty, and all items."""
     items = iter(given)
     for first in items:
         return first, _with(first, items)

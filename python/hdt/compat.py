@@ -76,13 +76,13 @@ class TripleIterator(Generic[T], Iterator[T]):
         return bool(self._ahead)
 
     def peek(self) -> T:
-        """The next match, which stays the next one. Raises StopIteration if there is none."""
+        """The next match, which stays the next one. Raises StopIteration if there are no more."""
         if not self.has_next():
             raise StopIteration
         return self._ahead[0]
 
     def next(self) -> T:
-        """The next match. Raises StopIteration if there is none."""
+        """The next match. Raises StopIteration if there are no more."""
         return self.__next__()
 
     def __next__(self) -> T:
@@ -208,7 +208,7 @@ class HDTDocument:
         return _iterator((subject, predicate, object), found, cardinality, limit, offset)
 
     def convert_id(self, id: int, position: IdentifierPosition) -> str:
-        """The term with an ID. Raises IndexError if there is none, ValueError for another position."""
+        """The term with an ID. Raises IndexError if no term has it, ValueError for another position."""
         return self._graph.string(_role(position), id)
 
     def convert_term(self, term: str, position: IdentifierPosition) -> int:

@@ -24,7 +24,7 @@ A dataset is at `/NAME`; `?subject=`, `?predicate=`, `?object=` and `&page=` ask
 Links to the next page add `&from=`, by which it costs what the first one does; a page is the same without it. It is
 ignored unless it is that of a link to this page of this file. Without it, the first far page of a pattern may take a
 walk over its matches; then each takes at most a thousand of them.
-`/NAME/void` describes it, and `/NAME/data.hdt` is its file where the configuration gives it out.
+`/NAME/void` describes it, and `/NAME/data.hdt` is its file, if the configuration allows that.
 """
 
 from __future__ import annotations

@@ -134,7 +134,7 @@ class Application:
         return self._refused(refusal, environ.get("HTTP_ACCEPT", ""), base)
 
     def _pack(self, answer: Answer, accept: str) -> None:
-        """Compress a body that is not small, where the client takes gzip."""
+        """Compress a body that isn't small, if the client takes gzip."""
         if self.config.gzip and len(answer.body) > _SMALLEST_PACKED and formats.takes_gzip(accept):
             packer = zlib.compressobj(4, zlib.DEFLATED, 31)
             answer.body = packer.compress(answer.body) + packer.flush()

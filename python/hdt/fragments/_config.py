@@ -58,7 +58,7 @@ class Source:
 
     @property
     def gives_file(self) -> bool:
-        """Whether there is a file that is given out: a folder of parts is none."""
+        """Whether there is a file to download: a folder of parts isn't one."""
         return self.download and not os.path.isdir(self.file)
 
 
@@ -129,7 +129,7 @@ class Config:
             raise ValueError(f"{path}: {error}") from error
 
     def check(self) -> None:
-        """Raise ValueError where a value can't be."""
+        """Raise ValueError for an impossible value."""
         for name in self.datasets:
             if not _NAME.match(name):
                 raise ValueError(f"not a dataset name: {name!r}")

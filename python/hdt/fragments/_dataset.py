@@ -75,11 +75,11 @@ class Dataset(Locked):
         self._load()
 
     def about(self, loaded: Optional[Loaded]) -> About:
-        """What is said of it, also where there is no file."""
+        """What is said of it, even without a file."""
         return loaded.about if loaded else about_of(self.name, self.source, {})
 
     def loaded(self) -> Optional[Loaded]:
-        """The file as it is now, or the last one that could be opened; None where there was none.
+        """The file as it is now, or the last one that could be opened, or None if no file could be.
 
         The file is checked at most once a second.
         """

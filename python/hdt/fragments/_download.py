@@ -15,9 +15,9 @@ _RANGE = re.compile(r"bytes\s*=\s*(\d{0,18})\s*-\s*(\d{0,18})\s*\Z")
 
 
 def range_of(header: str, size: int) -> Optional[tuple[int, int]]:
-    """The first byte and the one behind the last of a Range header; None where the whole file is given.
+    """The first byte of a Range header and the one after its last, or None if the whole file is sent.
 
-    Many ranges, or another unit, are answered by the whole file, as RFC 9110 allows. Raises Refusal where the file has
+    Many ranges, or another unit, are answered by the whole file, as RFC 9110 allows. Raises Refusal if the file has
     no byte of the range.
     """
     found = _RANGE.match(header)

@@ -32,7 +32,7 @@ class Asked:
 
 
 def skolem_prefix(request: Request, dataset: Dataset, config: Config) -> str:
-    """What the IRIs of blank nodes of a dataset begin with; nothing where blank nodes keep their labels."""
+    """What the IRIs of blank nodes of a dataset begin with; empty if blank nodes keep their labels."""
     if not config.skolem:
         return ""
     return (config.skolem if terms.has_scheme(config.skolem) else request.base + config.skolem) + dataset.name + "/"
@@ -120,13 +120,13 @@ class Fragment:
 
     @once
     def text(self) -> Optional[PageText]:
-        """The page as the engine writes it; None where it can't be, or its blank nodes have to be renamed."""
+        """The page as the engine writes it, or None if it can't, or if blank nodes have to be renamed."""
         found = self.loaded.reader.page_text(self.pattern, self.skip, self.config.page_size, self._start)
         return None if found is None or self.skolem and "_:" in found.lines else found
 
     @property
     def next(self) -> Optional[str]:
-        """The URL of the next page, which names its position; None where there is none."""
+        """The URL of the next page, which names its position, or None if this is the last one."""
         if self.page >= self.pages:
             return None
         text = self.text if self.is_text else None

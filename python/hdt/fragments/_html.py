@@ -71,7 +71,7 @@ class View:
         return term if term.startswith("_:") else "".join(self.short(term))
 
     def link(self, term: str, role: int) -> Optional[str]:
-        """The URL of the triples with a term in a role; None where it is too long."""
+        """The URL of the triples with a term in a role, or None if it is too long."""
         if term.startswith("_:") and self.skolem:
             term = terms.skolem_iri(term, self.skolem)
         value = terms.quoted(term) if len(term) <= _LONGEST_LINK else ""

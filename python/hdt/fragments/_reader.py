@@ -59,14 +59,14 @@ class Positions(Locked):
         self._known = array.array("Q", [0])
 
     def after(self, skip: int) -> Optional[int]:
-        """The position of the match after the first `skip` ones; None where there is none."""
+        """The position of the match after `skip` others, or None if there are no more."""
         strides, rest = divmod(skip, _STRIDE)
         if len(self._known) <= strides and not self._is_reached(strides):
             return None
         return self._graph.position(*self._pattern, skip=rest, start=self._known[strides])
 
     def _is_reached(self, strides: int) -> bool:
-        """Walk on until so many thousands of matches are known; False where there aren't so many."""
+        """Walk on until so many thousands of matches are known. Return whether there are so many."""
         with self._lock:
             while len(self._known) <= strides:
                 found = self._graph.position(*self._pattern, skip=_STRIDE, start=self._known[-1])
@@ -90,7 +90,7 @@ class Column(NamedTuple):
 
 
 class PageText(NamedTuple):
-    """Triples of a graph as N-Triples, and the position of the next match; None where there is none."""
+    """Triples of a graph as N-Triples, and the position of the next match, or None if there are no more."""
 
     lines: str
     following: Optional[int]
@@ -98,7 +98,7 @@ class PageText(NamedTuple):
 
 @dataclass
 class Page:
-    """Triples of a graph, how many were left out, and the position of the next match; None where there is none."""
+    """Triples of a graph, how many were left out, and the position of the next match, or None if there are no more."""
 
     ids: list[tuple[int, int, int]]
     columns: list[Column]
@@ -148,7 +148,7 @@ class Reader:
         return self._counted.ask(pattern, lambda: self._graph.matching(*pattern))
 
     def _position(self, pattern: Pattern, skip: int) -> Optional[int]:
-        """The position of the match after the first `skip` ones; None where there is none."""
+        """The position of the match after `skip` others, or None if there are no more."""
         if not skip:
             return 0
         s, p, o = (term is not None for term in pattern)
@@ -173,7 +173,7 @@ class Reader:
         return Page(whole, columns, len(found) - len(whole), following)
 
     def _column(self, role: int, numbers: tuple[int, ...]) -> Column:
-        """The terms of these numbers; nothing where a string is no term."""
+        """The terms of these IDs, empty for a string that isn't a term."""
         ids = sorted(set(numbers))
         strings = self._graph.strings(_ROLES[role], ids)
         if terms.are_plain(strings, role):
@@ -188,7 +188,7 @@ class Reader:
         return {term for term in objects.values() if self.has(0, term)}
 
     def page_text(self, pattern: Pattern, skip: int, room: int, start: Optional[int] = None) -> Optional[PageText]:
-        """The same page as the engine writes it; None where a string is no term, and of a graph in parts."""
+        """The same page as the engine writes it, or None if a string isn't a term, or the graph is in parts."""
         position = self._position(pattern, skip) if start is None else start
         if position is None or not self._is_one:
             return None

@@ -142,7 +142,7 @@ def named(term: str, prefix: str) -> str:
 
 
 def blank_node(iri: str, prefix: str) -> Optional[str]:
-    """The blank node of an IRI with the prefix of a dataset; None for another IRI."""
+    """The blank node of an IRI with the prefix of a dataset, or None for another IRI."""
     if not prefix or not iri.startswith(prefix):
         return None
     return "_:" + unquote(iri[len(prefix):])

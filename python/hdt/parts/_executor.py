@@ -44,7 +44,7 @@ class Task(Generic[T]):
 
     @property
     def future(self) -> Any:
-        """The future of the executor; None if there is none."""
+        """The executor's future, or None without an executor."""
         return self._future
 
 

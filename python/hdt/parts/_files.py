@@ -124,12 +124,12 @@ def page(
 
 
 def position(graph: hdt.Graph, pattern: Pattern, skip: int) -> Optional[int]:
-    """The position of the match after the first `skip` ones; None if there is none."""
+    """The position of the match after `skip` others, or None if there are no more."""
     return graph.position(*pattern, skip=skip)
 
 
 def only_subjects(graph: hdt.Graph) -> Optional[int]:
-    """The position of the first triple whose subject is no object; None if there is none."""
+    """The position of the first triple whose subject isn't an object, or None if each is."""
     shared = graph.counts.shared
     return graph.position(s=shared + 1) if shared < graph.count("subject") else None
 

@@ -198,7 +198,7 @@ class Graph(OpenFolder):
         return self.find()
 
     def position(self, s: Given = None, p: Given = None, o: Given = None, *, skip: int = 0) -> Optional[int]:
-        """The position of the match after the first `skip` ones, for `page`; None if there is none.
+        """The position of the match after `skip` others, for `page`, or None if there are no more.
 
         Errors: TypeError, ValueError for a negative number. The parts before it are asked for their counts.
 

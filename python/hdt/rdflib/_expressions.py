@@ -214,7 +214,7 @@ class Expression(Filter):
         return [row for row, is_so in zip(batch, self._each(batch, layout, self._holds)) if is_so]
 
     def values(self, batch: Batch, layout: Layout) -> list[Optional[Cell]]:
-        """The cell of its value for each row; None if there is none, or an error."""
+        """The cell of its value for each row, or None if it has no value, or an error."""
         if isinstance(self.expr, Variable):
             at = layout.get(self.expr)
             return [None] * len(batch) if at is None else [row[at] for row in batch]

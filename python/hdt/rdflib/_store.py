@@ -141,7 +141,7 @@ class HDTStore(Store):
     def triples(self, triple_pattern: Sequence[Any], context: Any = None) -> Iterator[Any]:
         """The triples that match a pattern of three terms, of which None is any, each with no contexts.
 
-        A given term is in them as it was given. Raises hdt.NotATerm where a string of the file is no term. The first
+        A given term is in them as it was given. Raises hdt.NotATerm if a string of the file isn't a term. The first
         triple comes at once; portions of up to 4,096 are looked up together. The time is linear in the triples.
 
         >>> [triple for triple, _ in HDTStore("graph.hdt").triples((None, URIRef("u:q"), None))]
@@ -225,7 +225,7 @@ class HDTStore(Store):
         """The header of the file as a new graph in memory, which may be changed.
 
         The blank nodes have the labels of the header, behind `scope`. Raises hdt.LineFault if the header isn't
-        N-Triples, which opening doesn't check, and OSError where no temporary file can be written. The time is linear
+        N-Triples, which opening doesn't check, and OSError if no temporary file can be written. The time is linear
         in the header.
 
         >>> header = HDTStore("graph.hdt").header()
