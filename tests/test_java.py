@@ -15,7 +15,7 @@ import pytest
 
 from support.built import BUILT, TOP
 from support.code_blocks import blocks
-from support.program import Result, Word, run
+from support.program import Result, Word, hdt, run
 
 JARS = Path("/usr/share/java")
 NEEDED = ["jena-arq", "jena-shacl", "jna", "junit-platform-console-standalone"]
@@ -24,7 +24,7 @@ TESTS = sorted((JAVA / "src/test/java").rglob("*Test.java"))
 PACKAGE = "io.github.tickmarl.hdt"
 SECONDS = 900
 # At least so many tests do the classes have together.
-COUNT = 41
+COUNT = 43
 
 pytestmark = [
     pytest.mark.skipif(not shutil.which("javac"), reason="there is no javac"),
@@ -127,3 +127,9 @@ def test_fresh_archive(package: Path) -> None:
     sources = (JAVA / "src/main/java").rglob("*.java")
     classes = {str(path.relative_to(JAVA / "src/main/java").with_suffix(".class")) for path in sources}
     assert {name for name in classes if not name.endswith("package-info.class")} <= set(names)
+
+
+def test_version() -> None:
+    """Maven gives the package the version of the program."""
+    (version,) = re.findall(r"</artifactId>\n  <version>(.*)</version>", (JAVA / "pom.xml").read_text())
+    assert hdt("--version").out.decode() == f"hdt {version}\n"

@@ -205,6 +205,28 @@ class HdtFileTest {
         }
     }
 
+    /** A call that runs while the file is closed goes on, and what it gives back is freed then, with the file. */
+    @Test
+    void givenBackLate() throws IOException {
+        Path path = Built.file(folder, "late", THREE);
+        FileBytes bytes = FileBytes.mapped(path);
+        Handle root = new Handle();
+        assertEquals(LibHdt.DONE, root.open(bytes));
+        Handles handles = new Handles(root, bytes);
+        Handle taken = handles.take();
+        handles.close();
+        assertThrows(IllegalStateException.class, handles::take);
+        assertEquals(2, taken.count(0, 1, 0));
+        assertTrue(isMapped(path));
+        handles.give(taken);
+        assertThrows(IllegalStateException.class, () -> taken.count(0, 1, 0));
+        assertFalse(isMapped(path));
+    }
+
+    private static boolean isMapped(Path path) throws IOException {
+        return Files.readString(Path.of("/proc/self/maps")).contains(path.toString());
+    }
+
     /** A file that nobody refers to is freed, and so are thousands of files. */
     @Test
     void manyFiles() throws IOException {
