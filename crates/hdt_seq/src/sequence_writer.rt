@@ -60,11 +60,7 @@ impl SequenceWriter {
     }
 
     /// Begins a log sequence of so many entries of a width. An error may leave its first bytes.
-    pub fn numbers(
-        count: u64,
-        width: u8,
-        out: &mut Vec<u8>,
-    ) -> Result<SequenceWriter, AllocError>
+    pub fn numbers(count: u64, width: u8, out: &mut Vec<u8>) -> Result<SequenceWriter, AllocError>
         requires { width ≤ 64 }
         ensures { IfOk result
             (λ made. IsWriting out.old.items (1 ∷ width ∷ vbyte count) width [] made out.new.items) }
@@ -102,7 +98,11 @@ impl SequenceWriter {
             → IsWriting before head width xs self out.old.items
             → out.new.items ≡ before ++ with_crcs head (packed width xs)) }
     {
-        let SequenceWriter { rest, width: _, start } = self;
+        let SequenceWriter {
+            rest,
+            width: _,
+            start,
+        } = self;
         append_bytes(rest.word, rest.filled.div_ceil(8), out)?;
         append_crc32(start.min(out.len()), out)
     }
