@@ -61,6 +61,44 @@ def test_any_files(tmp_path_factory: pytest.TempPathFactory, parts: list[list[St
     check_merge(folder, [*files, files[0]], union)
 
 
+# Strings of files of other tools: `_`, `_b` and `_.b` aren't blank nodes, but `_:` without a label is taken as one.
+STRANGE = [b"_", b"_b", b"_.b", b"_:", b"_:f0_b", b"no term"]
+WITH_STRANGE = st.tuples(st.sampled_from(NAMES + STRANGE), st.sampled_from(PREDICATES + [b"_:b", b"_b"]),
+                         st.sampled_from(NAMES + LITERALS + STRANGE))
+
+
+def renamed(triple: Strings, number: int) -> Strings:
+    """A triple with the prefix of the file with this number before the labels of its blank nodes."""
+    s, p, o = (b"_:f%d_" % number + it[2:] if it.startswith(b"_:") else it for it in triple)
+    return s, p, o
+
+
+@given(st.lists(st.lists(WITH_STRANGE, min_size=1, max_size=12, unique=True), min_size=1, max_size=12), st.randoms())
+def test_blank_nodes_apart(tmp_path_factory: pytest.TempPathFactory, parts: list[list[Strings]],
+                           draw: random.Random) -> None:
+    """With `apart` each string that begins with `_:` gets the prefix of its file, and no other string."""
+    folder = tmp_path_factory.mktemp("merge")
+    files = [loose(part, draw) if draw.random() < 0.4 else canonical_file(part, b"u:some", draw.choice([1, 2, 16]))
+             for part in parts]
+    union = [renamed(triple, number) for number, part in enumerate(parts) for triple in part]
+    check_merge(folder, files, union, "--blank-nodes", "apart")
+    check_merge(folder, files, [triple for part in parts for triple in part], "--blank-nodes=one")
+
+
+@given(st.lists(st.lists(TRIPLES, min_size=1, max_size=12), min_size=1, max_size=12))
+def test_apart_as_built(tmp_path_factory: pytest.TempPathFactory, parts: list[list[Strings]]) -> None:
+    """Merging files apart is building the documents that they are dumped to apart."""
+    folder = tmp_path_factory.mktemp("merge")
+    files = [folder / f"{number}.hdt" for number in range(len(parts))]
+    for path, part in zip(files, parts):
+        path.write_bytes(canonical_file(part))
+        path.with_suffix(".nt").write_bytes(hdt("dump", path).out)
+    built, merged = folder / "built.hdt", folder / "merged.hdt"
+    assert hdt("build", "--blank-nodes", "apart", *(it.with_suffix(".nt") for it in files), built).status == 0
+    assert hdt("merge", "--blank-nodes", "apart", *files, merged).status == 0
+    assert merged.read_bytes() == built.read_bytes()
+
+
 def test_base_and_rewriting(tmp_path: Path) -> None:
     """`--base` is that of the new file. One file is merged to what `build` makes of its triples."""
     data = canonical_file(THREE, b"http://other/", 2)
@@ -182,6 +220,14 @@ def test_invalid_options(two: list[Path]) -> None:
     unchanged(two, failed(2, "bad options"), *two, "--block-size", "0")
 
 
+def test_invalid_word(two: list[Path]) -> None:
+    """A value of `--blank-nodes` that is neither `one` nor `apart` is an error of usage."""
+    result = hdt("merge", *two, two[0].parent / "out.hdt", "--blank-nodes", "two")
+    assert (result.status, result.out) == (2, b"")
+    assert result.err.startswith(b"error: the value of --blank-nodes is one or apart\n")
+    assert not (two[0].parent / "out.hdt").exists()
+
+
 def test_no_output() -> None:
     """A file alone is an error of usage."""
     result = hdt("merge", SAMPLES / "v1.hdt")
@@ -189,13 +235,17 @@ def test_no_output() -> None:
 
 
 def test_refused_allocations(two: list[Path], tmp_path: Path) -> None:
-    """With each allocation refused in turn, OUT is as it was, or new."""
+    """With each allocation refused in turn, OUT is as it was, or new; with blank nodes kept apart, too."""
     out = tmp_path / "out.hdt"
     command: list[Word] = [PROGRAM, "merge", *two, out]
-    ample, ends = Refuser(tmp_path).run_long(command)
-    assert (ample.status, out.read_bytes()) == (0, MERGED)
-    assert {it.status for it in ends} <= {0, 4}
-    assert sum(it.status == 4 for it in ends) > 20
+    node: Strings = (b"_:b", b"u:p", b"_:c")
+    (tmp_path / "node.hdt").write_bytes(canonical_file([node]))
+    apart: list[Word] = [PROGRAM, "merge", *[tmp_path / "node.hdt"] * 2, out, "--blank-nodes=apart"]
+    for words, wanted in ((command, MERGED), (apart, canonical_file([renamed(node, 0), renamed(node, 1)]))):
+        ample, ends = Refuser(tmp_path).run_long(words)
+        assert (ample.status, out.read_bytes()) == (0, wanted)
+        assert {it.status for it in ends} <= {0, 4}
+        assert sum(it.status == 4 for it in ends) > 20
 
 
 # ---- time

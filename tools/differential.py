@@ -124,7 +124,7 @@ find a.hdt S P O RAW [--numbers] [--count] [--most N] [--skip-non-terms] [--verb
 head a.hdt
 info a.hdt [--json] [--verbose]
 lint a.nt [--keep] [--most N] [--verbose]
-merge a.hdt b.hdt OUT [--block-size SIZE] [--base BASE]
+merge a.hdt b.hdt OUT [--block-size SIZE] [--base BASE] [--blank-nodes WORD]
 number a.hdt RAW (subject s|predicate p|object o)
 rewrite a.hdt OUT [--block-size SIZE]
 split (a.nt|a.nt|a.nt b.nt|a.nt missing.nt) (--of 1/3|--of 2/2|--of 0/2|parts --parts 3|--parts 2) [--blank-nodes WORD]

@@ -27,6 +27,9 @@ mod FilteredSections
 pub mod EntrySorting
 pub mod Deduplication
 pub mod PrefixedLabels
+pub mod Relabelled
+pub mod RelabelledOrder
+pub mod RelabelledTerms
 pub mod DocumentReading
 pub mod Unions
 pub mod Unique

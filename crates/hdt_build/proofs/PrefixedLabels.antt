@@ -33,7 +33,7 @@ letter a h = case (eqb a 95) refl
 iri_first : (a : ℕ) (rest : List ℕ) → is_absolute (a ∷ rest) ≡ true → eqb a 95 ≡ false
 iri_first a rest h = letter a (and_parts _ _ h).0
 
-iri_kept : (prefix iri : List ℕ) → is_absolute iri ≡ true → prefix_label prefix iri ≡ iri
+pub iri_kept : (prefix iri : List ℕ) → is_absolute iri ≡ true → prefix_label prefix iri ≡ iri
 iri_kept prefix [] h = refl
 iri_kept prefix (a ∷ []) h = refl
 iri_kept prefix (a ∷ b ∷ rest) h =
@@ -43,7 +43,7 @@ iri_not_blank : (iri : List ℕ) → is_absolute iri ≡ true → is_blank_strin
 iri_not_blank [] h = refl
 iri_not_blank (a ∷ rest) h = iri_first a rest h
 
-literal_kept : (prefix text : List ℕ) → prefix_label prefix (34 ∷ text) ≡ 34 ∷ text
+pub literal_kept : (prefix text : List ℕ) → prefix_label prefix (34 ∷ text) ≡ 34 ∷ text
 literal_kept prefix [] = refl
 literal_kept prefix (a ∷ rest) = refl
 
@@ -68,7 +68,8 @@ text_of x h = record {
   no_zero = λ k d lt. eqb-false _ _ (not-true _ (AllPass-from_list_all (λ (c : ℕ). not (eqb c 0)) x h.no_zero k d lt));
 }
 
-label_text : (prefix label : List ℕ) → IsDictionaryString prefix → IsDictionaryString label
+-- a label with the prefix before it
+pub label_text : (prefix label : List ℕ) → IsDictionaryString prefix → IsDictionaryString label
     → IsDictionaryString (95 ∷ 58 ∷ (prefix ++ label))
 label_text prefix label p l = record {
   utf8 = IsUtf8-append (95 ∷ 58 ∷ []) (prefix ++ label)

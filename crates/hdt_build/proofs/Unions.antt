@@ -5,7 +5,7 @@ use Rattle.std.specs.List.{All, Contains, flat_map}
 use Rattle.std.proofs.lemmas.List.{flat_map_more, map-append, map_push, take_more}
 use Rattle.std.proofs.lemmas.List.Elements.{All-append, Contains-append_cases, Contains-append_left}
 use Rattle.std.proofs.lemmas.List.Elements.{Contains-append_right}
-use Rattle.hdt_dict.specs.Laws.Members.{Contains-cons_cases, Contains-here, Contains-later, Contains-nil}
+use Rattle.hdt_dict.specs.Laws.Members.{Contains-cons_cases, Contains-here, Contains-later, Contains-map, Contains-nil}
 use Rattle.hdt_dict.specs.Strings.{IsDictionaryString, SameMembers}
 use Rattle.hdt_file.specs.Denoted.{StringTriple}
 use Rattle.hdt_file.specs.File.{GraphParts}
@@ -78,6 +78,25 @@ module _ {X A : Type 0} where
     λ h. let some = contains_some f xs a h in contains_each g xs a some.0 some.1 ((same some.0 a).0 some.2),
     λ h. let some = contains_some g xs a h in contains_each f xs a some.0 some.1 ((same some.0 a).1 some.2),
   )
+
+-- images of the same members
+module _ {X Y : Type 0} (f : X → Y) where
+  image_of : (xs : List X) (y : Y) → Contains (map f xs) y → (x : X) × Contains xs x × (f x ≡ y)
+  image_of [] y h = absurd (Contains-nil y h)
+  image_of (x ∷ xs) y h =
+      elim (Contains-cons_cases (f x) y (map f xs) h) as (λ _. (z : X) × Contains (x ∷ xs) z × (f z ≡ y)) [
+        | inl same ↦ (x, Contains-here x xs, same)
+        | inr later ↦ let some = image_of xs y later in (some.0, Contains-later x some.0 xs some.1, some.2)
+      ]
+
+  image_in : (xs ys : List X) → ((x : X) → Contains xs x → Contains ys x) → (y : Y) → Contains (map f xs) y
+      → Contains (map f ys) y
+  image_in xs ys more y h =
+      let some = image_of xs y h in
+      subst (Contains (map f ys)) some.2 (Contains-map f ys some.0 (more some.0 some.1))
+
+  pub same_mapped : (xs ys : List X) → SameMembers xs ys → SameMembers (map f xs) (map f ys)
+  same_mapped xs ys same y = (image_in xs ys (λ x. (same x).0) y, image_in ys xs (λ x. (same x).1) y)
 
 module _ {X : Type 0} where
   pub same_if_equal : (xs ys : List X) → xs ≡ ys → SameMembers xs ys

@@ -11,6 +11,7 @@ use Rattle.hdt_file.specs.Tight.{IsTight, decode_tight_graph}
 use Rattle.hdt_file.specs.Graph.{graph_counts}
 use Rattle.hdt_triples.specs.TripleSequences.{Triple}
 use Rattle.hdt_build.specs.declared.options.Report.{Report}
+use Rattle.hdt_build.specs.Relabelling.{relabelled_triples}
 
 -- the graph that a file denotes: its triples, with the string of each ID
 abbrev pub denoted_by : GraphParts → List StringTriple
@@ -19,6 +20,10 @@ denoted_by g = denoted g g.triples
 -- the triples of all graphs, one graph after another, with duplicates
 abbrev pub union_of : List GraphParts → List StringTriple
 union_of gs = flat_map denoted_by gs
+
+-- the triples of all graphs, one graph after another, with duplicates, and with the prefix of each before its labels
+abbrev pub union_apart : List (List ℕ × GraphParts) → List StringTriple
+union_apart gs = flat_map (λ g. relabelled_triples g.0 (denoted_by g.1)) gs
 
 -- a graph of a header body, a dictionary and ID triples
 abbrev pub graph_parts_of : List ℕ → SectionLists → List Triple → GraphParts

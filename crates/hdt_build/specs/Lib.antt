@@ -7,4 +7,5 @@ pub mod Layouts
 pub mod NewHeader
 pub mod Options
 pub mod Reading
+pub mod Relabelling
 pub mod Inside

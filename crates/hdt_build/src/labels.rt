@@ -1,6 +1,7 @@
 //! The labels of blank nodes, in dictionary strings.
 ghost use Rattle.std.specs.Prelude.{◌≡◌, ◌||◌, IfOk};
 ghost use Rattle.hdt_terms.specs.Split.{is_blank_string, prefix_label};
+ghost use Rattle.hdt_build.specs.Relabelling.{has_label};
 
 use std::alloc::{AllocError, Global};
 
@@ -19,6 +20,16 @@ pub(crate) fn has_blank_node(before: bool, s: &[u8], o: &[u8]) -> bool
     ensures { result ≡ (before || (is_blank_string s.now || is_blank_string o.now)) }
 {
     before || is_blank(s) || is_blank(o)
+}
+
+/// Whether the string begins with `_:`.
+pub(crate) fn has_label(string: &[u8]) -> bool
+    ensures { result ≡ has_label string.now }
+{
+    match string {
+        [b'_', b':', ..] => true,
+        _ => false,
+    }
 }
 
 /// The string, with the prefix before its label if it is that of a blank node.

@@ -2,22 +2,25 @@
 ghost use Rattle.std.specs.Prelude.{◌≡◌, ◌≤◌, ◌<◌, ◌^◌, ◌⊎◌, ◌++◌, ◌∷◌, ℕ, List, [], Option, Some, length};
 ghost use Rattle.hdt_wire.specs.Checks.{IsBytes};
 ghost use Rattle.hdt_dict.specs.Strings.{SameMembers};
+ghost use Rattle.hdt_front.specs.Order.{string_cmp};
 ghost use Rattle.hdt_terms.specs.declared.triple.Triple.{Triple};
 ghost use Rattle.hdt_terms.specs.Lines.{Document};
 ghost use Rattle.hdt_build.specs.Built.{IsBuilt, Builds, IsRewritten, BuiltGraph, joined_triples, graphs_of};
 ghost use Rattle.hdt_build.specs.Canonical.{IsCanonical};
+ghost use Rattle.hdt_build.specs.Documents.{BuiltDocument, prefixed_documents, prefixed_graphs};
 ghost use Rattle.hdt_file.specs.Denoted.{StringTriple};
 ghost use Rattle.hdt_file.specs.File.{GraphParts, IsLayout};
 ghost use Rattle.hdt_build.specs.Header.{header_body};
-ghost use Rattle.hdt_build.specs.Layouts.{IsLayoutOf, IsVerified, denoted_by, union_of};
+ghost use Rattle.hdt_build.specs.Layouts.{IsLayoutOf, IsVerified, denoted_by, union_apart, union_of};
 ghost use Rattle.hdt_build.specs.Options.{AreValidOptions, IsBlockSize};
 ghost use Rattle.hdt_build.specs.Reading.{most, IsBuildFaultOf, ReadFailed};
+ghost use Rattle.hdt_build.specs.Relabelling.{relabelled};
 ghost use Rattle.hdt_build.specs.declared.fault.BuildFault.{BuildFault};
 ghost use Rattle.hdt_build.specs.declared.options.Options.{Options};
 ghost use Rattle.hdt_build.specs.declared.options.Report.{Report};
 
 use hdt_file::{one_layout, one_tight_layout};
-use hdt_terms::line_or_fault;
+use hdt_terms::{line_or_fault, text_encodes_one_term};
 
 /// A canonical file is a valid file with its header body: `open` of hdt_file accepts it, and its graph has exactly the
 /// given triples, each once. The same holds for a file that is built.
@@ -99,17 +102,29 @@ pub fn rewriting_again_changes_nothing()
 }
 
 /// Merging files that were built from documents gives the file that is built from all documents together, as if they
-/// were one after another. Merging a file that was itself merged, or built, gives what merging its inputs does.
+/// were one after another; with a prefix for the labels of each document, too. Merging a file that was itself merged,
+/// or built, gives what merging its inputs does.
 pub fn merging_is_building()
     ensures built { (options : Options) (files : List BuiltGraph) (x y : List ℕ) (r s : Report)
         → IsBuilt options (union_of (graphs_of files)) x r → IsBuilt options (joined_triples files) y s → x ≡ y }
+    ensures apart { (options : Options) (documents : List BuiltDocument) (x y : List ℕ) (r s : Report)
+        → IsBuilt options (union_apart (prefixed_graphs documents)) x r
+        → IsBuilt options (prefixed_documents documents) y s → x ≡ y }
     ensures merged { (options : Options) (file : BuiltGraph) (inputs others : List GraphParts) (x y : List ℕ)
         (r s : Report) → file.triples ≡ union_of inputs
         → IsBuilt options (union_of (file.graph ∷ others)) x r → IsBuilt options (union_of (inputs ++ others)) y s
         → x ≡ y }
 {
     one_layout();
+    text_encodes_one_term();
 }
+
+/// A prefix before the labels keeps the order of strings, so that those of a section still ascend, and no two become
+/// one.
+pub fn relabelling_keeps_the_order()
+    ensures order { (prefix x y : List ℕ) → string_cmp (relabelled prefix x) (relabelled prefix y) ≡ string_cmp x y }
+    ensures distinct { (prefix x y : List ℕ) → relabelled prefix x ≡ relabelled prefix y → x ≡ y }
+{}
 
 /// The order of the inputs and duplicates make no difference to the file. Merging one graph gives what rewriting it
 /// does, if it has the header of a merged file.

@@ -78,8 +78,8 @@ pub use documents::DocumentBuilder;
 pub use fault::{BuildFault, HeaderFault, MergeFault, RewriteFault};
 pub use laws::{
     canonical_files_are_layouts, equal_graphs_equal_files, merging_is_a_union, merging_is_building,
-    no_triples_is_reported, one_canonical_file, one_document, reports_are_verified,
-    rewriting_again_changes_nothing, rewriting_keeps_the_graph,
+    no_triples_is_reported, one_canonical_file, one_document, relabelling_keeps_the_order,
+    reports_are_verified, rewriting_again_changes_nothing, rewriting_keeps_the_graph,
 };
 pub use merging::{Merger, merge, merge_bytes};
 pub use new_header::{new_headers_keep_the_graph, with_header};

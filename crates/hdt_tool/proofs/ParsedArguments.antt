@@ -239,7 +239,8 @@ split_needed name rows is a h = differ name _ _ is h.0 refl
 
 -- `merge` needs its options.
 pub merge_needed : (name : Text) (rows : List Row) → name ≡ codes "merge" → (a : Action) → IsQueryAction name rows a
-    → (options : MergeOptions) × ParsesAsMergeOptions rows options
+    → (options : MergeOptions) × (b : Option BlankNodes) × ParsesAsMergeOptions rows options
+    × ParsesAsBlankNodes (first_of (codes "blank-nodes") rows) b
 merge_needed name rows is (action.Find given numbers) (inl h) = differ name _ _ is h.named refl
 merge_needed name rows is (action.Find given numbers) (inr h) = differ name _ _ is h.0 refl
 merge_needed name rows is (action.SkipNonTerms given count most) (inl h) = differ name _ _ is h.named refl
@@ -249,5 +250,5 @@ merge_needed name rows is (action.Count role top raw) h = differ name _ _ is h.n
 merge_needed name rows is (action.Answer options) h = differ name _ _ is h.named refl
 merge_needed name rows is (action.Build options) h = absurd h
 merge_needed name rows is (action.Rewrite b) h = absurd h
-merge_needed name rows is (action.Merge options) h = (options, h.1)
+merge_needed name rows is (action.Merge options blank) h = (options, blank, h.1, h.2)
 merge_needed name rows is a h = differ name _ _ is h.0 refl

@@ -274,7 +274,8 @@ IsQueryAction name rows (action.Lint keep most) = IsLintCommand name rows keep m
 IsQueryAction name rows (action.Build options) = ⊥
 IsQueryAction name rows (action.Rewrite b) = ⊥
 IsQueryAction name rows (action.Split options) = (name ≡ codes "split") × ParsesAsSplitOptions rows options
-IsQueryAction name rows (action.Merge options) = (name ≡ codes "merge") × ParsesAsMergeOptions rows options
+IsQueryAction name rows (action.Merge options blank) = (name ≡ codes "merge") × ParsesAsMergeOptions rows options
+    × ParsesAsBlankNodes (first_of (codes "blank-nodes") rows) blank
 IsQueryAction name rows (action.BuildInputs options blank) = (name ≡ codes "build") × ParsesAsMergeOptions rows options
     × ParsesAsBlankNodes (first_of (codes "blank-nodes") rows) blank
 

@@ -101,7 +101,7 @@ Prints (Lint keep most) bytes text = text ≡ []
 Prints (Build options) bytes text = ⊥
 Prints (Rewrite b) bytes text = ⊥
 Prints (Split options) bytes text = text ≡ []
-Prints (Merge options) bytes text = text ≡ []
+Prints (Merge options blank) bytes text = text ≡ []
 Prints (BuildInputs options blank) bytes text = text ≡ []
 
 -- The command reads a file and writes none.
@@ -156,7 +156,7 @@ HasFault (VerifyTerms false) bytes fault = decode_graph bytes ≡ Err fault
 HasFault (Build options) bytes fault = ⊥
 HasFault (Lint keep most) bytes fault = ⊥
 HasFault (Split options) bytes fault = ⊥
-HasFault (Merge options) bytes fault = ⊥
+HasFault (Merge options blank) bytes fault = ⊥
 HasFault (BuildInputs options blank) bytes fault = ⊥
 HasFault action bytes fault = decode_graph bytes ≡ Err fault
 

@@ -78,7 +78,7 @@ fn input_name<'a>(action: &Action) -> &'a str {
 fn other_inputs(action: &Action) -> &[String] {
     match action {
         Action::Split(options) => options.others.as_slice(),
-        Action::Merge(options) | Action::BuildInputs(options, _) => options.others.as_slice(),
+        Action::Merge(options, _) | Action::BuildInputs(options, _) => options.others.as_slice(),
         _ => &[],
     }
 }

@@ -120,7 +120,7 @@ fn file_text(alloc: Global, action: &Action, bytes: &[u8]) -> Result<Vec<u8>, To
             Layout::read(alloc, bytes)?;
             Ok(Vec::new(alloc))
         }
-        Action::Lint { .. } | Action::Split(_) | Action::Merge(_) => Ok(Vec::new(alloc)),
+        Action::Lint { .. } | Action::Split(_) | Action::Merge(_, _) => Ok(Vec::new(alloc)),
         Action::BuildInputs(_, _) => Ok(Vec::new(alloc)),
         Action::Strings(_) | Action::Find { .. } | Action::Search { .. } => unreachable!(),
         Action::SkipNonTerms { .. } | Action::VerifyTerms { .. } => unreachable!(),

@@ -38,7 +38,7 @@ pub struct AnswerReport {
     pub skipped: u64,
 }
 
-/// Whether a label is one blank node in all inputs of `split`, or of `build`.
+/// Whether a label is one blank node in all inputs of `split`, `build` or `merge`.
 #[derive(Clone, Copy, Debug, PartialEq, Eq)]
 pub enum BlankNodes {
     /// It is: the inputs are pieces of one document.
@@ -170,8 +170,9 @@ pub enum Action {
     Rewrite(u32),
     /// Splits N-Triples documents into parts, by subject.
     Split(SplitOptions),
-    /// Merges files into one, and prints the counts of its parts.
-    Merge(MergeOptions),
+    /// Merges files into one, and prints the counts of its parts. Without a value of `--blank-nodes` a label is one
+    /// node in all files.
+    Merge(MergeOptions, Option<BlankNodes>),
     /// Builds one HDT file from several N-Triples documents, or with `--blank-nodes`, and prints the counts of its
     /// parts. Without a value of that option only one document may have blank nodes.
     BuildInputs(MergeOptions, Option<BlankNodes>),

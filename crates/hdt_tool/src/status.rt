@@ -208,7 +208,9 @@ fn query_status(rt: &HostRuntime, source: ErrorSource<'_>, request: &Request) ->
         }
         Action::Lint { keep, most } => Outcome::of_lint(lint_path(rt, source, path, *keep, *most)),
         Action::Split(options) => return run_split(rt, source, request, options),
-        Action::Merge(options) => return run_merge(rt, source, request, options),
+        Action::Merge(options, blank_nodes) => {
+            return run_merge(rt, source, request, options, *blank_nodes);
+        }
         Action::BuildInputs(options, blank_nodes) => {
             return build_inputs(rt, source, request, options, *blank_nodes);
         }

@@ -100,7 +100,8 @@ build_rows = verbose_row ∷ flag_row (codes "no-progress") ∷ base_row ∷ blo
     ∷ longest_line_row ∷ progress_row ∷ []
 
 abbrev pub merge_rows : List Argument
-merge_rows = verbose_row ∷ flag_row (codes "no-progress") ∷ base_row ∷ block_size_row ∷ progress_row ∷ []
+merge_rows = verbose_row ∷ flag_row (codes "no-progress") ∷ base_row ∷ block_size_row ∷ text_row (codes "blank-nodes")
+    ∷ progress_row ∷ []
 
 -- A command that reads FILE, with these arguments too.
 abbrev pub file_command : Text → List Argument → CommandRow

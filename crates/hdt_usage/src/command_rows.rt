@@ -266,6 +266,7 @@ pub(crate) const COMMANDS: &[CommandRow] = &[
             NO_PROGRESS,
             BASE_IRI,
             BLOCK_SIZE,
+            BLANK_NODES,
             PROGRESS,
         ],
     ),

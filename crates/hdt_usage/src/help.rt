@@ -301,6 +301,10 @@ headers of the files: the new header is that of `build`. On success, print `merg
 counts: the triples, the strings of the sections shared, subjects, predicates and objects, and
 the bytes of the file.
 
+With --blank-nodes apart a label is another node in each file: labels of the first file get the
+prefix f0_, those of the second one f1_, and so on, as in `build`. A blank node is any string that
+begins with _:, in any role.
+
 The last path is OUT. OUT may be one of the files: it is replaced when the new file is complete.
 OUT is replaced atomically: a temporary file in the same directory, which only its owner can open,
 is written and synced, gets OUT's permissions and group, and is renamed. If you may not give it

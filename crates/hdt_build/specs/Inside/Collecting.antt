@@ -10,6 +10,7 @@ use Rattle.hdt_file.specs.File.{GraphParts}
 use Rattle.hdt_build.specs.declared.sections.NewIds.{NewIds}
 use Rattle.hdt_build.specs.Inside.Rewriting.{new_id}
 use Rattle.hdt_build.specs.Reading.{HasDictionaryStrings}
+use Rattle.hdt_build.specs.Relabelling.{relabelled}
 use Rattle.hdt_build.specs.Graph.{string_triples_of}
 use Rattle.hdt_build.specs.declared.collector.TripleCollector.{TripleCollector}
 use Rattle.hdt_build.specs.declared.queue.Queue.{Queue}
@@ -20,16 +21,16 @@ pub record AreBelow (n : ℕ) (ids : List Triple) : Type 0 where
   pub predicates : All (λ t. t.1 < n) ids
   pub objects : All (λ t. t.2 < n) ids
 
--- each ID of a role is mapped to an index of its string in the list
-abbrev pub HaveIndices : GraphParts → Role → List (List ℕ) → (ℕ → ℕ) → Type 0
-HaveIndices g role xs index = (n : ℕ) → 1 ≤ n → n ≤ length (role_strings g.dictionary role)
-    → (index n < length xs) × (slice_index_or xs (index n) [] ≡ string_of g role n)
+-- each ID of a role is mapped to an index of its string, with the prefix before its label, in the list
+abbrev pub HaveIndices : List ℕ → GraphParts → Role → List (List ℕ) → (ℕ → ℕ) → Type 0
+HaveIndices prefix g role xs index = (n : ℕ) → 1 ≤ n → n ≤ length (role_strings g.dictionary role)
+    → (index n < length xs) × (slice_index_or xs (index n) [] ≡ relabelled prefix (string_of g role n))
 
--- each ID of each role is mapped to an index of its string in the list
-pub record AreIndexMaps (g : GraphParts) (xs : List (List ℕ)) (ids : NewIds) : Type 0 where
-  pub subjects : HaveIndices g Subject xs (new_id ids.subjects)
-  pub predicates : HaveIndices g Predicate xs (new_id ids.predicates)
-  pub objects : HaveIndices g Object xs (new_id ids.objects)
+-- each ID of each role is mapped to an index of its string, with the prefix before its label, in the list
+pub record AreIndexMaps (prefix : List ℕ) (g : GraphParts) (xs : List (List ℕ)) (ids : NewIds) : Type 0 where
+  pub subjects : HaveIndices prefix g Subject xs (new_id ids.subjects)
+  pub predicates : HaveIndices prefix g Predicate xs (new_id ids.predicates)
+  pub objects : HaveIndices prefix g Object xs (new_id ids.objects)
 
 -- the string triples of a queue, in input order, with duplicates
 abbrev pub queued_triples : Queue → List StringTriple

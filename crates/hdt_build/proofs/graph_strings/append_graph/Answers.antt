@@ -11,8 +11,8 @@ returns-clause-maps c =
     let p = c.in_ok-predicates.ensures in
     let o = c.in_ok-objects.ensures in
     record {
-      subjects = later_indices g Subject _ _ _ s.indices (goes_on _ _ _ p.list o.list);
-      predicates = later_indices g Predicate _ _ _ p.indices o.list;
+      subjects = later_indices c.args.prefix.now g Subject _ _ _ s.indices (goes_on _ _ _ p.list o.list);
+      predicates = later_indices c.args.prefix.now g Predicate _ _ _ p.indices o.list;
       objects = o.indices;
     }
 

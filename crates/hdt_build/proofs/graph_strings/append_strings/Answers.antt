@@ -1,11 +1,13 @@
-use Rattle.std.proofs.Common.{◌≡◌, ◌∙◌, ◌++◌, ◌∷◌, ℕ, ◌+◌, ◌-◌, [], List, get_or, ap, take}
+use Rattle.std.proofs.Common.{◌≡◌, ◌∙◌, ◌++◌, ◌∷◌, ℕ, ◌+◌, ◌-◌, [], List, get_or, ap, map, take}
 use Rattle.std.proofs.Common.{append_assoc, sym, refl}
 use Rattle.std.proofs.Common.{arith}
-use Rattle.std.proofs.lemmas.List.{take_all, take_more}
+use Rattle.std.proofs.lemmas.List.{take_all}
 use Rattle.hdt_dict.specs.Dictionary.{role_strings}
 use Rattle.hdt_file.specs.Graph.{graph_view}
 use Rattle.hdt_build.proofs.CursorSteps.{goes, ended}
+use Rattle.hdt_build.specs.Relabelling.{relabelled}
 use Rattle.hdt_build.proofs.GraphIndices.{appended, shifted_indices}
+use Rattle.hdt_build.proofs.IndexTriples.{mapped_more}
 use Rattle.hdt_build.proofs.StringsOfIds.{term_is}
 use Rattle.hdt_build.proofs.graph_strings.append_strings.Goals as goal
 
@@ -33,16 +35,14 @@ strings-preserved c =
     let at : w.given + 1 - 1 ≡ w.given = omega arith in
     let text : new.last ≡ get_or all w.given [] =
     go.last ∙ (term_is all (w.given + 1) (omega arith) ∙ ap (λ (k : ℕ). get_or all k []) at) in
-    let more = take_more all w.given [] (omega (arith, go.given, go.progress.within)) in
+    let f : List ℕ → List ℕ = relabelled c.args.prefix.now in
     record {
       progress = go.progress;
-      added = ap (λ (xs : List (List ℕ)). c.run_from.new.terms ++ xs) c.in_ok-push.ensures
-          ∙ (sym (append_assoc c.run_from.new.terms c.in_ok-run.run' (c.string.result.now ∷ []))
-          ∙ (ap (λ (xs : List (List ℕ)). xs ++ c.string.result.now ∷ []) (c.in_ok-run.ensures ∙ i.added)
-          ∙ (append_assoc c.args.terms.now (take w.given all) (c.string.result.now ∷ [])
-          ∙ ap (λ (xs : List (List ℕ)). c.args.terms.now ++ xs)
-          (ap (λ (x : List ℕ). take w.given all ++ x ∷ []) (c.string.ensures ∙ text)
-          ∙ (sym more ∙ ap (λ (k : ℕ). take k all) (sym go.given))))));
+      added = ap (λ (xs : List (List ℕ)). c.run_from.new.terms ++ xs) c.in_ok-push_relabelled.ensures
+          ∙ (sym (append_assoc c.run_from.new.terms c.in_ok-run.run' (f c.string.result.now ∷ []))
+          ∙ ((λ j. c.in_ok-run.ensures j ++ f ((c.string.ensures ∙ text) j) ∷ [])
+          ∙ (mapped_more f [] all w.given c.args.terms.now _ (omega (arith, go.given, go.progress.within)) i.added
+          ∙ ap (λ (k : ℕ). c.args.terms.now ++ map f (take k all)) (sym go.given))));
     }
 
 pub returns-clause-indices : goal.returns-clause-indices
@@ -53,9 +53,9 @@ returns-clause-indices c =
     let none = ended all c.strings.strings c.in_ok-id.field-0 i.progress
     c.in_ok-id.ensures.id (λ k. c.in_default.not-Some k) in
     let added = c.in_ok-add.ensures ∙ i.added
-    ∙ ap (λ (xs : List (List ℕ)). c.args.terms.now ++ xs)
+    ∙ ap (λ (xs : List (List ℕ)). c.args.terms.now ++ map (relabelled c.args.prefix.now) xs)
     (take_all c.strings.strings.given all (omega (arith, none))) in
-    shifted_indices g c.args.role c.args.terms.now c.add.new.self added
+    shifted_indices c.args.prefix.now g c.args.role c.args.terms.now c.add.new.self added
     (omega (arith, c.len-end.ensures, c.before.drop-2.ranges)) _
     (rw (c.len-end.ensures, c.count.ensures) refl)
 

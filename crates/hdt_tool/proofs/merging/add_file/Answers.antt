@@ -8,6 +8,6 @@ returns-clause-ok g c = record {
   holds = record {
     graph = graph_view c.in_ok-graph.graph;
     encoded = rw c.deref.ensures.value at c.in_ok-graph.ensures.found;
-    holds = c.in_ok-with.ensures.added;
+    holds = rw (c.as_slice.ensures.value, c.in_ok-prefix.ensures.is) at c.in_ok-with_prefix.ensures.added;
   };
 }
