@@ -21,11 +21,18 @@ def entries() -> list[errors.Entry]:
     return [entry for entry in errors.entries(errors.PAGE.read_text()) if entry.kind in errors.TABLES]
 
 
+def explanation(entry: errors.Entry) -> str:
+    """What is printed of an error of a file or a text."""
+    meaning, cause, remedy = entry.plain()
+    heading = f"Error {entry.number} of {errors.TABLES[entry.kind][1]}: {entry.name}"
+    return f"{heading}\n\n{meaning}\n\nCause: {cause}\n\nRemedy: {remedy}"
+
+
 def printed(found: list[errors.Entry]) -> Result:
     """The result of explaining these errors: a line first that names them, if there are two."""
     names = [f"{entry.number} {entry.name} of {errors.TABLES[entry.kind][1]}" for entry in found]
     heading = [f"Two errors: {names[0]}, and {names[1]}."] if len(found) == 2 else []
-    return done("\n\n".join([*heading, *map(errors.explanation, found)]).encode() + b"\n")
+    return done("\n\n".join([*heading, *map(explanation, found)]).encode() + b"\n")
 
 
 @pytest.mark.parametrize("number", range(1, 35))
@@ -59,7 +66,7 @@ def test_one_reason() -> None:
 def test_layout() -> None:
     """The lines fit into a terminal of 80 columns, commands aside, and have no spaces at their end."""
     for entry in entries():
-        for line in errors.explanation(entry).splitlines():
+        for line in explanation(entry).splitlines():
             assert line == line.rstrip() and (len(line) <= errors.COLUMNS or "hdt " in line), line
 
 

@@ -142,7 +142,7 @@ CHANGES: list[tuple[str, str, str, list[str]]] = [
     (PROMISES, "`other_mutant` in low", "`some_mutant` in low", ["there is no mutant some_mutant in low"]),
     (PROMISES, "`two_is_one` (by", "(`two_is_one`, by", ["the mutant two_is_one is named 0 times, and not once"]),
     (PROMISES, " | `starts_at_one`", "", [
-        "a row without its four cells: | It starts at zero. | `Thing::new` | `is` |",
+        "a row without its four cells: It starts at zero. | `Thing::new` | `is`",
         "the mutant starts_at_one is named 0 times, and not once", "the exported function new is in no row"]),
     (ROOT, "two;", "law;", ["the exported function law is in no row"]),
     (SOURCE, "    fn inner", "    pub fn outer() {}\n    fn inner", ["the exported function outer is in no row"]),

@@ -21,7 +21,7 @@ import time
 from pathlib import Path
 
 from tools import manifest
-from tools.repository import TOP, Crate, NoKit, command_line, crates, kit, kit_line
+from tools.repository import TOP, Crate, Failed, command_line, crates, kit, kit_line, lanes, lines_of
 
 # The crate whose program is the command `hdt`, and the crate of the C library.
 COMMAND = "hdt"
@@ -32,21 +32,12 @@ PROVED = TOP / "out/PROVED"
 SONAME = "libhdt.so.1"
 
 
-class Failed(Exception):
-    """A step of the build failed; the message says which and where to read on."""
-
-
 def toolchain(name: str, *words: str | Path) -> None:
     """Run one of the kit's LLVM tools by its name. Raises Failed."""
     command, clang = [name, *map(str, words)], kit() / "toolchain/bin/clang"
     ran = subprocess.run(command, executable=clang, stdout=subprocess.PIPE, stderr=subprocess.STDOUT, text=True)
     if ran.returncode:
         raise Failed(f"{name} failed: {ran.stdout.strip()}")
-
-
-def lanes() -> int:
-    """Return how many checks may run side by side: one a processor, four at most, as a check takes up to 2.5 GB."""
-    return min(4, len(os.sched_getaffinity(0)))
 
 
 def keep_proved(began: str) -> None:
@@ -57,16 +48,6 @@ def keep_proved(began: str) -> None:
     PROVED.write_text(began + "\n")
 
 
-def progress(line: str, began: float, done: int) -> int:
-    """Print what a line of `rt ci` says of a crate; return how many crates are done."""
-    if found := re.match(r"rt: (\w+) (proved|is kept|NOT PROVED)", line):
-        done += found[2] != "NOT PROVED"
-        clock = int(time.monotonic() - began)
-        said = {"is kept": "was proved before"}.get(found[2], f"is {found[2]}")
-        print(f"hdt: {clock // 60}:{clock % 60:02} {found[1]} {said}, {done} of {len(crates())}", file=sys.stderr)
-    return done
-
-
 def prove() -> None:
     """Run `rt ci`, print a line for each crate that is proved, and keep its output in out/prove.log.
 
@@ -75,18 +56,17 @@ def prove() -> None:
     kit()
     log = TOP / "out/prove.log"
     log.parent.mkdir(exist_ok=True)
-    sources, began, done = manifest.sources(), time.monotonic(), 0
-    told = f"proving {len(crates())} crates on {lanes()} processors; CONTRIBUTING.md says how long that takes"
-    print(f"hdt: {told}", file=sys.stderr)
-    pipe, both, env = subprocess.PIPE, subprocess.STDOUT, {"RT_JOBS": str(lanes()), **os.environ}
+    sources, began, done, whole = manifest.sources(), time.monotonic(), 0, len(crates())
+    told = f"proving {whole} crates on {lanes()} processors, with its output in {log.relative_to(TOP)}"
+    print(f"hdt: {told}; CONTRIBUTING.md says how long that takes", file=sys.stderr)
     with open(log, "w", buffering=1) as kept:
-        ran = subprocess.Popen(["rt", "ci"], cwd=TOP, stdout=pipe, stderr=both, text=True, errors="replace", env=env)
-        assert ran.stdout
-        for line in ran.stdout:
+        for line in lines_of("rt", "ci", env={"RT_JOBS": str(lanes()), **os.environ}):
             kept.write(line)
-            done = progress(line, began, done)
-    if ran.wait():
-        raise Failed(f"rt ci did not pass; see {log.relative_to(TOP)}")
+            if found := re.match(r"rt: (\w+) (proved|is kept|NOT PROVED)", line):
+                done += found[2] != "NOT PROVED"
+                clock = int(time.monotonic() - began)
+                said = {"is kept": "was proved before"}.get(found[2], f"is {found[2]}")
+                print(f"hdt: {clock // 60}:{clock % 60:02} {found[1]} {said}, {done} of {whole}", file=sys.stderr)
     keep_proved(sources)
 
 
@@ -187,7 +167,7 @@ def main() -> int:
         if not given.dist:
             link()
         print(f"hdt: made {ship() if given.dist else f'out/{manifest.PLATFORM}'}", file=sys.stderr)
-    except (Failed, NoKit) as why:
+    except Failed as why:
         print(f"hdt: {why}", file=sys.stderr)
         return 2
     return 0

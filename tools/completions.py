@@ -123,12 +123,6 @@ def zsh_word(text: str) -> str:
     return "'" + text.replace("'", r"'\''") + "'"
 
 
-def zsh_argument(number: int, it: Argument) -> str:
-    """Return the specification of an argument for `_arguments`."""
-    action = f'_files -g "*.{it.suffix}"' if it.suffix else f"({' '.join(it.choices)})" if it.choices else " "
-    return zsh_word(f"{number}:{it.name}:{action}")
-
-
 def zsh_option(it: Option) -> list[str]:
     """Return the specifications of an option for `_arguments`."""
     help = re.sub(r"([\[\]:\\])", r"\\\1", it.help)
@@ -142,7 +136,9 @@ def zsh(all_commands: list[Command]) -> list[str]:
     cases = ""
     for it in others:
         words = [word for option in it.options for word in zsh_option(option)]
-        words += [zsh_argument(number, arg) for number, arg in enumerate(it.arguments, 1)]
+        for number, arg in enumerate(it.arguments, 1):
+            offered = f"({' '.join(arg.choices)})" if arg.choices else " "
+            words.append(zsh_word(f"{number}:{arg.name}:" + (f'_files -g "*.{arg.suffix}"' if arg.suffix else offered)))
         cases += f"{it.name})\n    _arguments -s " + " \\\n        ".join(words) + " ;;\n"
     names = "".join(f"    {zsh_word(f'{it.name}:{it.help}')}\n" for it in others)
     options = " ".join(word for option in first.options for word in zsh_option(option))

@@ -87,11 +87,9 @@ def plain(text: str) -> str:
     return " ".join(re.sub(r"^\s*--.*$", "", text, flags=re.M).split())
 
 
-def contracts(crate: Texts) -> Iterator[tuple[str, Parts]]:
-    """Give the functions that a library exports: type and name, and the parts of the contract."""
-    for it in functions(crate) if exported(crate) is not None else ():
-        if it.is_exported:
-            yield it.name, it.parts()
+def of_library(texts: Texts) -> list[Function]:
+    """Return the functions that a library exports; a program exports none to other crates."""
+    return [] if exported(texts) is None else [it for it in functions(texts) if it.is_exported]
 
 
 def differences(old: dict[str, Parts], new: dict[str, Parts]) -> Iterator[str]:
@@ -117,7 +115,7 @@ def main() -> int:
         data = subprocess.run(archive, check=True, stdout=subprocess.PIPE).stdout
         subprocess.run(["tar", "-x", "-C", folder], input=data, check=True)
         crates = [sorted((top / "crates").iterdir()) for top in (Path(folder), given.top)]
-        old, new = (dict(it for crate in some for it in contracts(sources(crate))) for some in crates)
+        old, new = ({it.name: it.parts() for crate in some for it in of_library(sources(crate))} for some in crates)
     found = list(differences(old, new))
     print(*found, f"{len(new)} functions, {len(found)} differences", sep="\n")
     return int(bool(found))

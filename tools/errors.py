@@ -74,11 +74,6 @@ class Entry(NamedTuple):
     remedy: str
     example: str
 
-    def is_whole(self) -> bool:
-        """Whether there are a cause and a remedy; a message has neither."""
-        parts = (self.cause, self.remedy)
-        return not any(parts) if self.kind == "message" else all(parts)
-
     def plain(self) -> tuple[str, str, str]:
         """Return meaning, cause and remedy without markup, in lines of at most COLUMNS columns."""
         return filled(self.meaning), filled(self.cause, "Cause: "), filled(self.remedy, "Remedy: ")
@@ -119,7 +114,9 @@ def entries(page: str) -> list[Entry]:
             found.append(
                 Entry(kind, int(named["number"]), named["name"], joined(it["meaning"]), cause, remedy, it["example"])
             )
-        if len(matches) != text.count("\n### ") or not all(map(Entry.is_whole, found)):
+        # (a message has no cause and no remedy, any other error both)
+        parts = [bool(part) for it in found if it.kind == kind for part in (it.cause, it.remedy)]
+        if len(matches) != text.count("\n### ") or (kind == "message") in parts:
             raise ValueError(f"an error without one of its parts, in the section {title}")
     return found
 
@@ -135,26 +132,13 @@ def joined(text: str) -> str:
 TABLES = {"file": ("file_errors", "an HDT file"), "text": ("text_errors", "an N-Triples text")}
 
 
-def explanation(entry: Entry) -> str:
-    """Return what `hdt explain` prints of an error of a file or a text."""
-    meaning, cause, remedy = entry.plain()
-    heading = f"Error {entry.number} of {TABLES[entry.kind][1]}: {entry.name}"
-    return f"{heading}\n\n{meaning}\n\nCause: {cause}\n\nRemedy: {remedy}"
-
-
-def rattle_text(text: str) -> str:
-    """Return a text as a literal of Rattle. Its line ends stay as they are."""
-    escaped = text.replace("\\", "\\\\").replace('"', '\\"')
-    return f'"{escaped}"'
-
-
 def rattle_module(kind: str, found: list[Entry]) -> str:
     """Return the Rattle module with the explanations of the errors of a kind."""
     name, what = TABLES[kind]
     rows = ""
     for entry in (it for it in found if it.kind == kind):
-        texts = (str(entry.number), entry.name, *entry.plain())
-        rows += "    (\n" + "".join(f"        {rattle_text(text)},\n" for text in texts) + "    ),\n"
+        texts = (re.sub(r'([\\"])', r"\\\1", it) for it in (str(entry.number), entry.name, *entry.plain()))
+        rows += "    (\n" + "".join(f'        "{text}",\n' for text in texts) + "    ),\n"
     return (
         f"//! The errors of {what}. `python3 -m tools.errors --rattle` makes this of docs/ERRORS.md.\n\n"
         "use crate::explanations::Explanation;\n\n"

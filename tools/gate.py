@@ -1,15 +1,7 @@
 """The gate, `make prove`: every proof, the mutants, the shipped files and all tests.
 
 It runs its parts one after another, stops at the first that fails, prints a table of what each took, and ends with the
-line 'N passed, M failed'. The parts:
-
-- `rt ci` proves every crate, tries the mutants of must-fail/, and runs the programs and tests in Rattle;
-- `link` makes out/x86_64-linux-gnu of what was proved;
-- `mutants` judges the mutants (tools/mutants.py);
-- `promises` checks the tables crates/NAME/PROMISES.md against the sources (tools/promises.py);
-- `dist` compares dist/ with the tree's sources and with the files just made;
-- `tests` runs ./test over dist/, and the tests that need the kit. If this kit is not the one that made dist/, the tests
-  run over the files just made, too.
+line 'N passed, M failed'. CONTRIBUTING.md says what the parts do.
 """
 
 from __future__ import annotations
@@ -17,13 +9,12 @@ from __future__ import annotations
 import os
 import re
 import resource
-import subprocess
 import sys
 import time
 from collections.abc import Callable, Mapping
 
 from tools import build, manifest
-from tools.repository import TOP, NoKit, command_line, kit, kit_line
+from tools.repository import Failed, command_line, kit, kit_line, lanes, lines_of
 
 Counts = tuple[int, int]
 
@@ -34,24 +25,22 @@ MORE_PACKAGES = """aspell aspell-en codespell flake8 git lintian mypy python3-ty
 
 def run(*words: str, env: Mapping[str, str] | None = None) -> Counts:
     """Run a command, show what it prints, and return the counts of its last line; one failure if it ends otherwise."""
-    whole = {**os.environ, **(env or {})}
-    pipe, both = subprocess.PIPE, subprocess.STDOUT
-    ran = subprocess.Popen(words, cwd=TOP, stdout=pipe, stderr=both, text=True, errors="replace", env=whole)
-    assert ran.stdout
-    last = ""
-    for line in ran.stdout:
-        print(line, end="", flush=True)
-        last = line.strip() or last
+    last, bad = "", 0
+    try:
+        for line in lines_of(*words, env=env):
+            print(line, end="", flush=True)
+            last = line.strip() or last
+    except Failed:
+        bad = 1
     found = re.match(r"(\d+) (?:passed|refused), (\d+) failed", last)
-    passed, failed = (int(found[1]), int(found[2])) if found else (0, 1)
-    return passed, max(failed, int(ran.wait() != 0))
+    return (int(found[1]), max(int(found[2]), bad)) if found else (0, 1)
 
 
 def proofs() -> Counts:
     """Prove every crate and run its tests and programs."""
     kit()
     sources = manifest.sources()
-    passed, failed = run("rt", "ci", env={"RT_JOBS": os.environ.get("RT_JOBS", str(build.lanes()))})
+    passed, failed = run("rt", "ci", env={"RT_JOBS": os.environ.get("RT_JOBS", str(lanes()))})
     if not failed:
         build.keep_proved(sources)
     return passed, failed
@@ -124,7 +113,7 @@ def main() -> int:
         print(f"== {name}", flush=True)
         try:
             good, bad = PARTS[name]()
-        except (NoKit, build.Failed, OSError, ValueError) as why:
+        except (Failed, OSError, ValueError) as why:
             print(f"{name}: {why}")
             good, bad = 0, 1
         minutes = (time.monotonic() - clock) / 60

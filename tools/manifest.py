@@ -50,10 +50,10 @@ def describe(folder: Path, kit: str) -> Manifest:
 
     Its glibc is the greatest version whose symbols these files name.
     """
-    files = {f"{PLATFORM}/{it.name}": it.read_bytes() for it in (folder / PLATFORM).iterdir() if it.is_file()}
-    named = [pair for data in files.values() for pair in re.findall(rb"GLIBC_(\d+)\.(\d+)", data)]
+    files = sorted(it for it in (folder / PLATFORM).iterdir() if it.is_file())
+    named = [pair for it in files for pair in re.findall(rb"GLIBC_(\d+)\.(\d+)", it.read_bytes())]
     major, minor = max([(int(one), int(other)) for one, other in named], default=(2, 17))
-    told = {name: (hashlib.sha256(data).hexdigest(), len(data)) for name, data in sorted(files.items())}
+    told = {f"{PLATFORM}/{it.name}": (checksum(it), it.stat().st_size) for it in files}
     return Manifest(kit, f"{major}.{minor}", sources(), told)
 
 

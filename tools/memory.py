@@ -25,7 +25,7 @@ from pathlib import Path
 from typing import NamedTuple
 
 from tools import documents
-from tools.repository import TOP, built, command_line
+from tools.repository import TOP, Failed, built, command_line
 
 # The kinds, as the table names them; how many triples a document has.
 KINDS = {
@@ -35,10 +35,6 @@ KINDS = {
 COLUMNS = ["text", "file", "build", "merge", "open beyond the file", "rewrite", "dump beyond the file, MB"]
 TIMES = [f"{it}, µs" for it in ("build", "merge", "open", "rewrite", "dump")]
 THREE = TOP / "samples/three.hdt"
-
-
-class Failed(Exception):
-    """Why nothing can be measured."""
 
 
 class Cost(NamedTuple):

@@ -7,7 +7,7 @@
     python3 -m tools.mutants --list           only say how many are judged for the sources as they are
 
 Run it after `rt ci`, which leaves the built libraries in crates/NAME/out/rlib. A mutant is a line 'file: src/X.rt',
-then pairs of lines 'old: TEXT' and 'new: TEXT', where TEXT is in that file exactly once.
+then pairs of lines 'old: TEXT' and 'new: TEXT'; the old TEXT is in that file exactly once.
 
 A function is proved from its own body and from the contracts of those that it calls, never from their bodies. So
 mutants that change nothing but bodies, of different functions, share one copy of the crate (a tree), which is checked
@@ -43,8 +43,6 @@ import subprocess
 import sys
 import tempfile
 import threading
-import time
-from collections import defaultdict
 from collections.abc import Iterable
 from concurrent.futures import ThreadPoolExecutor
 from datetime import date
@@ -52,10 +50,8 @@ from functools import lru_cache
 from pathlib import Path
 
 from tools import rattle_text, repository
-from tools.repository import TOP, NoKit, command_line, kit_line
+from tools.repository import TOP, NoKit, command_line, kit_line, lanes
 
-# The memory that one check may take, in bytes.
-CHECK_BYTES = 2_500_000_000
 # The share of the mutants judged before that is judged again.
 SAMPLE = 0.05
 # The functions in a cycle of calls share one proof.
@@ -72,12 +68,6 @@ def without_comments(name: str, text: str) -> str:
     if name.endswith(".rt"):
         return rattle_text.without_comments(text)
     return "\n".join(it for it in text.split("\n") if not it.lstrip().startswith("--"))
-
-
-@lru_cache(maxsize=None)
-def interface(text: str) -> str:
-    """Return a source text without comments and without the bodies of its functions."""
-    return without_comments(".rt", rattle_text.split(text)[0])
 
 
 class Crate(repository.Crate):
@@ -100,12 +90,11 @@ class Crate(repository.Crate):
         for name, folder in {"": self.folder, **below}.items():
             for part in ("specs/**/*.antt", "src/**/*.rt") if name else ("src/**/*", "specs/**/*", "proofs/**/*"):
                 for file in sorted(it for it in folder.glob(part) if it.is_file()):
-                    text, place = file.read_text(), str(file.relative_to(folder))
-                    if name:
-                        read = interface(text) if file.suffix == ".rt" else without_comments(file.name, text)
-                        whole.update(repr((name, place, read)).encode())
-                    else:
-                        whole.update(repr((place, without_comments(file.name, text))).encode())
+                    text = file.read_text()
+                    if name and file.suffix == ".rt":
+                        text = rattle_text.split(text)[0]
+                    read = str(file.relative_to(folder)), without_comments(file.name, text)
+                    whole.update(repr((name, *read) if name else read).encode())
         return whole.hexdigest()
 
     def with_mutants(self, mutants: list[Mutant]) -> dict[str, str]:
@@ -138,20 +127,20 @@ class Mutant:
     def apply(self) -> None:
         """Make the changed texts. Raises BadMutant."""
         path = old = ""
-        for line in self.file.read_text().split("\n"):
-            if line.startswith("file: "):
-                path = line[6:].strip()
-            elif line.startswith("old: "):
-                old = line[5:]
-            elif line.startswith("new:"):
-                if not path or not old:
-                    raise BadMutant("a 'new:' line comes before any 'file:' or 'old:' line")
-                if path not in self.crate.texts:
-                    raise BadMutant(f"there is no file {path} below src/")
+        for word, value in re.findall(r"^(file|old|new): ?(.*)$", self.file.read_text(), re.M):
+            if word == "file":
+                path = value.strip()
+            elif word == "old":
+                old = value
+            elif not path or not old:
+                raise BadMutant("a 'new:' line comes before any 'file:' or 'old:' line")
+            elif path not in self.crate.texts:
+                raise BadMutant(f"there is no file {path} below src/")
+            else:
                 text = self.texts.get(path, self.crate.texts[path])
                 if text.count(old) != 1:
                     raise BadMutant(f"an 'old:' text is in {path} {text.count(old)} times, and not once")
-                self.texts[path], old = text.replace(old, line[4:].removeprefix(" ")), ""
+                self.texts[path], old = text.replace(old, value), ""
         if old:
             raise BadMutant("the last 'old:' line has no 'new:' line")
         if all(self.crate.texts[path] == text for path, text in self.texts.items()):
@@ -210,8 +199,8 @@ LEFT_OPEN = re.compile(r"did not prove (`.*`)")
 class Verdict:
     """What a check said of a tree: of each function whether it is proved, and why it is refused by itself."""
 
-    def __init__(self, crate: Crate, status: int, lines: list[str], seconds: float) -> None:
-        self.status, self.lines, self.seconds = status, lines, seconds
+    def __init__(self, crate: Crate, status: int, lines: list[str]) -> None:
+        self.status, self.lines = status, lines
         self.proved: dict[str, bool] = {}
         self.goals: dict[str, list[str]] = {}
         self.shapes: dict[str, list[str]] = {}
@@ -262,17 +251,6 @@ def outer_function(name: str) -> str:
     return f"{module}::{inner.split('::')[0]}" if inner else name
 
 
-def run_check(words: list[str], folder: str) -> tuple[int, list[str], float]:
-    """Return status, lines and CPU seconds of a check."""
-    nothing, pipe, both = subprocess.DEVNULL, subprocess.PIPE, subprocess.STDOUT
-    ran = subprocess.Popen(words, cwd=folder, stdin=nothing, stdout=pipe, stderr=both, text=True, errors="replace")
-    assert ran.stdout
-    lines = ran.stdout.read().splitlines()
-    _, status, usage = os.wait4(ran.pid, 0)
-    ran.returncode = os.waitstatus_to_exitcode(status)
-    return ran.returncode, lines or ["it said nothing"], usage.ru_utime + usage.ru_stime
-
-
 def check(crate: Crate, texts: dict[str, str], kept: Path) -> Verdict:
     """Check a copy of the crate with these texts in place of its own, over the work in `kept`.
 
@@ -294,10 +272,12 @@ def check(crate: Crate, texts: dict[str, str], kept: Path) -> Verdict:
         if texts:
             kept = Path(shutil.copytree(kept, f"{room}/kept", copy_function=link_or_copy))
         words = [*crate.rattle("check"), "--jobs", "1", "--incremental", str(kept)]
-        ran = run_check(words, f"{room}/crate")
-        if ran[0] == -signal.SIGKILL:  # (most likely for memory)
-            ran = run_check(words, f"{room}/crate")
-    return Verdict(crate, *ran)
+        for _ in "ab":
+            ran = subprocess.run(words, cwd=f"{room}/crate", stdin=subprocess.DEVNULL, stdout=subprocess.PIPE,
+                                 stderr=subprocess.STDOUT, text=True, errors="replace")
+            if ran.returncode != -signal.SIGKILL:  # (one more try if it is killed, most likely for memory)
+                break
+    return Verdict(crate, ran.returncode, ran.stdout.splitlines() or ["it said nothing"])
 
 
 # ---- judging
@@ -324,7 +304,6 @@ class Trial:
         self.given, self.lanes, self.lock = given, threading.Semaphore(given.jobs), threading.RLock()
         self.refused: dict[str, tuple[str, str]] = {}
         self.failed: list[str] = []
-        self.seconds: defaultdict[str, float] = defaultdict(float)
         # The inputs that each crate had when its mutants were begun.
         self.inputs: dict[Crate, str] = {}
 
@@ -341,10 +320,7 @@ class Trial:
     def check(self, crate: Crate, texts: dict[str, str], kept: Path) -> Verdict:
         """Run one check when a lane is free."""
         with self.lanes:
-            verdict = check(crate, texts, kept)
-        with self.lock:
-            self.seconds[crate.name] += verdict.seconds
-        return verdict
+            return check(crate, texts, kept)
 
     def tree(self, crate: Crate, tree: list[Mutant], kept: Path) -> list[Mutant]:
         """Judge the mutants of a tree, and return those that it does not judge."""
@@ -355,7 +331,7 @@ class Trial:
         judges, why = verdict.is_judged() and not strange, verdict.first_error()
         why = f"{strange[0]} is refused, which no mutant changes" if strange else why
         said = "" if judges else f"; it judges nothing: {why}"
-        self.say(f"-- {crate.name}: a tree of {len(tree)}, {verdict.seconds:.0f} CPU seconds{said}")
+        self.say(f"-- {crate.name}: a tree of {len(tree)}{said}")
         left = [it for it in tree if not self.judge(it, verdict, judges, len(tree) == 1)]
         self.write(crate, [it for it in tree if it not in left])
         return left
@@ -392,7 +368,6 @@ class Trial:
         if missing := crate.missing():
             return self.fail(crate.name, f"its library {missing[0]} is not built: run rt ci first")
         base = self.check(crate, {}, kept)
-        self.say(f"-- {crate.name}: unchanged, {base.seconds:.0f} CPU seconds")
         if base.status or not base.lines[-1].startswith("logic=proved"):
             return self.fail(crate.name, f"it is not proved without a mutant: {base.first_error()}")
         left, most = [], self.given.most
@@ -459,12 +434,6 @@ def commit(top: Path) -> str:
     return subprocess.run(words, stdout=subprocess.PIPE, stderr=subprocess.DEVNULL, text=True).stdout.strip()
 
 
-def most_jobs() -> int:
-    """Return how many checks run side by side: one a processor, as memory allows."""
-    found = re.search(r"MemAvailable:\s+(\d+)", Path("/proc/meminfo").read_text())
-    return max(1, min(len(os.sched_getaffinity(0)), int(found[1]) * 1024 // CHECK_BYTES if found else 1))
-
-
 def words_given() -> argparse.Namespace:
     """Read the command line."""
     words = command_line("mutants", __doc__)
@@ -473,7 +442,7 @@ def words_given() -> argparse.Namespace:
     words.add_argument("--list", action="store_true", help="judge nothing; say which are not judged for these sources")
     words.add_argument("--only", default="", metavar="WORD", help="the mutants whose name the regular expression finds")
     words.add_argument("--folder", default="wrong", metavar="NAME", help="the mutants of crates/CRATE/NAME (wrong)")
-    words.add_argument("--jobs", type=int, default=most_jobs(), metavar="N", help="N checks at a time")
+    words.add_argument("--jobs", type=int, default=lanes(), metavar="N", help="N checks at a time")
     words.add_argument("--most", type=int, default=60, metavar="N", help="at most N mutants in a tree (60)")
     words.add_argument("--top", type=Path, default=TOP, metavar="DIR", help="the repository (this one)")
     return words.parse_args()
@@ -497,7 +466,7 @@ def chosen(crates: list[Crate], given: argparse.Namespace) -> tuple[dict[Crate, 
 def main() -> int:
     """Run the command line."""
     given = words_given()
-    uses, trial, began = repository.crates(given.top), Trial(given), time.time()
+    uses, trial = repository.crates(given.top), Trial(given)
     for name in [it for it in given.crates if it not in uses]:
         trial.fail(name, "crates.txt has no such crate")
     # The crates that stand on most others are the dearest: they begin.
@@ -515,10 +484,6 @@ def main() -> int:
     except NoKit as why:
         print(f"mutants: {why}", file=sys.stderr)
         return 2
-    for name, seconds in trial.seconds.items():
-        print(f"-- {name}: {seconds:.0f} CPU seconds in all")
-    minutes = sum(trial.seconds.values()) / 60
-    print(f"-- {minutes:.1f} CPU minutes, {(time.time() - began) / 60:.1f} by the clock")
     if trial.failed:
         print(f"FAILED: {' '.join(sorted(trial.failed))}")
     print(f"{len(trial.refused)} refused, {len(trial.failed)} failed")

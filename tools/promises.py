@@ -91,8 +91,7 @@ def check(crate: Path) -> Iterator[Case]:
             yield from check_row(crate, cells, items, clauses, own)
     for name in mutants_of(crate):
         yield mutants[name] == 1, f"the mutant {name} is named {mutants[name]} times, and not once"
-    is_library = contracts.exported(texts) is not None
-    for name in sorted({it.name.split("::")[-1] for it in contracts.functions(texts) if is_library and it.is_exported}):
+    for name in sorted({it.name.split("::")[-1] for it in contracts.of_library(texts)}):
         yield name in functions, f"the exported function {name} is in no row"
 
 

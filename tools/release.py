@@ -20,16 +20,12 @@ from pathlib import Path
 from typing import Any
 
 from tools import manifest
-from tools.repository import TOP, below, command_line, crates
+from tools.repository import TOP, Failed, below, command_line, crates
 
 NAME = "tickmarl-hdt"
 FOLDER = TOP / "out/release"
 # The crate that each shipped file is made of, if it has another name.
 MADE_OF = {"libhdt.a": "hdt_c", "libhdt.so": "hdt_c"}
-
-
-class Failed(Exception):
-    """Why there is no release."""
 
 
 def output(*words: str | Path) -> str:

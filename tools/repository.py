@@ -8,6 +8,7 @@ import re
 import shutil
 import subprocess
 import sys
+from collections.abc import Iterator, Mapping
 from functools import lru_cache
 from pathlib import Path
 
@@ -18,7 +19,11 @@ TOP = Path(__file__).resolve().parent.parent
 MADE = re.compile(r'^( *(?:#|\.\\") of [^\n]*:\n).*?^( *(?:#|\.\\") end\n)', re.M | re.S)
 
 
-class NoKit(Exception):
+class Failed(Exception):
+    """A step of a tool failed; the message says which, and where to read on."""
+
+
+class NoKit(Failed):
     """There is no Rattle kit on this machine: no command `rt` on the path."""
 
 
@@ -41,6 +46,22 @@ def print_table(columns: list[str], rows: dict[str, list[int]]) -> None:
     print(f"| crate | {' | '.join(columns)} |\n{'|---' * (len(columns) + 1)}|")
     for name, row in {**rows, "together": [sum(it) for it in zip(*rows.values())]}.items():
         print(f"| {name} | {' | '.join(f'{it:,}' for it in row)} |")
+
+
+def lines_of(*words: str, env: Mapping[str, str] | None = None) -> Iterator[str]:
+    """Run a command at the top of the repository, and give what it prints line by line. Raises Failed if it fails."""
+    pipe, both, whole = subprocess.PIPE, subprocess.STDOUT, {**os.environ, **(env or {})}
+    ran = subprocess.Popen(words, cwd=TOP, stdout=pipe, stderr=both, text=True, errors="replace", env=whole)
+    assert ran.stdout
+    yield from ran.stdout
+    if ran.wait():
+        raise Failed(f"{' '.join(words)} ended with status {ran.returncode}")
+
+
+def lanes() -> int:
+    """Return how many checks may run side by side: one a processor, four at most, and one for each 2.5 GB of memory."""
+    found = re.search(r"MemAvailable:\s+(\d+)", Path("/proc/meminfo").read_text())
+    return max(1, min(4, len(os.sched_getaffinity(0)), int(found[1]) // 2_500_000 if found else 1))
 
 
 @lru_cache(maxsize=None)
