@@ -12,8 +12,8 @@ STORE, QUERIES, PATHS, VALUES, ALGEBRA, ANSWERS = (
 # The tests of a module that are run first. Those of answers take the most time.
 FIRST = {
     "_terms": STORE, "../_rdflib_terms": STORE, "_file": STORE, "_store": STORE, "_paths": PATHS, "_ways": PATHS,
-    "_cells": VALUES, "_expressions": VALUES, "_aggregates": VALUES, "_algebra": ALGEBRA, "_compiler": ALGEBRA,
-    "_describe": ANSWERS,
+    "_cells": VALUES, "_expressions": VALUES, "_aggregates": VALUES, "_algebra": ALGEBRA,
+    "_compiler": f"{STORE}::test_first_triples_are_few {ALGEBRA}", "_describe": ANSWERS,
 }  # fmt: skip
 
 WRONG = {
@@ -233,8 +233,8 @@ WRONG = {
 
 def tests_of(module: str) -> list[str]:
     """The tests of a module, those first that are likely to see a wrong body; of the store only where it is meant."""
-    first = FIRST.get(module, QUERIES)
-    return [first, *(it for it in (QUERIES, PATHS, VALUES, ALGEBRA, ANSWERS) if it != first)]
+    first = FIRST.get(module, QUERIES).split()
+    return [*first, *(it for it in (QUERIES, PATHS, VALUES, ALGEBRA, ANSWERS) if it not in first)]
 
 
 if __name__ == "__main__":
