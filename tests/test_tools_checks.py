@@ -243,6 +243,54 @@ def test_definitions_of_a_function(defined: Path) -> None:
     assert definitions(defined, "--of", "toy::shown") == ["3 definitions, 9 lines, 3 of them comments"]
     assert definitions(defined, "--of", "toy::kept") == ["4 definitions, 11 lines, 3 of them comments"]
     assert definitions(defined, "--of", "toy::law", "--list") == ["toy.Lib.Pair 4", "toy.Lib.pair 2"]
+    assert definitions(defined, "--of", "toy::shown", "--clauses", "1") == ["0 definitions, 0 lines, 0 of them comments"]
+
+
+VIEWS = """\
+use Rattle.toy.specs.Lib.{outer, pair}
+use Rattle.toy.specs.declared.kept.Kept.{Kept}
+use Rattle.toy.specs.declared.kept.Some.{Some}
+use Rattle.toy.specs.declared.kept.Open.{Open}
+
+view : Kept × Nat → Nat
+view k = outer
+
+case : Some → Nat
+case s = view s
+
+seen : Open → Nat
+seen o = pair
+
+Is : Kept → Nat → Type 0
+Is k n = seen n
+"""
+TYPES = """\
+pub struct Kept<'a> {
+    pub(crate) x: &'a u8,
+    pub y: u8,
+}
+
+pub enum Some<'a> {
+    One(Kept<'a>),
+}
+
+pub struct Open {
+    pub x: u8,
+    ghost is: { seen x },
+}
+"""
+
+
+@pytest.mark.parametrize("name, views, others", [
+    ("view", "view", "outer"), ("case", "case view", "outer"), ("seen", "", "seen pair"), ("Is", "", "Is seen pair"),
+])
+def test_views(defined: Path, name: str, views: str, others: str) -> None:
+    """A view is a function of a value with hidden fields: neither of one whose fields are seen, nor a relation."""
+    code = f"ghost use Rattle.toy.specs.Views.{{{name}}};\n\npub fn f()\n    ensures are {{ {name} }}\n{{}}\n"
+    write(defined, {"crates/toy/specs/Views.antt": VIEWS, "crates/toy/src/kept.rt": TYPES, "crates/toy/src/f.rt": code})
+    found, left = (definitions(defined, "--of", "toy::f", "--list", *more) for more in ([], ["--no-views"]))
+    names = [{it.split()[0].split(".")[-1] for it in some} - {"Pair", "inner", "low"} for some in (found, left)]
+    assert names == [{*views.split(), *others.split()}, set() if views else {*others.split()}]
 
 
 # ---- contracts
