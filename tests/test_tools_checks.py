@@ -180,6 +180,7 @@ DEFINITIONS = {
     "--others": ["low.Laws.More.law 2", "low.Lib.aside 2", "toy.Lib.Pair 4", "toy.Lib.hidden 2", "toy.Lib.pair 2"],
     "--of toy::one": ["3 definitions, 9 lines, 3 of them comments"],
     "--of toy::own": ["4 definitions, 11 lines, 3 of them comments"],
+    "--of toy::one --clauses 1": ["0 definitions, 0 lines, 0 of them comments"],
     "--of toy::law --list": ["toy.Lib.Pair 4", "toy.Lib.pair 2"],
     "": ["| low | 1 | 4 | 2 | 1 | 2 | 1 | 2 |", "| toy | 2 | 5 | 1 | 3 | 8 | 0 | 0 |",
          "| together | 3 | 9 | 3 | 4 | 10 | 1 | 2 |"],
@@ -190,6 +191,53 @@ DEFINITIONS = {
 def test_definitions(top: Path, words: str) -> None:
     """Those that clauses of exported functions name, or of one function, and all that these name, with their lines."""
     assert printed("definitions", "--top", top, *words.split())[0 if words else 2 :] == DEFINITIONS[words]
+
+
+VIEWS = """\
+use Rattle.toy.specs.Lib.{outer, pair}
+use Rattle.toy.specs.declared.kept.Kept.{Kept}
+use Rattle.toy.specs.declared.kept.Some.{Some}
+use Rattle.toy.specs.declared.kept.Open.{Open}
+
+view : Kept × Nat → Nat
+view k = outer
+
+case : Some → Nat
+case s = view s
+
+seen : Open → Nat
+seen o = pair
+
+Is : Kept → Nat → Type 0
+Is k n = seen n
+"""
+TYPES = """\
+pub struct Kept<'a> {
+    pub(crate) x: &'a u8,
+    pub y: u8,
+}
+
+pub enum Some<'a> {
+    One(Kept<'a>),
+}
+
+pub struct Open {
+    pub x: u8,
+    ghost is: { seen x },
+}
+"""
+
+
+@pytest.mark.parametrize("name, views, others", [
+    ("view", "view", "outer"), ("case", "case view", "outer"), ("seen", "", "seen pair"), ("Is", "", "Is seen pair"),
+])
+def test_views(top: Path, name: str, views: str, others: str) -> None:
+    """A view is a function of a value with hidden fields: neither of one whose fields are seen, nor a relation."""
+    code = f"ghost use Rattle.toy.specs.Views.{{{name}}};\n\npub fn f()\n    ensures are {{ {name} }}\n{{}}\n"
+    write(top, {"crates/toy/specs/Views.antt": VIEWS, "crates/toy/src/kept.rt": TYPES, "crates/toy/src/f.rt": code})
+    found, left = (printed("definitions", "--top", top, "--of", "toy::f", "--list", *more) for more in ([], ["--no-views"]))
+    names = [{it.split()[0].split(".")[-1] for it in some} - {"Pair", "inner", "low"} for some in (found, left)]
+    assert names == [{*views.split(), *others.split()}, set() if views else {*others.split()}]
 
 
 # What is changed, and how that is reported: the last two change no contract.

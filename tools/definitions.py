@@ -5,10 +5,15 @@
     python3 -m tools.definitions --others    name each definition that is not
     python3 -m tools.definitions --of NAME   count those of one function, as hdt_file::open or hdt_file::Graph::find;
                                              with --list name them, with --others those that it doesn't reach
+    python3 -m tools.definitions --of NAME --clauses found,only --no-views
+                                             count those of some of its clauses, up to the views
 
 A contract reaches the definitions that its clauses name, and all that those name, in any crate; so does the view of a
 type. A name is that of its file, or of what its file imports: a field or a variable of that name is no definition. A
 program exports the public functions of all its modules.
+
+A view is a function of a value whose fields callers don't see, as a Graph, and gives no type. What follows for callers
+from all contracts follows for any function in its place, so it need not be read.
 
 The table has, for each crate: the definitions that are reached, their lines and how many of these are comments; the
 definitions that only contracts inside the crate reach, in specs/Inside and beside the others, and their lines; the
@@ -40,6 +45,12 @@ BEGIN = re.compile(
 VARIABLES = re.compile(
     r"λ ([^.]*)\.|[({]([\w' -]+) : |\blet ([^=]*)=|^ *(?:do )?([^←=]*)←|^  (?:pub )?([\w'-]+) :", re.M
 )
+# A struct or an enum of src/, and a field that callers don't see.
+TYPE = re.compile(r"^(?:pub\S* )?(struct|enum) (\w+)[^{;(]*\{\n(.*?)^\}", re.M | re.S)
+SECRET = re.compile(r"^    (?:pub\(\w+\) )?[a-z_]\w*:", re.M)
+MODEL = re.compile(r"^impl(?:<[^>]*>)? Model for (\w+)", re.M)
+# The first argument of a function, but for an implicit one; what gives a type is none.
+ARGUMENT = re.compile(r"^\w[^:]* : (?:\{[^}]*\} → )?([\w.]+)[^→\n]*→(?!.*Type 0$)", re.S)
 # A field that a record is made with.
 FIELD = re.compile(r"[\w'-]+(?= =(?: |$))", re.M)
 
@@ -124,10 +135,18 @@ def definitions(top: Path) -> dict[Name, Definition]:
     return found
 
 
-def named_by_contracts(crate: Path, only: str = "") -> Iterator[Name]:
-    """Give what the clauses of a crate's exported functions and the views of its types name, or one function's."""
+def some_clauses(function: contracts.Function, labels: list[str]) -> str:
+    """Return the clauses of a function with these labels, or all of them. Raises KeyError if it lacks one."""
+    return "\n".join(function.parts()[f"ensures {label}"] for label in labels) if labels else function.clauses
+
+
+def named_by_contracts(crate: Path, only: str, labels: list[str]) -> Iterator[Name]:
+    """Give what the clauses of a crate's exported functions and the views of its types name, or one function's.
+
+    Raises KeyError if the function has no clause with one of the labels.
+    """
     texts = contracts.sources(crate)
-    of_functions = ((it.path, named(it.clauses, " ".join(re.findall(r"\b(\w+): ", it.head))))
+    of_functions = ((it.path, named(some_clauses(it, labels), " ".join(re.findall(r"\b(\w+): ", it.head))))
                     for it in contracts.functions(texts) if (it.name == only if only else it.is_exported))
     of_views = () if only else ((path, named(text)) for path, text in contracts.views(texts))
     for path, words in (*of_functions, *of_views):
@@ -135,11 +154,37 @@ def named_by_contracts(crate: Path, only: str = "") -> Iterator[Name]:
         yield from (imported[word] for word in words if word in imported)
 
 
-def reached(found: dict[Name, Definition], top: Path, only: str = "") -> set[Name]:
-    """Return the definitions that contracts of exported functions reach, or the contract of one function."""
+def opaque_types(texts: contracts.Texts) -> set[str]:
+    """Return a crate's types with fields that callers don't see, also in a variant, and without an `impl Model`."""
+    found = [it for text in texts.values() for it in TYPE.findall(text)]
+    models = {name for text in texts.values() for name in MODEL.findall(text)}
+    opaque = {name for kind, name, body in found if kind == "struct" and SECRET.search(body)} - models
+    return opaque | {it for _, it, body in found if opaque.intersection(re.findall(r"^    \w+\((\w+)", body, re.M))}
+
+
+def views(found: dict[Name, Definition], top: Path) -> set[Name]:
+    """Return the definitions that are functions of a value whose fields callers don't see."""
+    opaque = {crate: opaque_types(contracts.sources(top / "crates" / crate)) for crate in crates(top)}
+    seen: set[Name] = set()
+    for at, it in found.items():
+        code = "\n".join(line for line in it.lines if not line.startswith("--"))
+        argument = ARGUMENT.search(code.partition(f"\n{at[2]} ")[0])
+        crate, module, name = it.imports.get(argument[1], at) if argument else at
+        if module.startswith("declared.") and name in opaque.get(crate, ()):
+            seen.add(at)
+    return seen
+
+
+def reached(
+    found: dict[Name, Definition], top: Path, only: str = "", labels: Optional[list[str]] = None
+) -> set[Name]:
+    """Return the definitions that contracts of exported functions reach, or the contract of one, or some clauses of it.
+
+    Raises KeyError if the function has no clause with one of the labels.
+    """
     crate_of_only, _, function = only.partition("::")
     some = [crate_of_only] if only else crates(top)
-    left = [it for crate in some for it in named_by_contracts(top / "crates" / crate, function)]
+    left = [it for crate in some for it in named_by_contracts(top / "crates" / crate, function, labels or [])]
     seen: set[Name] = set()
     while left:
         at = left.pop()
@@ -169,10 +214,14 @@ def main() -> int:
     words.add_argument("--list", action="store_true", help="name the definitions that are reached, with their lines")
     words.add_argument("--others", action="store_true", help="name those that are not, with their lines")
     words.add_argument("--of", default="", metavar="NAME", help="count those that the contract of a function reaches")
+    words.add_argument("--clauses", default="", metavar="NAMES", help="only those that these clauses of it reach")
+    words.add_argument("--no-views", action="store_true", help="leave out views, and what is only reached by them")
     words.add_argument("--top", type=Path, default=TOP, metavar="DIR", help="the repository (this one)")
     given = words.parse_args()
     found = definitions(given.top)
-    seen = reached(found, given.top, given.of)
+    for view in views(found, given.top) if given.no_views else ():
+        del found[view]
+    seen = reached(found, given.top, given.of, [it for it in given.clauses.split(",") if it])
     if given.list or given.others:
         for at in sorted(found):
             if given.list and at in seen or given.others and at not in seen:
