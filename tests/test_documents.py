@@ -390,8 +390,8 @@ def clauses(function: str, path: str) -> list[str]:
     """The names of the clauses that say what an exported function of a file ensures; those without one are numbered."""
     _, crate, module = path.split("/", 2)
     texts = {it: (TOP / "crates" / crate / it).read_text() for it in ("src/lib.rt", module)}
-    parts = dict(contracts.contracts(texts))[function]
-    return [part.partition(" ")[2] for part in parts if part.startswith("ensures ")]
+    (found,) = (it for it in contracts.of_library(texts) if it.name == function)
+    return [part.partition(" ")[2] for part in found.parts() if part.startswith("ensures ")]
 
 
 @pytest.mark.parametrize("function, path, named_clauses", FUNCTION.findall(PROOFS))

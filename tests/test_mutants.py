@@ -287,7 +287,8 @@ def test_record(top: Path) -> None:
     assert record(top) == {"b": wanted["b"]}
 
 
-@pytest.mark.parametrize("changes, kept", [({"a": WRONG, "b": WRONG + " interrupt"}, "a"), ({"a": WRONG + " edit"}, "")])
+@pytest.mark.parametrize("changes, kept", [
+    ({"a": WRONG, "b": WRONG + " interrupt"}, "a"), ({"a": WRONG + " edit"}, "")])
 def test_record_of_another_end(top: Path, changes: dict[str, str], kept: str) -> None:
     """A run that is killed keeps what it has judged; if sources change meanwhile, the record stays as it was."""
     judge(repository(top, changes), "--all")

@@ -1,14 +1,19 @@
-"""The layout of the crates' sources: lines, modules, and where a type's `impl`s stand. Probes are test programs."""
+"""The layout of the crates' sources, and what checks scripts and Python files: mypy, flake8, shellcheck.
+
+Probes are test programs.
+"""
 
 from __future__ import annotations
 
 import re
+import shutil
 from collections.abc import Iterator
 from pathlib import Path
 
 import pytest
 
 from support.built import TOP
+from support.program import done, run
 from tools import definitions
 
 CRATES = sorted(it.name for it in (TOP / "crates").iterdir() if not it.name.startswith("hdt_probe"))
@@ -63,3 +68,28 @@ def test_definitions_have_names_of_their_own() -> None:
         if "◌" not in name and not module.startswith("Laws."):
             places.setdefault(name, []).append(f"{crate}: {module}")
     assert {name: found for name, found in places.items() if len(found) > 1} == {}
+
+
+SCRIPTS = ["hdt", "test", "tools/current", "tools/install", "tools/package", ".ci/run"]
+FOLDERS = ["tools", "python", "reference", "tests"]
+CHECKS = [*(["shellcheck", "-s", "sh", it] for it in SCRIPTS), ["flake8", "--extend-exclude=build", *FOLDERS]]
+TYPES = pytest.param(["mypy", "--strict", "--no-error-summary", "--exclude=/build/", *FOLDERS], marks=pytest.mark.slow)
+
+
+@pytest.mark.parametrize("words", [*CHECKS, TYPES], ids=" ".join)
+def test_clean(tmp_path: Path, words: list[str]) -> None:
+    """Scripts are clean and for any POSIX shell, Python files are clean and have the types that they say."""
+    if not shutil.which(words[0]):
+        pytest.skip(f"there is no {words[0]}")
+    env = {"MYPYPATH": "python", "MYPY_CACHE_DIR": str(tmp_path)}
+    assert run(words, cwd=TOP, env=env, seconds=600) == done()
+
+
+PRIVATE = re.compile(r"^ *(?:from|import) hdt\.([a-z]\w*)(?:\.| import )_[a-z]\w*", re.M)
+
+
+def test_private_modules() -> None:
+    """No package in python/hdt imports a private module of another one; those of hdt itself are for all."""
+    files = [*(TOP / "python/hdt").glob("*/*.py")]
+    assert [it for it in files if set(PRIVATE.findall(it.read_text())) - {it.parent.name}] == []
+    assert any(PRIVATE.search(it.read_text()) for it in files)

@@ -1,4 +1,4 @@
-"""The commands in `tools/`, the launcher `hdt`, and what checks scripts and packages: mypy, flake8, shellcheck."""
+"""The commands in `tools/`, and the launcher `hdt`."""
 
 from __future__ import annotations
 
@@ -13,10 +13,6 @@ from support.program import Result, failed, run
 from support.tools import tool, write
 
 MODULES = sorted(it.stem for it in (TOP / "tools").glob("*.py") if "__main__" in it.read_text())
-SCRIPTS = ["hdt", "test", "tools/current", "tools/install", "tools/package", ".ci/run"]
-FOLDERS = ["tools", "python", "reference", "tests"]
-CHECKS = [*(["shellcheck", "-s", "sh", it] for it in SCRIPTS), ["flake8", "--extend-exclude=build", *FOLDERS]]
-TYPES = pytest.param(["mypy", "--strict", "--no-error-summary", "--exclude=/build/", *FOLDERS], marks=pytest.mark.slow)
 
 
 @pytest.mark.parametrize("name", MODULES)
@@ -24,25 +20,6 @@ def test_help(name: str) -> None:
     """`--help` says how the command is called."""
     status, out, err = tool(name, "--help")
     assert (status, out.startswith(f"usage: python3 -m tools.{name} [-h]".encode()), err) == (0, True, b"")
-
-
-@pytest.mark.parametrize("words", [*CHECKS, TYPES], ids=" ".join)
-def test_clean(tmp_path: Path, words: list[str]) -> None:
-    """Scripts are clean and for any POSIX shell, Python files are clean and have the types that they say."""
-    if not shutil.which(words[0]):
-        pytest.skip(f"there is no {words[0]}")
-    env = {"MYPYPATH": "python", "MYPY_CACHE_DIR": str(tmp_path)}
-    assert run(words, cwd=TOP, env=env, seconds=600) == Result(0, b"", b"")
-
-
-PRIVATE = re.compile(r"^ *(?:from|import) hdt\.([a-z]\w*)(?:\.| import )_[a-z]\w*", re.M)
-
-
-def test_private_modules() -> None:
-    """No package in python/hdt imports a private module of another one; those of hdt itself are for all."""
-    files = [*(TOP / "python/hdt").glob("*/*.py")]
-    assert [it for it in files if set(PRIVATE.findall(it.read_text())) - {it.parent.name}] == []
-    assert any(PRIVATE.search(it.read_text()) for it in files)
 
 
 # ---- with a kit that only makes files, and without one

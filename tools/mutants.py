@@ -1,10 +1,8 @@
 """Judge the mutants: wrong bodies, crates/NAME/wrong/*.edit, each of which the prover must refuse.
 
-    python3 -m tools.mutants                  judge those whose inputs have changed since, and a sample of at
-                                              least 5 percent of the others, drawn by the commit
-    python3 -m tools.mutants --all            judge every mutant
-    python3 -m tools.mutants hdt_seq --all    those of one crate
-    python3 -m tools.mutants --list           only say how many are judged for the sources as they are
+    python3 -m tools.mutants            judge those whose inputs have changed since, and a sample of at least 5 percent
+                                        of the others, drawn by the commit
+    python3 -m tools.mutants hdt_seq    the same for one crate
 
 Run it after `rt ci`, which leaves the built libraries in crates/NAME/out/rlib. A mutant is a line 'file: src/X.rt',
 then pairs of lines 'old: TEXT' and 'new: TEXT'; the old TEXT is in that file exactly once.
@@ -317,14 +315,10 @@ class Trial:
         self.failed.append(label)
         self.say(f"{label}: {why}")
 
-    def check(self, crate: Crate, texts: dict[str, str], kept: Path) -> Verdict:
-        """Run one check when a lane is free."""
-        with self.lanes:
-            return check(crate, texts, kept)
-
     def tree(self, crate: Crate, tree: list[Mutant], kept: Path) -> list[Mutant]:
         """Judge the mutants of a tree, and return those that it does not judge."""
-        verdict = self.check(crate, crate.with_mutants(tree), kept)
+        with self.lanes:
+            verdict = check(crate, crate.with_mutants(tree), kept)
         changed = {name for it in tree for name in it.functions}
         refused = [] if tree[0].is_alone else [*verdict.goals, *verdict.shapes]
         strange = [it for it in refused if outer_function(it) not in changed]
@@ -367,7 +361,8 @@ class Trial:
         """Judge mutants of a crate, over the work of a check of the unchanged crate."""
         if missing := crate.missing():
             return self.fail(crate.name, f"its library {missing[0]} is not built: run rt ci first")
-        base = self.check(crate, {}, kept)
+        with self.lanes:
+            base = check(crate, {}, kept)
         if base.status or not base.lines[-1].startswith("logic=proved"):
             return self.fail(crate.name, f"it is not proved without a mutant: {base.first_error()}")
         left, most = [], self.given.most
@@ -475,8 +470,8 @@ def main() -> int:
     work, others = chosen(crates, given)
     count = sum(map(len, work.values()))
     if given.list:
-        print(*(it.label for some in work.values() for it in some), sep="\n", end="\n" if work else "")
-        print(f"{count} to judge, {others} judged for these inputs")
+        labels = [it.label for some in work.values() for it in some]
+        print(*labels, f"{count} to judge, {others} judged for these inputs", sep="\n")
         return 0
     trial.say(f"-- {count} to judge; {others} were judged for the same inputs")
     try:

@@ -57,10 +57,9 @@ def package(name: str, **more: str) -> dict[str, Any]:
 
 def file_entry(path: Path) -> dict[str, Any]:
     """Return the entry of a file of dist/. Raises OSError."""
-    data = path.read_bytes()
-    sums = [{"algorithm": it, "checksumValue": hashlib.new(it.lower(), data).hexdigest()} for it in ("SHA1", "SHA256")]
-    unknown = "licenseConcluded copyrightText"
-    return entry(path.name, unknown, fileName=f"./{path.relative_to(TOP)}", checksums=sums)
+    sums = {it: hashlib.new(it, path.read_bytes()).hexdigest() for it in ("sha1", "sha256")}
+    return entry(path.name, "licenseConcluded copyrightText", fileName=f"./{path.relative_to(TOP)}",
+                 checksums=[{"algorithm": it.upper(), "checksumValue": value} for it, value in sums.items()])
 
 
 def bill_of_materials(made: manifest.Manifest, version: str, created: str) -> dict[str, Any]:

@@ -13,8 +13,6 @@ from functools import lru_cache
 from pathlib import Path
 
 TOP = Path(__file__).resolve().parent.parent
-
-
 # What is made in a file that is else written by hand: the lines between `# of the help:`, say, and `# end`.
 MADE = re.compile(r'^( *(?:#|\.\\") of [^\n]*:\n).*?^( *(?:#|\.\\") end\n)', re.M | re.S)
 
