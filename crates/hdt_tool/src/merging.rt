@@ -79,7 +79,14 @@ fn add_path(
     let input = open_input(rt, path, session)?;
     let capacity = input.capacity();
     let mut input = Counted::new(input);
-    add_file(rt.alloc(), merger, blank_nodes, number, &mut input, capacity)
+    add_file(
+        rt.alloc(),
+        merger,
+        blank_nodes,
+        number,
+        &mut input,
+        capacity,
+    )
 }
 
 /// The triples of all files, or an error and the path of its file.
