@@ -14,7 +14,7 @@ import pytest
 
 from support.built import TOP
 from support.program import done, run
-from tools import definitions
+from tools import definitions, mutants
 
 CRATES = sorted(it.name for it in (TOP / "crates").iterdir() if not it.name.startswith("hdt_probe"))
 # `rt fmt` writes an attribute on one line, however long its list of lemmas is. An import of one name cannot be parted,
@@ -59,6 +59,17 @@ def test_impls(crate: str) -> None:
             if found := IMPL.match(line):
                 files.setdefault(found[1], set()).add(path.name)
     assert {name: found for name, found in files.items() if len(found) > 2} == {}
+
+
+@pytest.mark.parametrize("crate", CRATES)
+def test_mutants_can_be_applied(crate: str) -> None:
+    """Each changes text that is there, once, and names no type that its file doesn't."""
+    for mutant in mutants.Crate(crate, TOP).mutants("wrong", ""):
+        mutant.apply()
+        for path, text in mutant.texts.items():
+            used, known = (set(re.findall(r"(?<![:\w])[A-Z]\w+(?=::)", it)) for it in (text, mutant.crate.texts[path]))
+            unknown = {it for it in used - known if not re.search(rf"\b{it}\b", mutant.crate.texts[path])}
+            assert unknown <= {"Vec", "Some", "String"}, f"{mutant.label}: {unknown}"
 
 
 def test_definitions_have_names_of_their_own() -> None:

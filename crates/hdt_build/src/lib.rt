@@ -23,13 +23,13 @@
 //! `collector`, triples as indices of strings; `labels`, blank nodes; `reading`, the lines of the input;
 //! `packed_strings`, strings as bytes; `string_sort` and `dedup`, the strings in order, each once; `prefetch`;
 //! `role_flags` and `section_filter`, the four sections and the IDs; `triples` and `encoding`, the encoded graph;
-//! `header` and `file`, its bytes; `building`; `documents`. Rewriting: `retained`, which strings remain;
-//! `section_run`, a cursor over them; `sections` and `id_map`, the new sections and IDs; `rewriting`. Recognising a
-//! canonical file: `packed_numbers`, numbers as bytes; `triple_sequences`, the triples; `comparing`, one part after another; `canonical`. Merging:
-//! `string_runs` and `graph_strings`, the strings of graphs as ascending runs; `run_merging` and `tournament`, the
-//! strings of all runs in order, each once; `packed_triples`, triples as bytes; `merged_triples`, those of graphs, with
-//! new IDs; `sorted_runs` and `triple_merging`, the triples in order, each once; `merging`. `new_header`: replacing a
-//! header. `laws`: properties of all this.
+//! `header` and `file`, its bytes; `building`; `documents`. Rewriting: `retained`, which strings remain; `section_run`,
+//! a cursor over them; `sections` and `id_map`, the new sections and IDs; `rewriting`. Recognising a canonical file:
+//! `packed_numbers`, numbers as bytes; `triple_sequences`, the triples; `comparing`, one part after another;
+//! `canonical`. Merging: `string_runs` and `graph_strings`, the strings of graphs as ascending runs; `run_merging` and
+//! `tournament`, the strings of all runs in order, each once; `packed_triples`, triples as bytes; `merged_triples`,
+//! those of graphs, with new IDs; `sorted_runs` and `triple_merging`, the triples in order, each once; `merging`.
+//! `new_header`: replacing a header. `laws`: properties of all this.
 #![tactic(auto)]
 
 mod building;

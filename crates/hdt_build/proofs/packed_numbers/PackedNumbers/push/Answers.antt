@@ -17,5 +17,6 @@ returns c =
 pub invariant_of-self-2 : goal.invariant_of-self-2
 invariant_of-self-2 c =
     let s = c.self.inside in
-    rw c.max-self-inside.ensures (pushed_number s.bytes.items s.greatest s.count c.self.invariant c.put_vbyte.new.out.items c.args.number
+    rw c.max-self-inside.ensures
+    (pushed_number s.bytes.items s.greatest s.count c.self.invariant c.put_vbyte.new.out.items c.args.number
     (omega (arith, c.ranges.number)) c.in_ok-put_vbyte.ensures.ok)

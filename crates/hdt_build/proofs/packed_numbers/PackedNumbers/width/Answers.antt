@@ -7,4 +7,6 @@ use Rattle.hdt_build.proofs.packed_numbers.PackedNumbers.width.Goals as goal
 pub returns-clause-is : goal.returns-clause-is
 returns-clause-is c =
     let s = c.self.inside in
-    c.width_of.ensures.is ∙ width_of_greatest (unpacked_numbers s.count s.bytes.items) s.greatest c.self.invariant.most_is ∙ ap width_of c.self.view_is
+    c.width_of.ensures.is
+    ∙ width_of_greatest (unpacked_numbers s.count s.bytes.items) s.greatest c.self.invariant.most_is
+    ∙ ap width_of c.self.view_is
