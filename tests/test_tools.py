@@ -223,6 +223,6 @@ def test_measuring() -> None:
     table = (TOP / "docs/SIZING.md").read_text()
     assert [line for line in memory.out.decode().splitlines()[2:4] if line not in table] == []
     python = {"HDT_LIBRARY": str(SHARED_LIBRARY), "PYTHONPATH": "python"}
-    words = ["python3", "-B", "python/speed.py", SAMPLES / "three.hdt", "--rounds", "1"]
+    words: list[str | Path] = ["python3", "-B", "python/speed.py", SAMPLES / "three.hdt", "--rounds", "1"]
     speed = run(words, cwd=TOP, env=python)
     assert [len(re.findall(rb"^\| [a-z].*\d \|$", speed.out, re.M)), speed.err] == [14, b""]
