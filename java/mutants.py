@@ -3,7 +3,8 @@
     java/build --tests out/java && HDT_BUILT=dist/x86_64-linux-gnu python3 java/mutants.py [NUMBER ..]
 
 A mutant is an edit of one file: a wrong body. The tests of queries, files and graphs are run over it, class by class,
-until one fails. Ends with status 1 if a mutant is not seen, and is not one of those that change no answer.
+until one fails. A test that is late had a query that took too long, which on a busy machine says nothing. Ends with
+status 1 if a mutant is not seen, and is not one of those that change no answer.
 """
 
 from __future__ import annotations
@@ -129,7 +130,8 @@ def failed(name: str, folder: str, path: str) -> str:
         resource.RLIMIT_CPU, (SECONDS, SECONDS)))
     if done.returncode == -signal.SIGKILL:
         return f"{name} doesn't end"
-    found = re.findall(r"^  JUnit Jupiter:(\S+)", done.stdout, re.M)
+    found = [f"{test} (late)" if error.endswith("QueryCancelledException") else test
+             for test, error in re.findall(r"^  JUnit Jupiter:(\S+)\n.*\n *=> ([\w.]+)", done.stdout, re.M)]
     return " ".join(found) if found or done.returncode == 0 else f"{name} ends with status {done.returncode}"
 
 

@@ -43,3 +43,20 @@ def test_random_queries(triples: list[tuple[str, str, str]], group: str) -> None
     except Exception:
         assume(False)
     check(triples, f"SELECT * {{ {group} }}")
+
+
+TRIPLES = [("<u:a>", "<u:p>", "1"), ("<u:b>", "<u:q>", "<u:c>"), ("<u:b>", "<u:r>", "2"), ("<u:b>", "<u:t>", "1")]
+
+
+@pytest.mark.parametrize("group", [
+    "?s <u:p> ?v { ?a <u:q> ?b OPTIONAL { ?a <u:r> ?v } }",
+    "?s <u:p> ?v { ?a <u:q> ?b FILTER(!bound(?v)) }",
+    "?s <u:p> ?v { { ?a <u:q> ?b } UNION { ?a <u:r> ?v } MINUS { ?x <u:t> ?v } }",
+    "?a <u:q> ?b OPTIONAL { ?a <u:none> ?v } MINUS { ?x <u:t> ?v }",
+    "?s <u:p> ?v { { ?a <u:q> ?b } UNION { ?a <u:r> ?v } FILTER(!bound(?v)) }",
+    "?s <u:p> ?v { ?a <u:q> ?b VALUES (?a ?v) { (<u:b> UNDEF) } FILTER(!bound(?v)) }",
+    "?s <u:p> ?v FILTER EXISTS { ?a <u:q> ?b FILTER(?v = 1) }",
+])
+def test_values_of_outside(group: str) -> None:
+    """What a group gives doesn't depend on values of outside, but within EXISTS."""
+    check(TRIPLES, f"SELECT * {{ {group} }}")
