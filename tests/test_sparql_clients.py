@@ -16,11 +16,10 @@ import pytest
 from support.built import SAMPLES
 from support.program import run
 from support.python_package import ENVIRONMENT
-from test_java import JARS, NEEDED, java, package
-from test_java_endpoint import ALL, ODD, built, server
+from test_java import JARS, NEEDED, java, package  # noqa: F401
+from test_java_endpoint import ALL, ODD, built, server  # noqa: F401
 
 rdflib = pytest.importorskip("rdflib")
-assert package and server  # (which pytest finds here)
 
 
 @pytest.fixture(scope="module")
