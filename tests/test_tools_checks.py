@@ -235,7 +235,8 @@ def test_views(top: Path, name: str, views: str, others: str) -> None:
     """A view is a function of a value with hidden fields: neither of one whose fields are seen, nor a relation."""
     code = f"ghost use Rattle.toy.specs.Views.{{{name}}};\n\npub fn f()\n    ensures are {{ {name} }}\n{{}}\n"
     write(top, {"crates/toy/specs/Views.antt": VIEWS, "crates/toy/src/kept.rt": TYPES, "crates/toy/src/f.rt": code})
-    found, left = (printed("definitions", "--top", top, "--of", "toy::f", "--list", *more) for more in ([], ["--no-views"]))
+    words = ("definitions", "--top", top, "--of", "toy::f", "--list")
+    found, left = printed(*words), printed(*words, "--no-views")
     names = [{it.split()[0].split(".")[-1] for it in some} - {"Pair", "inner", "low"} for some in (found, left)]
     assert names == [{*views.split(), *others.split()}, set() if views else {*others.split()}]
 
