@@ -81,7 +81,7 @@ OFFERED: dict[str, list[str]] = {
     "hdt string x.hdt o": ["object"],
     "hdt build --b": ["--base", "--blank-nodes", "--block-size"],
     "hdt rewrite --p": ["--progress"],
-    "hdt merge --": ["--base", "--block-size", "--help", "--no-progress", "--progress", "--verbose"],
+    "hdt merge --": ["--base", "--blank-nodes", "--block-size", "--help", "--no-progress", "--progress", "--verbose"],
     "hdt dump ": ["build", "graph.hdt", "my graph.hdt", "sub"],
     "hdt dump no": ["notes.txt"],
     "hdt strings graph.hdt ": ["object", "predicate", "subject"],
