@@ -47,7 +47,7 @@ class Request:
         return self.place + ("?" + _url_text(self.query) if self.query else "")
 
     def with_page(self, page: Optional[int], begins: str = "") -> str:
-        """The URL of another page, with its start if that is known, or of the fragment if `page` is None."""
+        """The URL of a page, with `begins` (where it begins) unless that is empty; without `page`, of the fragment."""
         query = self.without_page + (b"&" if self.without_page and page else b"")
         query += b"page=%d" % page if page else b""
         query += b"&from=" + begins.encode() if begins else b""
