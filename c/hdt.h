@@ -41,10 +41,10 @@
 extern "C" {
 #endif
 
-/* The version of this header, 1.3. A greater minor version has more calls; existing calls don't change as long as the
+/* The version of this header, 1.4. A greater minor version has more calls; existing calls don't change as long as the
  * library is libhdt.so.1. */
 #define HDT_VERSION_MAJOR 1
-#define HDT_VERSION_MINOR 3
+#define HDT_VERSION_MINOR 4
 
 /* Reasons: 0 for success; 1 to 34 for the first error of a file (docs/FORMAT.md); 1 to 9 for the first error of a text
  * (docs/NTRIPLES.md); and these: */
@@ -52,11 +52,13 @@ enum {
     HDT_DONE = 0,
     HDT_NOT_A_TERM = 250,   /* calls that make a text: a string of the graph is not a term of N-Triples in its role;
                              * hdt_term: no term has the string */
-    HDT_NO_TRIPLES = 251,   /* hdt_build: the text has no triples, so no file is built; hdt_merge: there are no graphs */
-    HDT_BAD_OPTIONS = 252,  /* hdt_build, hdt_merge, hdt_rewrite: the block size isn't 1 to 65535, or the base is not an
-                             * absolute IRI;
+    HDT_NO_TRIPLES = 251,   /* hdt_build: the text has no triples, so no file is built; hdt_merge, hdt_merge_with: there
+                             * are no graphs */
+    HDT_BAD_OPTIONS = 252,  /* hdt_build, hdt_merge, hdt_merge_with, hdt_rewrite: the block size isn't 1 to 65535, or the
+                             * base is not an absolute IRI; hdt_merge_with: blank_nodes is neither of its values;
                              * hdt_split: the number of parts isn't 1 to 65536 */
-    HDT_IS_CLOSED = 253,    /* hdt_merge, hdt_share, hdt_text, hdt_pattern_text, hdt_page_text: a graph isn't open */
+    HDT_IS_CLOSED = 253,    /* hdt_merge, hdt_merge_with, hdt_share, hdt_text, hdt_pattern_text, hdt_page_text: a graph
+                             * isn't open */
     HDT_IS_OPEN = 254,      /* hdt_open, hdt_share: the handle that is to be opened is open already, and is unchanged */
     HDT_OUT_OF_MEMORY = 255 /* out of memory: the input may be valid or not; the call may be made again */
 };
@@ -90,6 +92,9 @@ enum {
 };
 
 enum { HDT_SUBJECT = 0, HDT_PREDICATE = 1, HDT_OBJECT = 2 };
+
+/* hdt_merge_with: a blank node label in two graphs is one node, or one node in each. */
+enum { HDT_BLANK_NODES_ONE = 0, HDT_BLANK_NODES_APART = 1 };
 
 /* The result of checking a file. */
 typedef struct {
@@ -350,6 +355,15 @@ void hdt_with_header(const uint8_t *bytes, size_t len, const uint8_t *header, si
  * but out. */
 void hdt_merge(hdt_graph *graphs, size_t count, const uint8_t *base, size_t base_len, uint32_t block_size, hdt_bytes *out,
                hdt_report *report);
+
+/* Merges graphs as hdt_merge does, and says by `blank_nodes` what their blank nodes are. With HDT_BLANK_NODES_ONE it is
+ * hdt_merge. With HDT_BLANK_NODES_APART no blank node of one graph is a blank node of another: in the new file the labels
+ * of graphs[0] begin with `f0_`, those of graphs[1] with `f1_`, and so on. So the order of the handles makes a difference,
+ * as do two handles of one graph. These are the bytes that `hdt merge --blank-nodes apart` writes. Each string that begins
+ * with `_:` gets the prefix, in any role, and no other string. With any other value HDT_BAD_OPTIONS is found first. Other
+ * errors, time and memory are those of hdt_merge. */
+void hdt_merge_with(hdt_graph *graphs, size_t count, uint32_t blank_nodes, const uint8_t *base, size_t base_len,
+                    uint32_t block_size, hdt_bytes *out, hdt_report *report);
 
 /* The term with a dictionary string, as hdt_string and hdt_strings give it: its kind, and which bytes of the string are
  * its text and its language tag or datatype. Nothing in them is escaped. To write it as N-Triples, escape `\`, `"`, LF and CR

@@ -696,6 +696,34 @@ static void merge(hdt_graph *graphs, size_t count, hdt_bytes *out, hdt_report *r
     hdt_merge(graphs, count, base, sizeof base - 1, 16, out, report);
 }
 
+/* The same with hdt_merge_with. */
+static void merge_with(hdt_graph *graphs, size_t count, uint32_t blank_nodes, hdt_bytes *out, hdt_report *report) {
+    hdt_merge_with(graphs, count, blank_nodes, base, sizeof base - 1, 16, out, report);
+}
+
+static int same_report(const hdt_report *a, const hdt_report *b) {
+    return a->reason == b->reason && a->line == b->line && a->column == b->column && memcmp(a->counts, b->counts, sizeof a->counts) == 0;
+}
+
+/* Adds N-Triples of the library to a text, with `f`, the number and `_` before each label: `_:` outside of brackets and quotes. */
+static void add_apart(guarded *out, const uint8_t *lines, size_t len, unsigned number) {
+    uint8_t end = 0; /* of what the place is in */
+    size_t i;
+    for (i = 0; i < len; i++) {
+        uint8_t it = lines[i];
+        out->at[out->len++] = it;
+        if (end == '"' && it == '\\') {
+            out->at[out->len++] = lines[++i];
+        } else if (end) {
+            end = it == end ? 0 : end;
+        } else if (it == '<' || it == '"') {
+            end = it == '<' ? '>' : '"';
+        } else if (it == ':') {
+            out->len += (size_t)sprintf((char *)out->at + out->len, "f%u_", number);
+        }
+    }
+}
+
 /* Whether the file of this text, and of nothing else, has been made. */
 static int is_built_of(const hdt_bytes *made, const hdt_report *told, const uint8_t *lines, size_t len) {
     hdt_bytes wanted = HDT_BYTES_INIT;
@@ -737,6 +765,88 @@ static void refused_merges(hdt_graph *two, hdt_bytes *out) {
     }
 }
 
+/* What is refused of a merge that says what blank nodes are: what hdt_merge refuses, and a word that isn't one, before all else. */
+static void refused_words(hdt_graph *two, hdt_bytes *out) {
+    static const uint32_t bad[] = {2, 3, 256, UINT32_MAX};
+    hdt_graph one_closed[2] = {HDT_GRAPH_INIT, HDT_GRAPH_INIT};
+    hdt_report told;
+    uint32_t word;
+    size_t i;
+    CHECK(hdt_share(&two[1], &one_closed[1]) == HDT_DONE);
+    for (i = 0; i < 4; i++) {
+        merge_with(two, 2, HDT_BLANK_NODES_APART, out, &told);
+        CHECK(told.reason == HDT_DONE && out->state == 1);
+        merge_with(i % 2 ? two : one_closed, i < 2 ? 0 : 2, bad[i], out, &told); /* frees what out had */
+        CHECK(told.reason == HDT_BAD_OPTIONS && told.line == 0 && told.column == 0 && told.counts[0] == 0 && has_nothing(out));
+    }
+    for (word = 0; word < 2; word++) {
+        merge_with(two, 0, word, out, &told);
+        CHECK(told.reason == HDT_NO_TRIPLES && told.counts[0] == 0 && has_nothing(out));
+        merge_with(two, 2, word, out, &told);
+        hdt_merge_with(one_closed, 2, word, base, sizeof base - 1, 0, out, &told); /* the options come last */
+        CHECK(told.reason == HDT_IS_CLOSED && told.counts[0] == 0 && has_nothing(out));
+        merge_with(two, 2, word, out, &told);
+        hdt_merge_with(two, 2, word, base, sizeof base - 1, 65536, out, &told);
+        CHECK(told.reason == HDT_BAD_OPTIONS && told.counts[0] == 0 && has_nothing(out));
+        hdt_merge_with(two, 2, word, (const uint8_t *)"rel", 3, 16, out, &told);
+        CHECK(told.reason == HDT_BAD_OPTIONS && has_nothing(out));
+    }
+    CHECK(is_zeroed(&one_closed[0]) && hdt_len(&one_closed[1]) == hdt_len(&two[1]) && hdt_len(&two[0]) < HDT_CLOSED);
+    hdt_close(&one_closed[1]);
+}
+
+/* The merge of all handles, with a label as one node and with the nodes apart, is built of their texts, if they have one. */
+static void merges_with(hdt_graph *graphs, size_t count) {
+    hdt_graph was[12];
+    hdt_bytes out = HDT_BYTES_INIT, one = HDT_BYTES_INIT, text = HDT_BYTES_INIT;
+    hdt_text_result outcome = {HDT_DONE, 0, 0};
+    hdt_report told, also;
+    hdt_verdict seen_of;
+    guarded renamed;
+    size_t i, room = 0;
+    long before = live;
+    memcpy(was, graphs, count * sizeof *graphs);
+    merge(graphs, count, &one, &told);
+    merge_with(graphs, count, HDT_BLANK_NODES_ONE, &out, &also);
+    CHECK(told.reason == HDT_DONE && same_report(&told, &also) && out.len == one.len && memcmp(out.at, one.at, one.len) == 0);
+    merge_with(graphs, count, HDT_BLANK_NODES_APART, &out, &also);
+    CHECK(also.reason == HDT_DONE && also.line == 0 && also.column == 0 && also.counts[0] >= told.counts[0] && memcmp(was, graphs, count * sizeof *graphs) == 0);
+    hdt_verify_tight(out.at, out.len, &seen_of);
+    CHECK(seen_of.reason == HDT_DONE && memcmp(seen_of.counts, also.counts, sizeof also.counts) == 0);
+    for (i = 0; i < count && outcome.reason == HDT_DONE; i++) {
+        hdt_text(&graphs[i], GIVEN(&any), &text, &outcome);
+        room += 3 * text.len;
+    }
+    if (outcome.reason == HDT_DONE) {
+        renamed = guard(room);
+        renamed.len = 0;
+        for (i = 0; i < count; i++) {
+            hdt_text(&graphs[i], GIVEN(&any), &text, &outcome);
+            add_apart(&renamed, text.at, text.len, (unsigned)i);
+        }
+        CHECK(is_built_of(&out, &also, renamed.at, renamed.len));
+        let_go(&renamed);
+    }
+    hdt_free(&out);
+    hdt_free(&one);
+    hdt_free(&text);
+    CHECK(live == before);
+}
+
+/* Twelve handles of the graph, so that there are numbers of two digits. */
+static void merge_twelve(hdt_graph *graph) {
+    hdt_graph twelve[12];
+    size_t i;
+    memset(twelve, 0, sizeof twelve);
+    for (i = 0; i < 12; i++) {
+        CHECK(hdt_share(graph, &twelve[i]) == HDT_DONE);
+    }
+    merges_with(twelve, 12);
+    for (i = 0; i < 12; i++) {
+        hdt_close(&twelve[i]);
+    }
+}
+
 /* The graph merged with itself, and with another one, in both orders, is built of its text and that of the other. */
 static void merges(hdt_graph *graph, const hdt_verdict *verdict) {
     static const char line[] = "<u:merged> <u:p> _:merged .\n";
@@ -771,9 +881,13 @@ static void merges(hdt_graph *graph, const hdt_verdict *verdict) {
         CHECK(outcome.reason != HDT_DONE || is_built_of(&out, &told, both, text.len + (order < 2 ? sizeof line - 1 : 0)));
         CHECK(hdt_len(its) == verdict->counts[0] && alike(graph, its));
         refused_merges(two, &out);
+        merges_with(two, 2);
+        refused_words(two, &out);
         hdt_close(&two[0]);
         hdt_close(&two[1]);
     }
+    merges_with(graph, 1);
+    merge_twelve(graph);
     free(both);
     hdt_free(&out);
     hdt_free(&text);
@@ -817,6 +931,9 @@ static void closed(hdt_graph *graph) {
     CHECK(outcome.reason == HDT_IS_CLOSED && outcome.role == 0 && outcome.number == 0 && has_nothing(&made) && number == HDT_ABSENT && live == before);
     hdt_build((const uint8_t *)"<u:s> <u:p> <u:o> .", 19, base, sizeof base - 1, 16, &made, &report);
     merge(graph, 1, &made, &report);
+    CHECK(report.reason == HDT_IS_CLOSED && report.counts[0] == 0 && has_nothing(&made) && live == before);
+    hdt_build((const uint8_t *)"<u:s> <u:p> <u:o> .", 19, base, sizeof base - 1, 16, &made, &report);
+    merge_with(graph, 1, HDT_BLANK_NODES_APART, &made, &report);
     CHECK(report.reason == HDT_IS_CLOSED && report.counts[0] == 0 && has_nothing(&made) && live == before);
     hdt_close(graph);
     CHECK(graph->state == 0);
@@ -906,7 +1023,7 @@ typedef struct {
     hdt_graph *graph; /* open */
     hdt_pattern given;
     hdt_verdict ample;
-    hdt_bytes document, built, rewritten, merged; /* with ample memory */
+    hdt_bytes document, built, rewritten, merged, apart; /* with ample memory */
 } job;
 
 enum { TOLD = 0, AMPLE = 1, WRONG = 2 };
@@ -1082,15 +1199,19 @@ static int call_with_header(const job *it) {
     return answer;
 }
 
-static int call_merge(const job *it) {
+static int two_merged(const job *it, uint32_t blank_nodes, const hdt_bytes *ample) {
     hdt_graph two[2] = {HDT_GRAPH_INIT, HDT_GRAPH_INIT}, was[2];
     hdt_bytes made = HDT_BYTES_INIT;
     hdt_report told = {HDT_OUT_OF_MEMORY, 0, 0, {0}};
     int answer = TOLD;
     if (hdt_share(it->graph, &two[0]) == HDT_DONE && hdt_share(it->graph, &two[1]) == HDT_DONE) {
         memcpy(was, two, sizeof was);
-        merge(two, 2, &made, &told);
-        answer = told.reason == HDT_OUT_OF_MEMORY ? (has_nothing(&made) && told.counts[0] == 0 ? TOLD : WRONG) : told.reason == HDT_DONE ? as_made(&made, &it->merged) : WRONG;
+        if (blank_nodes == HDT_BLANK_NODES_ONE) {
+            merge(two, 2, &made, &told);
+        } else {
+            merge_with(two, 2, blank_nodes, &made, &told);
+        }
+        answer = told.reason == HDT_OUT_OF_MEMORY ? (has_nothing(&made) && told.counts[0] == 0 ? TOLD : WRONG) : told.reason == HDT_DONE ? as_made(&made, ample) : WRONG;
         answer = memcmp(was, two, sizeof was) == 0 && hdt_len(&two[1]) == it->ample.counts[0] ? answer : WRONG;
     }
     hdt_close(&two[0]);
@@ -1098,6 +1219,10 @@ static int call_merge(const job *it) {
     hdt_free(&made);
     return answer;
 }
+
+static int call_merge(const job *it) { return two_merged(it, HDT_BLANK_NODES_ONE, &it->merged); }
+
+static int call_merge_apart(const job *it) { return two_merged(it, HDT_BLANK_NODES_APART, &it->apart); }
 
 static long refusals_told; /* of memory that was refused */
 
@@ -1129,7 +1254,8 @@ static void refuse(const guarded *file, const hdt_verdict *verdict) {
     hdt_report report;
     hdt_text_result outcome;
     uint8_t string[4096];
-    job it = {file, &graph, any, *verdict, HDT_BYTES_INIT, HDT_BYTES_INIT, HDT_BYTES_INIT, HDT_BYTES_INIT};
+    job it = {file, &graph, any, *verdict, HDT_BYTES_INIT, HDT_BYTES_INIT, HDT_BYTES_INIT, HDT_BYTES_INIT, HDT_BYTES_INIT};
+    hdt_graph two[2] = {HDT_GRAPH_INIT, HDT_GRAPH_INIT};
     refuse_each("verify", call_verify, &it);
     refuse_each("verify tight", call_verify_tight, &it);
     refuse_each("term", call_term, &it);
@@ -1164,6 +1290,12 @@ static void refuse(const guarded *file, const hdt_verdict *verdict) {
     refuse_each("with header", call_with_header, &it);
     merge(&graph, 1, &it.merged, &report);
     refuse_each("merge", call_merge, &it);
+    CHECK(hdt_share(&graph, &two[0]) == HDT_DONE && hdt_share(&graph, &two[1]) == HDT_DONE);
+    merge_with(two, 2, HDT_BLANK_NODES_APART, &it.apart, &report);
+    refuse_each("merge apart", call_merge_apart, &it);
+    hdt_close(&two[0]);
+    hdt_close(&two[1]);
+    hdt_free(&it.apart);
     hdt_free(&it.document);
     hdt_free(&it.built);
     hdt_free(&it.rewritten);

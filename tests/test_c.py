@@ -217,6 +217,9 @@ WRONG = {
     "hdt_merge": Wrong("void", "hdt_graph *g, size_t n, const uint8_t *b, size_t bn, uint32_t k, hdt_bytes *out, "
                                "hdt_report *r",
                        "RIGHT(g, n > 1 && g[n - 1].state == 1 ? n - 1 : n, b, bn, k, out, r);"),
+    "hdt_merge_with": Wrong("void", "hdt_graph *g, size_t n, uint32_t w, const uint8_t *b, size_t bn, uint32_t k, "
+                                    "hdt_bytes *out, hdt_report *r",
+                            "RIGHT(g, n, w ? 1 : 0, b, bn, k, out, r);"),
     "hdt_rewrite": Wrong("void", "const uint8_t *b, size_t n, uint32_t k, hdt_bytes *out, hdt_verdict *v",
                          "if (k > 65535) k = 65535; RIGHT(b, n, k, out, v);"),
     "hdt_with_header": Wrong("void", "const uint8_t *b, size_t n, const uint8_t *h, size_t hn, hdt_bytes *out, "
@@ -311,6 +314,29 @@ WRONG_MERGES = {
         "hdt_free(out); memset(r, 0, sizeof *r); r->reason = HDT_BAD_OPTIONS;",
 }
 
+# Wrong bodies of hdt_merge_with besides.
+MERGE_WITH = "RIGHT(g, n, w, b, bn, k, out, r);"
+SWAP = "if (n > 1) { hdt_graph first = g[0]; g[0] = g[1]; g[1] = first; } "
+WRONG_MERGES_WITH = {
+    "keeps no nodes apart": "RIGHT(g, n, w == 1 ? 0 : w, b, bn, k, out, r);",
+    "keeps all nodes apart": "RIGHT(g, n, w == 0 ? 1 : w, b, bn, k, out, r);",
+    "takes a large word modulo 256": "RIGHT(g, n, w % 256, b, bn, k, out, r);",
+    "numbers the graphs from the second": SWAP + MERGE_WITH + " " + SWAP,
+    "merges ten graphs": "RIGHT(g, n > 10 ? 10 : n, w, b, bn, k, out, r);",
+    "gives one graph no prefix": "RIGHT(g, n, n == 1 && w == 1 ? 0 : w, b, bn, k, out, r);",
+    "takes a closed handle for none": "while (w == 1 && n > 1 && g[0].state != 1) { g++; n--; } " + MERGE_WITH,
+    "asks for the word last":
+        "if (w < 2) { RIGHT(g, n, w, b, bn, k, out, r); return; } RIGHT(g, n, 0, b, bn, k, out, r); "
+        "if (r->reason == HDT_DONE) { hdt_free(out); memset(r, 0, sizeof *r); r->reason = HDT_BAD_OPTIONS; }",
+    "closes the handles": MERGE_WITH + " for (size_t i = 0; i < n; i++) hdt_close(&g[i]);",
+    "has another block size": "RIGHT(g, n, w, b, bn, k == 16 ? 15 : k, out, r);",
+    "keeps what out had on an error":
+        "hdt_bytes made = HDT_BYTES_INIT; RIGHT(g, n, w, b, bn, k, &made, r); "
+        "if (r->reason == HDT_DONE) { hdt_free(out); *out = made; }",
+    "forgets that memory ran out": MERGE_WITH + " if (r->reason == HDT_OUT_OF_MEMORY) r->reason = HDT_DONE;",
+    "counts the triples once": MERGE_WITH + " if (w == 1 && n > 1) r->counts[0] = hdt_len(&g[0]);",
+}
+
 
 def wrong_library(folder: Path, name: str, wrong: Wrong) -> Path:
     """A static library whose call of this name is wrong."""
@@ -363,9 +389,11 @@ def test_wrong_share_is_refused(name: str, object_file: Path, tmp_path: Path) ->
 
 
 @needs_objcopy
-@pytest.mark.parametrize("name", WRONG_MERGES)
-def test_wrong_merge_is_refused(name: str, object_file: Path, tmp_path: Path) -> None:
-    """c/test.c fails over a library whose hdt_merge is wrong in another way."""
-    wrong = WRONG["hdt_merge"]._replace(body=WRONG_MERGES[name])
-    archive = wrong_library(tmp_path, "hdt_merge", wrong)
+@pytest.mark.parametrize(("call", "name"), [
+    *(("hdt_merge", it) for it in WRONG_MERGES), *(("hdt_merge_with", it) for it in WRONG_MERGES_WITH),
+])
+def test_wrong_merge_is_refused(call: str, name: str, object_file: Path, tmp_path: Path) -> None:
+    """c/test.c fails over a library whose hdt_merge or hdt_merge_with is wrong in another way."""
+    bodies = WRONG_MERGES if call == "hdt_merge" else WRONG_MERGES_WITH
+    archive = wrong_library(tmp_path, call, WRONG[call]._replace(body=bodies[name]))
     refused(small_run(compile_test(tmp_path / "test", object_file, archive=archive)))

@@ -1,4 +1,5 @@
 mod AsBox
+mod GraphPrefixes
 mod JoinLaws
 mod MergeLaws
 mod OptionLaws

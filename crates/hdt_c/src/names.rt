@@ -67,9 +67,9 @@ const TEXT_REASONS: [LineReason; 9] = [
 /// one.
 #[unsafe(no_mangle)]
 pub extern "C" fn hdt_version() -> u32
-    ensures { result ≡ 65539 }
+    ensures { result ≡ 65540 }
 {
-    0x0001_0003
+    0x0001_0004
 }
 
 /// The reason of a file with this number.

@@ -15,7 +15,9 @@ graphs-preserved c =
     let e = c.in_ok-merger-2.ensures in
     record {
       within = omega (arith, lt, length-set l.graphs l.at c.add_graph.new.graph);
-      added = e.added ∙ triples_more old l.graphs l.at d i.kept lt l.merger i.added;
+      added = e.added
+          ∙ triples_more old l.graphs l.at d i.kept lt c.args.apart l.merger c.in_ok-prefix.prefix.items
+          c.in_ok-prefix.ensures.is i.added;
       none = λ none. absurd (omega (arith, e.some, ap (λ (ts : List StringTriple). length ts) none));
       kept = same_after old l.graphs l.at d i.kept lt c.add_graph.new.graph c.add_graph.ensures.kept;
     }
