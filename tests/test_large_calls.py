@@ -150,6 +150,21 @@ def test_files(it: Large, large_files: Files, tmp_path: Path) -> None:
     assert other.read_bytes() == path.read_bytes()
 
 
+def test_merge(tmp_path: Path) -> None:
+    """`merge` of a graph and itself, with a label as one node and as two: the file of all lines."""
+    def built(*labels: bytes) -> bytes:
+        (tmp_path / "in.nt").write_bytes(b"".join(many(b"_:%s# <u:p> _:%s# .\n" % (it, it)) for it in labels))
+        hdt.build(tmp_path / "in.nt", tmp_path / "built.hdt")
+        return (tmp_path / "built.hdt").read_bytes()
+
+    out, one = tmp_path / "out.hdt", built(b"b")
+    with hdt.open(tmp_path / "built.hdt") as graph:
+        assert hdt.merge([graph, graph], out) == graph.counts
+        assert out.read_bytes() == one
+        assert hdt.merge([graph, graph], out, blank_nodes="apart").triples == 2 * COUNT
+    assert out.read_bytes() == built(b"f0_b", b"f1_b")
+
+
 # ---- calls of the library that the package lacks
 
 

@@ -10,6 +10,7 @@ import sys
 import threading
 from collections.abc import Sequence
 from concurrent.futures import ThreadPoolExecutor
+from contextlib import ExitStack
 from pathlib import Path
 from typing import Any, Union
 from unittest import mock
@@ -19,9 +20,10 @@ from hypothesis import example, given
 from hypothesis import strategies as st
 
 from reference import hdt as reference
-from support.built import SAMPLES
+from support.built import PROGRAM, SAMPLES
 from support.c_files import loose_files
 from support.parts import graph_of, inputs, parts, text_of
+from support.program import run
 from support.properties import examples
 from support.python_package import hdt
 
@@ -71,6 +73,50 @@ def test_merging_is_building_together(
     counts = hdt.merge(files, scratch / "out", block_size=block_size)
     assert (scratch / "out").read_bytes() == wanted
     assert counts == hdt.verify(scratch / "out", tight=True)
+
+
+# Strings of files of other tools: `_b` is no blank node, but `_:` without a label is taken as one, in any role.
+STRANGE = st.tuples(st.sampled_from([*NODES, "_b", "_:", "_:f0_b"]), st.sampled_from(["u:p", "_:b", "_"]),
+                    st.sampled_from([*OBJECTS, "_:c", '"_:b"']))
+
+
+@examples()
+@given(st.lists(st.lists(STRANGE, min_size=1, max_size=8, unique=True), min_size=1, max_size=12), st.integers(0, 2**32))
+@example([[("_:b", "u:p", "_:c")]], 0)
+def test_blank_nodes_are_those_of_the_command(scratch: Path, lists: list[list[Any]], seed: int) -> None:
+    """Paths and open graphs, with a label as one node or with the nodes apart, merge to the bytes of the command."""
+    draw, files = random.Random(seed), []
+    for number, triples in enumerate(lists):
+        files.append(scratch / f"{number}.hdt")
+        strings = [(s.encode(), p.encode(), o.encode()) for s, p, o in triples]
+        files[-1].write_bytes(reference.graph(strings).data)
+    files += draw.sample(files, draw.randint(0, len(files)))
+    for word in (None, "one", "apart"):
+        options = [] if word is None else [f"--blank-nodes={word}"]
+        done = run([PROGRAM, "merge", *files, scratch / "command", *options])
+        with ExitStack() as kept:
+            given_inputs = [it if draw.random() < 0.5 else kept.enter_context(hdt.open(it)) for it in files]
+            counts = hdt.merge(given_inputs, scratch / "out", blank_nodes=word)
+        assert done.out.split()[:6] == [b"merged", *(b"%d" % it for it in counts)]
+        assert (scratch / "out").read_bytes() == (scratch / "command").read_bytes()
+
+
+def test_blank_nodes_apart(tmp_path: Path) -> None:
+    """No blank node of a file is one of another, nor of itself if it comes twice; a single file's labels change, too."""
+    old = built(tmp_path, "old.hdt", [("_:b", "u:p", "_:c"), ("u:a", "u:p", '"_:b"')])
+    new = built(tmp_path, "new.hdt", [("_:b", "u:p", "_:b")])
+    cases: list[tuple[list[Path], list[str]]] = [
+        ([old], ["_:f0_b", "_:f0_c"]), ([old, new], ["_:f0_b", "_:f0_c", "_:f1_b"]),
+        ([new, old, new], ["_:f0_b", "_:f1_b", "_:f1_c", "_:f2_b"]),
+        ([new] * 12, [f"_:f{it}_b" for it in range(12)]),
+    ]
+    for files, nodes in cases:
+        hdt.merge(files, tmp_path / "out", blank_nodes="apart")
+        with hdt.open(tmp_path / "out") as graph:
+            found = {term for s, _, o in graph for term in (s, o) if term.startswith("_:")}
+            assert found == set(nodes) and graph.matching(o='"_:b"') == (old in files)
+    with pytest.raises(TypeError):
+        hdt.merge([old], tmp_path / "out", "u:b", 16, False, "apart")
 
 
 def test_unused_strings_are_left_out(tmp_path: Path) -> None:
@@ -139,6 +185,13 @@ def test_errors(tmp_path: Path) -> None:
         assert error_of(ValueError, [THREE], out, block_size=size) == "the block size isn't 1 to 65535"
     assert error_of(ValueError, [tmp_path / "missing"], out, base="relative") == "the base is not an absolute IRI"
     assert error_of(FileNotFoundError, [THREE, tmp_path / "missing"], out).endswith("/missing'")
+    words: list[Any] = ["two", "", "Apart", 0, 1, True, ["one"], b"apart"]
+    for word in words:
+        for of in ([THREE], []):
+            assert error_of(ValueError, of, out, blank_nodes=word) == 'blank_nodes is "one", "apart" or None'
+    for word in ("one", "apart"):
+        assert error_of(hdt.NoTriples, [], out, blank_nodes=word) == "there are no inputs"
+        assert error_of(ValueError, [THREE, closed], out, blank_nodes=word) == "the graph is closed"
     for wrong in ([3], [None], 7):
         error_of(TypeError, wrong, out)
     for one in (str(THREE), THREE, os.fsencode(THREE), hdt.open(THREE)):
@@ -171,7 +224,7 @@ def test_progress(tmp_path: Path, capfd: pytest.CaptureFixture[str]) -> None:
     assert sorted(os.listdir(tmp_path)) == ["new.hdt", "text.nt"]
 
 
-@pytest.mark.parametrize("call", ["hdt_share", "hdt_merge"])
+@pytest.mark.parametrize("call", ["hdt_share", "hdt_merge_with"])
 def test_out_of_memory(call: str, tmp_path: Path) -> None:
     """Where the library has no memory for a handle or the file, nothing is written, and the graphs stay open."""
     def merge(*given_arguments: Any) -> None:
@@ -183,6 +236,7 @@ def test_out_of_memory(call: str, tmp_path: Path) -> None:
         with mock.patch.object(library, call, no_memory):
             error_of(MemoryError, [graph], tmp_path / "out")
             error_of(MemoryError, [graph, graph], tmp_path / "out")
+            error_of(MemoryError, [graph, graph], tmp_path / "out", blank_nodes="apart")
         assert os.listdir(tmp_path) == []
         assert hdt.merge([graph], tmp_path / "out") == graph.counts
 
@@ -217,14 +271,14 @@ def test_handles_are_closed(tmp_path: Path) -> None:
                 if error is None:
                     hdt.merge([graph, graph], tmp_path / "out")
                 else:
-                    with mock.patch.object(library, "hdt_merge", side_effect=error):
+                    with mock.patch.object(library, "hdt_merge_with", side_effect=error):
                         error_of(error, [graph, graph], tmp_path / "out")
                 assert (handles.count, handles.opened, len(graph._free)) == (2, set(), 2)
 
 
 def test_close_waits_for_a_merge(tmp_path: Path) -> None:
     """A graph that is closed in another thread meanwhile stays as long as it is merged."""
-    begun, merge = threading.Event(), library.hdt_merge
+    begun, merge = threading.Event(), library.hdt_merge_with
     graph = hdt.Graph(THREE.read_bytes())
 
     def merging(*given_arguments: Any) -> None:
@@ -239,7 +293,7 @@ def test_close_waits_for_a_merge(tmp_path: Path) -> None:
 
     closing = threading.Thread(target=close)
     closing.start()
-    with mock.patch.object(library, "hdt_merge", merging):
+    with mock.patch.object(library, "hdt_merge_with", merging):
         assert hdt.merge([graph, graph], tmp_path / "out").triples == 3
     closing.join()
     assert error_of(ValueError, [graph], tmp_path / "out") == "the graph is closed"

@@ -652,7 +652,7 @@ def test_version() -> None:
     """The version of the package is that of its distribution."""
     assert f'version = "{hdt.__version__}"\n' in (PACKAGE / "pyproject.toml").read_text()
     assert importlib.util.find_spec("hdt") is None or hdt.__version__ == "2.1.0"
-    assert hdt.LIBHDT_VERSION == _library.VERSION == "1.3"
+    assert hdt.LIBHDT_VERSION == _library.VERSION == "1.4"
 
 
 def test_an_old_library_is_refused(tmp_path: Path) -> None:

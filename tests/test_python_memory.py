@@ -47,6 +47,8 @@ calls = {
     "build": lambda: written(hdt.build, text),
     "build of short lines": lambda: written(hdt.build, text, longest_line=200),
     "rewrite": lambda: written(hdt.rewrite, path, block_size=2),
+    "merge": lambda: written(hdt.merge, [path, graph]),
+    "merge apart": lambda: written(hdt.merge, [graph, path, graph], blank_nodes="apart"),
     "header": lambda: graph.header,
     "count": lambda: graph.count("object"),
     "predicates": lambda: list(graph.predicates()),
@@ -80,7 +82,7 @@ for name, call in calls.items():
             print(f"{name}: without allocation {number} it is {found!r:.100}, not {wanted!r:.100}")
     assert values() == wanted
     made, refusals = made + 1, refusals + number - 1
-print(made > 100, refusals > 100, len(errors) > 10, {"open", "build", "rewrite", "text", "page_text"} - errors)
+print(made > 100, refusals > 100, len(errors) > 10, {"open", "build", "rewrite", "merge", "text", "page_text"} - errors)
 """
 
 

@@ -22,7 +22,7 @@ while a graph of it is open or a call reads it (`open` says more).
 Results and exceptions have a `help` of their own: `Counts`, `Ids`, `IdArray`; `Fault` (not a valid HDT file),
 `LineFault` (not N-Triples), `ConversionFault` (not another syntax), `NoTriples` and `NotATerm`, each a ValueError;
 `NoConverter`. MemoryError, and OSError of files, are Python's. After an exception a graph is as it was. `__version__`
-is the version of the package, `LIBHDT_VERSION` that of the library, as "1.3".
+is the version of the package, `LIBHDT_VERSION` that of the library, as "1.4".
 """
 
 from __future__ import annotations

@@ -15,6 +15,7 @@ from ._brief import Brief
 ABSENT, NO_MEMORY, CLOSED = 2**64 - 1, 2**64 - 2, 2**64 - 3
 DONE, NOT_A_TERM, NO_TRIPLES, BAD_OPTIONS, IS_CLOSED, IS_OPEN, OUT_OF_MEMORY = 0, 250, 251, 252, 253, 254, 255
 ANY, ID, STRING = 0, 1, 2  # kinds of a part of a pattern
+BLANK_NODES = {None: 0, "one": 0, "apart": 1}  # of hdt_merge_with
 _SMALL = 1024 * 1024  # bytes that are freed in some microseconds
 
 
@@ -166,7 +167,7 @@ def _load() -> Any:
         ("hdt_page", [graph, pattern, number, room, size, room], number),
         ("hdt_page_text", [graph, pattern, number, number, made, room, outcome], None),
         ("hdt_build", [*bytes_of, *bytes_of, ctypes.c_uint32, made, report], None),
-        ("hdt_merge", [*bytes_of, *bytes_of, ctypes.c_uint32, made, report], None),
+        ("hdt_merge_with", [*bytes_of, ctypes.c_uint32, *bytes_of, ctypes.c_uint32, made, report], None),
         ("hdt_split", [*bytes_of, ctypes.c_uint32, *bytes_of, made, room, size, split_report], None),
         ("hdt_rewrite", [*bytes_of, ctypes.c_uint32, made, verdict], None),
         ("hdt_with_header", [*bytes_of, *bytes_of, made, verdict, report], None),

@@ -6,7 +6,7 @@ import ctypes
 import os
 from collections.abc import Iterable, Iterator, Sequence
 from contextlib import ExitStack, closing, contextmanager
-from typing import Any, Union
+from typing import Any, Optional, Union
 
 from . import _library
 from ._build import check_header
@@ -62,11 +62,13 @@ class _Row:
                 library.hdt_close(ctypes.cast(ctypes.pointer(handle), ctypes.POINTER(Handle)))
 
 
-def merged(graphs: Sequence[Graph], made: Made, base: str, block_size: int) -> Counts:
+def merged(
+    graphs: Sequence[Graph], made: Made, base: str, block_size: int, blank_nodes: Optional[str] = None
+) -> Counts:
     """Make the file of all triples of these graphs, and return its counts. Raises what `merge` does, but OSError."""
-    report, name = Report(), encoded(base)
+    report, name, word, size = Report(), encoded(base), _library.BLANK_NODES[blank_nodes], _checked(block_size)
     with _Row(graphs) as row:
-        library.hdt_merge(ctypes.addressof(row), len(graphs), name, len(name), _checked(block_size), made, report)
+        library.hdt_merge_with(ctypes.addressof(row), len(graphs), word, name, len(name), size, made, report)
     return counts_of(report)
 
 
@@ -87,12 +89,15 @@ def merge(
     base: str = "http://example.org/dataset",
     block_size: int = 16,
     progress: Progress = False,
+    *,
+    blank_nodes: Optional[str] = None,
 ) -> Counts:
     """Merge files, by their paths, and open graphs into one file of all their triples, and return its counts.
 
-    The file is the one that `build` makes of the triples as one text, so a blank node label in two inputs is one node.
-    `base` and `block_size` are those of `build`. The output is replaced atomically, and may be one of the inputs.
-    Graphs stay open. `progress` is that of `build`, of the bytes of opened files; the merge comes after it.
+    The file is the one that `build` makes of the triples as one text, so a blank node label in two inputs is one node
+    (`blank_nodes="one"`) or, by `"apart"`, several: labels get the prefix `f0_`, `f1_` and so on, also a single
+    input's. `base` and `block_size` are those of `build`. The output is replaced atomically, and may be one of the
+    inputs. Graphs stay open. `progress` is that of `build`, of the bytes of opened files; the merge comes after it.
 
     Errors: `Fault` with an input's path; ValueError for options and a closed graph; `NoTriples` without an input;
     TypeError; MemoryError; OSError; what `progress` raises. The time is linear in the inputs, with their strings
@@ -104,11 +109,13 @@ def merge(
     """
     if isinstance(inputs, (str, bytes, os.PathLike, Graph)):
         raise TypeError("inputs are paths and graphs, not one of them")
+    if blank_nodes not in (None, "one", "apart"):
+        raise ValueError('blank_nodes is "one", "apart" or None')
     given = list(inputs)
     check_header(base, block_size)
     if not given:
         raise NoTriples("there are no inputs")
     with ExitStack() as kept, Made() as made:
-        counts = merged(_opened(given, kept, progress), made, base, block_size)
+        counts = merged(_opened(given, kept, progress), made, base, block_size, blank_nodes)
         replace(out_path, made.view())
     return counts

@@ -19,8 +19,8 @@ def merge(folder: Path, out_path: Path, base: Optional[str] = None, block_size: 
     """Merge the parts of a folder into one file, and return its counts.
 
     `base` and `block_size` are those that the folder was built with, unless they are given. The file is the one that
-    `hdt.build` makes of the inputs as one text. It is replaced atomically, as by `hdt.build`, and can't be in the
-    folder.
+    `hdt.build` makes of the inputs as one text, with the `blank_nodes` of the folder: a label in two parts is one node,
+    as the parts are one graph. It is replaced atomically, as by `hdt.build`, and can't be in the folder.
 
     Errors: `PartFault` for a file of the folder that is missing, damaged or another one; ValueError for the options and
     for an output in the folder; TypeError; MemoryError; OSError. Time and memory are those of `hdt.merge`: all parts
