@@ -28,8 +28,8 @@ from support.terms import LABEL_EDGES, strings, term_values
 
 FFI, DECLARATIONS = CRATE / "src/ffi.rs", CRATE / "src/header.rs"
 README, CALLS = TOP / "README.md", TOP / "tests/support/rust_calls.rs"
-# The older calls with nine parameters, in place of which the crate has those with a pattern.
-REPLACED = {"hdt_find", "hdt_matching", "hdt_text"}
+# Calls in place of which the crate has others: those with nine parameters, and that for `hdt_merge_with`.
+REPLACED = {"hdt_find", "hdt_matching", "hdt_text", "hdt_merge"}
 # At least so many tests does the crate have, with the examples of its comments.
 CASES = 101
 

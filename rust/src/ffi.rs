@@ -43,8 +43,8 @@ extern "C" {
                      next: *mut u64, outcome: *mut hdt_text_result);
     fn hdt_build(text: *const u8, len: usize, base: *const u8, base_len: usize, block_size: u32, out: *mut hdt_bytes,
                  report: *mut hdt_report);
-    fn hdt_merge(graphs: *mut hdt_graph, count: usize, base: *const u8, base_len: usize, block_size: u32,
-                 out: *mut hdt_bytes, report: *mut hdt_report);
+    fn hdt_merge_with(graphs: *mut hdt_graph, count: usize, blank_nodes: u32, base: *const u8, base_len: usize,
+                      block_size: u32, out: *mut hdt_bytes, report: *mut hdt_report);
     fn hdt_split(text: *const u8, len: usize, parts: u32, prefix: *const u8, prefix_len: usize, out: *mut hdt_bytes,
                  ends: *mut u64, room: usize, report: *mut hdt_split_report);
     fn hdt_rewrite(bytes: *const u8, len: usize, block_size: u32, out: *mut hdt_bytes, verdict: *mut hdt_verdict);
@@ -335,7 +335,7 @@ pub(crate) fn build(text: &[u8], base: &str, block_size: u16) -> (Bytes, hdt_rep
     (out, report)
 }
 
-/// Handles side by side, as `hdt_merge` takes them, which are closed when this is dropped.
+/// Handles side by side, as `hdt_merge_with` takes them, which are closed when this is dropped.
 struct Row(Vec<hdt_graph>);
 
 impl Drop for Row {
@@ -347,9 +347,11 @@ impl Drop for Row {
     }
 }
 
-/// The file of the triples of all graphs, each of which has one more handle meanwhile.
+/// The file of the triples of all graphs, each of which has one more handle meanwhile. `blank_nodes` is one of the
+/// constants of this name.
 pub(crate) fn merge<'a, 'bytes: 'a>(
     graphs: impl Iterator<Item = &'a Handles<'bytes>>,
+    blank_nodes: u32,
     base: &str,
     block_size: u16,
 ) -> (Bytes, hdt_report) {
@@ -368,7 +370,7 @@ pub(crate) fn merge<'a, 'bytes: 'a>(
     let (at, count, name, name_len) = (row.0.as_mut_ptr(), row.0.len(), base.as_ptr(), base.len());
     // SAFETY: there are `count` handles, which it has alone, as `out` and `report`; the graphs outlive the call, with the
     // bytes of their files; and the base has as many bytes as it says.
-    unsafe { hdt_merge(at, count, name, name_len, block_size.into(), &mut out.made, &mut report) };
+    unsafe { hdt_merge_with(at, count, blank_nodes, name, name_len, block_size.into(), &mut out.made, &mut report) };
     (out, report)
 }
 

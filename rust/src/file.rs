@@ -104,10 +104,10 @@ pub fn build(text: &[u8], base: &str, block_size: u16) -> Result<(Bytes, Counts)
 
 /// Merges graphs: makes the canonical file of all their triples, each once, and returns that and its counts.
 ///
-/// The order of the graphs makes no difference. A blank node label in two graphs is one node, as in one text. `base` and
-/// `block_size` are those of [`build`]. Time is linear in the graphs, with their strings decoded, except for sorting.
-/// Memory: the strings of each graph, front-coded, with 24 bytes each, and once more the distinct ones; 5 to 9 bytes for
-/// each triple of each graph, and as much for sorting, with 24 MB; and the file.
+/// The order of the graphs makes no difference. A blank node label in two graphs is one node, as in one text;
+/// [`merge_apart`] makes it two. `base` and `block_size` are those of [`build`]. Time is linear in the graphs, with their
+/// strings decoded, except for sorting. Memory: the strings of each graph, front-coded, with 24 bytes each, and once more
+/// the distinct ones; 5 to 9 bytes for each triple of each graph, and as much for sorting, with 24 MB; and the file.
 ///
 /// # Errors
 ///
@@ -132,7 +132,47 @@ pub fn merge<'a, 'bytes: 'a>(
     base: &str,
     block_size: u16,
 ) -> Result<(Bytes, Counts), Error> {
-    let (file, report) = ffi::merge(graphs.into_iter().map(|graph| &*graph.handles), base, block_size);
+    merge_with(graphs, ffi::HDT_BLANK_NODES_ONE, base, block_size)
+}
+
+/// Merges graphs as [`merge`] does, but keeps their blank nodes apart: no blank node of one is one of another.
+///
+/// The labels of the first graph get the prefix `f0_`, those of the second one `f1_`, and so on, as by
+/// `hdt merge --blank-nodes apart`. So the order of the graphs makes a difference.
+///
+/// # Errors
+///
+/// Those of [`merge`].
+///
+/// ```
+/// use tickmarl_hdt::{build, merge_apart, Graph, Role, BLOCK_SIZE};
+///
+/// # fn main() -> Result<(), tickmarl_hdt::Error> {
+/// let base = "http://example.org/";
+/// let (file, _) = build(b"_:b <u:p> <u:o> .\n", base, BLOCK_SIZE)?;
+/// let graph = Graph::open(&file)?;
+/// let (merged, counts) = merge_apart([&graph, &graph], base, BLOCK_SIZE)?;
+/// assert_eq!(counts.triples, 2);
+/// assert_eq!(Graph::open(&merged)?.string(Role::Subject, 2)?.as_deref(), Some("_:f1_b"));
+/// # Ok(())
+/// # }
+/// ```
+pub fn merge_apart<'a, 'bytes: 'a>(
+    graphs: impl IntoIterator<Item = &'a Graph<'bytes>>,
+    base: &str,
+    block_size: u16,
+) -> Result<(Bytes, Counts), Error> {
+    merge_with(graphs, ffi::HDT_BLANK_NODES_APART, base, block_size)
+}
+
+fn merge_with<'a, 'bytes: 'a>(
+    graphs: impl IntoIterator<Item = &'a Graph<'bytes>>,
+    blank_nodes: u32,
+    base: &str,
+    block_size: u16,
+) -> Result<(Bytes, Counts), Error> {
+    let handles = graphs.into_iter().map(|graph| &*graph.handles);
+    let (file, report) = ffi::merge(handles, blank_nodes, base, block_size);
     match report.reason {
         ffi::HDT_DONE => Ok((file, Counts::of(report.counts))),
         reason => Err(Error::of_text(reason, report.line, report.column)),

@@ -3,7 +3,7 @@
 #![allow(non_camel_case_types)]
 
 pub(crate) const HDT_VERSION_MAJOR: u32 = 1;
-pub(crate) const HDT_VERSION_MINOR: u32 = 3;
+pub(crate) const HDT_VERSION_MINOR: u32 = 4;
 
 pub(crate) const HDT_DONE: u32 = 0;
 pub(crate) const HDT_NOT_A_TERM: u32 = 250;
@@ -65,6 +65,9 @@ pub(crate) const HDT_TEXT_TOO_LONG: u32 = 9;
 pub(crate) const HDT_SUBJECT: u32 = 0;
 pub(crate) const HDT_PREDICATE: u32 = 1;
 pub(crate) const HDT_OBJECT: u32 = 2;
+
+pub(crate) const HDT_BLANK_NODES_ONE: u32 = 0;
+pub(crate) const HDT_BLANK_NODES_APART: u32 = 1;
 
 pub(crate) const HDT_ANY: u32 = 0;
 pub(crate) const HDT_ID: u32 = 1;

@@ -54,7 +54,7 @@ mod term;
 
 pub use error::{Cause, Error, FileError, FileReason, PathError, TextError, TextReason};
 pub use ffi::Bytes;
-pub use file::{build, merge, rewrite, verify, verify_tight, with_header, Counts, BLOCK_SIZE};
+pub use file::{build, merge, merge_apart, rewrite, verify, verify_tight, with_header, Counts, BLOCK_SIZE};
 pub use graph::Graph;
 pub use matches::{Matches, Page};
 pub use paths::{build_path, merge_paths, rewrite_path};

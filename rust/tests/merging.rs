@@ -6,8 +6,8 @@ use std::process;
 use std::thread;
 
 use tickmarl_hdt::{
-    build, build_path, merge, merge_paths, rewrite, verify_tight, Bytes, Cause, Error, FileReason, Graph, PathError,
-    Pattern, BLOCK_SIZE,
+    build, build_path, merge, merge_apart, merge_paths, rewrite, verify_tight, Bytes, Cause, Error, FileReason, Graph,
+    PathError, Pattern, BLOCK_SIZE,
 };
 
 const BASE: &str = "http://a/";
@@ -64,6 +64,21 @@ fn merging_is_building_the_texts_together() {
     assert_eq!(merge([&old], BASE, 3).unwrap().0[..], rewrite(THREE, 3).unwrap().0[..]);
     assert_ne!(merge([&old], "u:b", 3).unwrap().0[..], rewrite(THREE, 3).unwrap().0[..]);
     assert_eq!((old.len(), new.len()), (3, 3));
+}
+
+#[test]
+fn blank_nodes_are_kept_apart() {
+    let text = |prefix: &str| format!("_:{prefix}b <u:p> _:{prefix}c .\n<u:a> <u:p> \"_:b\" .\n");
+    let one = built(text("").as_bytes(), 1);
+    let graph = Graph::open(&one).unwrap();
+    for count in [1, 2, 12] {
+        let wanted: String = (0..count).map(|number| text(&format!("f{number}_"))).collect();
+        let (file, counts) = merge_apart(vec![&graph; count], BASE, BLOCK_SIZE).unwrap();
+        assert_eq!((&file[..], counts.triples), (&built(wanted.as_bytes(), BLOCK_SIZE)[..], 1 + count as u64));
+        assert_eq!(merge(vec![&graph; count], BASE, BLOCK_SIZE).unwrap().1.triples, 2);
+    }
+    assert_eq!(merge_apart([], BASE, BLOCK_SIZE).unwrap_err(), Error::NoTriples);
+    assert_eq!(merge_apart([&graph], BASE, 0).unwrap_err(), Error::BadOptions);
 }
 
 #[test]
