@@ -95,14 +95,14 @@ def test_blank_nodes_are_those_of_the_command(scratch: Path, lists: list[list[An
         options = [] if word is None else [f"--blank-nodes={word}"]
         done = run([PROGRAM, "merge", *files, scratch / "command", *options])
         with ExitStack() as kept:
-            given_inputs = [it if draw.random() < 0.5 else kept.enter_context(hdt.open(it)) for it in files]
+            given_inputs: list[Any] = [it if draw.random() < 0.5 else kept.enter_context(hdt.open(it)) for it in files]
             counts = hdt.merge(given_inputs, scratch / "out", blank_nodes=word)
         assert done.out.split()[:6] == [b"merged", *(b"%d" % it for it in counts)]
         assert (scratch / "out").read_bytes() == (scratch / "command").read_bytes()
 
 
 def test_blank_nodes_apart(tmp_path: Path) -> None:
-    """No blank node of a file is one of another, nor of itself if it comes twice; a single file's labels change, too."""
+    """No blank node of a file is one of another, or of itself if it comes twice; a single file's labels change, too."""
     old = built(tmp_path, "old.hdt", [("_:b", "u:p", "_:c"), ("u:a", "u:p", '"_:b"')])
     new = built(tmp_path, "new.hdt", [("_:b", "u:p", "_:b")])
     cases: list[tuple[list[Path], list[str]]] = [
@@ -115,8 +115,9 @@ def test_blank_nodes_apart(tmp_path: Path) -> None:
         with hdt.open(tmp_path / "out") as graph:
             found = {term for s, _, o in graph for term in (s, o) if term.startswith("_:")}
             assert found == set(nodes) and graph.matching(o='"_:b"') == (old in files)
+    by_place: Any = [[old], tmp_path / "out", "u:b", 16, False, "apart"]
     with pytest.raises(TypeError):
-        hdt.merge([old], tmp_path / "out", "u:b", 16, False, "apart")
+        hdt.merge(*by_place)
 
 
 def test_unused_strings_are_left_out(tmp_path: Path) -> None:

@@ -4,8 +4,8 @@ use Rattle.hdt_dict.specs.Strings.{IsDictionaryString}
 use Rattle.hdt_c.proofs.GraphPrefixes.{prefix_text}
 use Rattle.hdt_c.proofs.merging.graph_prefix.Goals as goal
 
-pub returns-in_ok-format-then-clause-text : goal.returns-in_ok-format-then-clause-text
-returns-in_ok-format-then-clause-text c =
+pub returns-in_ok-format-clause-text : goal.returns-in_ok-format-clause-text
+returns-in_ok-format-clause-text c =
     let is : c.into_bytes.result.items ≡ codes "f" ++ decimal c.args.number ++ codes "_" = search rules in
     let small : c.args.number < 2 ^ 64 = search rules in
     subst IsDictionaryString (sym is) (prefix_text c.args.number small)
