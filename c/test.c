@@ -833,13 +833,17 @@ static void merges_with(hdt_graph *graphs, size_t count) {
     CHECK(live == before);
 }
 
-/* Twelve handles of the graph, so that there are numbers of two digits. */
-static void merge_twelve(hdt_graph *graph) {
+/* Another file, which has a blank node, alone; then twelve handles, so that numbers have two digits: of it and the graph in turn. */
+static void merge_twelve(hdt_graph *graph, const hdt_bytes *other) {
     hdt_graph twelve[12];
+    hdt_verdict opened;
     size_t i;
     memset(twelve, 0, sizeof twelve);
-    for (i = 0; i < 12; i++) {
-        CHECK(hdt_share(graph, &twelve[i]) == HDT_DONE);
+    hdt_open(other->at, other->len, &twelve[0], &opened);
+    CHECK(opened.reason == HDT_DONE);
+    merges_with(twelve, 1);
+    for (i = 1; i < 12; i++) {
+        CHECK(hdt_share(i % 2 ? graph : &twelve[0], &twelve[i]) == HDT_DONE);
     }
     merges_with(twelve, 12);
     for (i = 0; i < 12; i++) {
@@ -887,7 +891,7 @@ static void merges(hdt_graph *graph, const hdt_verdict *verdict) {
         hdt_close(&two[1]);
     }
     merges_with(graph, 1);
-    merge_twelve(graph);
+    merge_twelve(graph, &other);
     free(both);
     hdt_free(&out);
     hdt_free(&text);

@@ -1,6 +1,6 @@
 -- The prefixes that keep the blank nodes of graphs apart.
 use Rattle.std.proofs.Common.{◌≡◌, ◌≢◌, ◌∙◌, ◌<◌, ◌^◌, ◌%◌, ◌+◌, ◌++◌, ◌∷◌, ℕ, List, [], codes, length, zero, suc}
-use Rattle.std.proofs.Common.{true, refl, ap, sym, arith, rules}
+use Rattle.std.proofs.Common.{true, ap, sym, arith, rules}
 use Rattle.std.specs.Fmt.{decimal}
 use Rattle.std.proofs.lemmas.Fmt.{IsAscii-decimal, decimal_by_steps}
 use Rattle.std.proofs.lemmas.List.{append_assoc, append-nil}

@@ -1,5 +1,5 @@
 -- Arrays of handles.
-use Rattle.std.proofs.Common.{◌≡◌, ◌∙◌, ℕ, ◌+◌, ◌<◌, Bool, true, false, List, [], ◌∷◌, ◌++◌, length, get_or, set, take}
+use Rattle.std.proofs.Common.{◌≡◌, ◌∙◌, ℕ, ◌+◌, ◌<◌, Bool, true, false, List, [], ◌++◌, length, get_or, set, take}
 use Rattle.std.proofs.Common.{ap, arith, sym}
 use Rattle.std.specs.Prelude.{Option}
 use Rattle.std.specs.List.{All}
