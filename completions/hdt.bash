@@ -35,7 +35,7 @@ _hdt() {
     answer) options="--verbose --no-progress --raw --numbers --count --skip-non-terms --most --longest-request --help" arguments=".hdt" ;;
     dump) options="--verbose --no-progress --skip-non-terms --help" arguments=".hdt" ;;
     count) options="--verbose --no-progress --top --raw --help" arguments=".hdt subject|predicate|object" ;;
-    build) options="--verbose --no-progress --base --block-size --blank-nodes --longest-line --progress --help" arguments=".nt .nt" ;;
+    build) options="--verbose --no-progress --base --block-size --blank-nodes --longest-line --memory --scratch --progress --help" arguments=".nt .nt" ;;
     rewrite) options="--verbose --no-progress --block-size --header --progress --help" arguments=".hdt .hdt" ;;
     merge) options="--verbose --no-progress --base --block-size --blank-nodes --progress --help" arguments=".hdt .hdt" ;;
     lint) options="--keep --most --longest-line --verbose --help" arguments=".nt" ;;
@@ -48,7 +48,7 @@ _hdt() {
         case $skip$i in
         =*) skip="" ;;
         # of the help:
-        --prefix | --most | --longest-request | --top | --base | --block-size | --blank-nodes | --longest-line | --header | --parts | --of) skip="=" ;;
+        --prefix | --most | --longest-request | --top | --base | --block-size | --blank-nodes | --longest-line | --memory | --scratch | --header | --parts | --of) skip="=" ;;
         # end
         -?*) ;;
         *) count=$((count + 1)) ;;

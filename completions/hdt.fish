@@ -11,7 +11,7 @@ function __hdt_argument --argument-names command number
             case '=*'
                 set skip
             # of the help:
-            case --prefix --most --longest-request --top --base --block-size --blank-nodes --longest-line --header --parts --of
+            case --prefix --most --longest-request --top --base --block-size --blank-nodes --longest-line --memory --scratch --header --parts --of
             # end
                 set skip =
             case '-?*'
@@ -120,6 +120,8 @@ complete -c hdt -n '__hdt_command build' -l base -x -d 'The IRI that names the g
 complete -c hdt -n '__hdt_command build' -l block-size -x -d 'Strings per dictionary block, 1 to 65535'
 complete -c hdt -n '__hdt_command build' -l blank-nodes -x -d 'Whether a label is one node in all inputs: one or apart'
 complete -c hdt -n '__hdt_command build' -l longest-line -x -d 'Reject lines of more than N bytes'
+complete -c hdt -n '__hdt_command build' -l memory -x -d 'Use about SIZE of memory, as 512M or 4G, and scratch files'
+complete -c hdt -n '__hdt_command build' -l scratch -x -d 'Make the scratch files of --memory in FOLDER'
 complete -c hdt -n '__hdt_command build' -l progress -d 'Report the bytes read in lines on standard error'
 complete -c hdt -n '__hdt_command build' -l help -s h -d 'Print help'
 complete -c hdt -n '__hdt_argument build 1' -k -a '(__fish_complete_suffix .nt)'

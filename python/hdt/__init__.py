@@ -15,9 +15,8 @@ back, or a URIRef, BNode or Literal of rdflib. In a pattern None matches any ter
 brackets, raise ValueError.
 
 A role is `"subject"`, `"predicate"` or `"object"`; another word raises ValueError. The strings of a role have IDs from
-1, by which `Graph.ids` finds triples. Older names of its searches, as `Graph.find_ids`, still work, and `hdt.compat`
-has pyHDT's class. Threads may share a graph. Files of 64 MiB and more are mapped, not read: such a file must not change
-while a graph of it is open or a call reads it (`open` says more).
+1, by which `Graph.ids` finds triples. Older names, as `Graph.find_ids`, still work; `hdt.compat` has pyHDT's class.
+Threads may share a graph. Files of 64 MiB and more are mapped: they must not change while in use (`open` says more).
 
 Results and exceptions have a `help` of their own: `Counts`, `Ids`, `IdArray`; `Fault` (not a valid HDT file),
 `LineFault` (not N-Triples), `ConversionFault` (not another syntax), `NoTriples` and `NotATerm`, each a ValueError;

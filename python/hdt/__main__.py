@@ -18,6 +18,7 @@ from . import ConversionFault, Counts, LineFault, NoConverter, NoTriples, _progr
 from ._build import check_header, is_plain
 from ._convert import CONVERTERS
 from ._files import are_one
+from ._low_memory import size_of
 from ._metadata import Header
 from ._syntaxes import SUFFIXES, TITLES
 
@@ -55,6 +56,13 @@ def _block_size(word: str) -> int:
     return number
 
 
+def _memory(word: str) -> int:
+    try:
+        return size_of(word)
+    except ValueError as error:
+        raise argparse.ArgumentTypeError(str(error)) from None
+
+
 def _parser() -> argparse.ArgumentParser:
     parser = argparse.ArgumentParser(
         "hdt build", description=_DESCRIPTION, formatter_class=argparse.RawDescriptionHelpFormatter, allow_abbrev=False
@@ -70,6 +78,8 @@ def _parser() -> argparse.ArgumentParser:
     add("--blank-nodes", choices=["apart", "one"], help="whether a label is one node in all inputs")
     add("--graphs", choices=["merge"], help="build the union of named graphs, which are an error else")
     add("--converter", choices=CONVERTERS, help="convert by this program")
+    add("--memory", metavar="SIZE", type=_memory, help="build in about SIZE of memory, as 64M, with scratch files")
+    add("--scratch", metavar="FOLDER", help="make the scratch files of --memory in FOLDER, not beside OUT")
     for name, what in _METADATA.items():
         words = ["--license", "--licence"] if name == "license" else [f"--{name}"]
         add(*words, action="append", metavar=what, help=f"dcterms:{name} in the header")
@@ -123,6 +133,10 @@ def _check(options: Any) -> None:
         _usage("standard input can be read once")
     if options.header is not None and _metadata_of(options):
         _usage("--header is the whole header")
+    if options.memory is not None and (options.header is not None or _metadata_of(options)):
+        _usage("--memory has no room for a header: hdt rewrite --header replaces it")
+    if options.scratch is not None and options.memory is None:
+        _usage("--scratch is for --memory")
     try:
         check_header("x:" if options.base is None else options.base, header=Header(None, _metadata_of(options)))
     except ValueError as error:
@@ -173,13 +187,14 @@ def _build(options: Any) -> None:
     """Build, and print the counts. Raises what `hdt.build` raises."""
     inputs = [sys.stdin.buffer if name == "-" else name for name in options.inputs]
     shows = options.progress or sys.stderr.isatty() and not options.no_progress
-    words = {name: getattr(options, name) for name in ("base", "block_size", "longest_line", *_MORE)}
+    names = ("base", "block_size", "longest_line", "memory", "scratch", *_MORE)
+    words = {name: getattr(options, name) for name in names}
     words.update(header=_header_of(options), metadata=_metadata_of(options) or None)
     if options.out != "-":
         counts = build(inputs, options.out, progress=shows, **words)
         _print(counts, os.path.getsize(options.out), sys.stdout)
         return
-    with tempfile.TemporaryDirectory() as folder:
+    with tempfile.TemporaryDirectory(dir=options.scratch) as folder:
         made = os.path.join(folder, "out.hdt")
         counts = build(inputs, made, progress=shows, **words)
         with open(made, "rb") as file:

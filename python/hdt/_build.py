@@ -5,6 +5,7 @@ The scratch file has no name, so nothing is left of it, however the process ends
 
 from __future__ import annotations
 
+import io
 import operator
 import os
 import tempfile
@@ -17,8 +18,9 @@ from ._calls import Counts, Path
 from ._compressed import suffix_of
 from ._convert import RDFLIB, Conversion, Unsuited, check_converter, converter_of, is_installed
 from ._faults import LineFault, NoTriples
-from ._files import are_one, built, data_of, longest_of, replace
+from ._files import are_one, built, data_of, longest_of, replace, target_of
 from ._library import Made
+from ._low_memory import LowMemory
 from ._mapped import Mapped
 from ._metadata import Header
 from ._progress import Meter, Progress
@@ -56,6 +58,8 @@ def build(
     progress: Progress = False,
     metadata: Optional[Mapping[str, Any]] = None,
     header: Union[str, bytes, None] = None,
+    memory: Union[int, str, None] = None,
+    scratch: Optional[Path] = None,
 ) -> Counts:
     """Build an HDT file from RDF, and return its counts. The output is replaced atomically, only if all went well.
 
@@ -78,14 +82,15 @@ def build(
     column after them), as is N-Triples of more than `largest_text` bytes; at most 1 MiB after these is looked at.
     `progress` is True, for a bar (by tqdm, if installed) on standard error, or a function of the bytes read so far and
     of their number, or None; the build comes after it. `metadata` has arguments of `hdt.metadata` by their names, as
-    `{"title": "Examples"}`; `header` is a whole header, as of `rewrite`.
+    `{"title": "Examples"}`; `header` is a whole header, as of `rewrite`. With `memory`, bytes or as `"64M"` (4M or
+    more), the program `hdt` builds the same file in about so much, without `metadata` or `header`: more slowly, with
+    scratch files beside the output or in the folder `scratch`.
 
     Errors: `LineFault` for N-Triples and N-Quads, with path and line, and for a header, `ConversionFault` for other
     syntaxes, `NoTriples`, ValueError for options, named graphs, or an input that is the output, `NoConverter`,
     TypeError, MemoryError, OSError, also for damaged archives, and what iterables, files and `progress` raise. The time
-    is that of sorting strings and triples, and of the converter. One N-Triples file is in memory, or mapped, with what
-    is built. Other inputs are read in pieces (documents by rdflib whole), and written as N-Triples to a file without a
-    name in the folder of the output, which needs room for both.
+    is that of sorting, and of the converter. One N-Triples file is in memory, or mapped, with what is built. Others are
+    read in pieces (by rdflib whole), and written as N-Triples to a scratch file without a name beside the output.
 
     >>> hdt.build("graph.nt", "graph.hdt", base="http://example.org/graph")
     Counts(triples=3, shared=2, subjects=0, predicates=2, objects=1)
@@ -100,7 +105,10 @@ def build(
     check_converter(converter)
     if largest_text is not None and operator.index(largest_text) < 0:
         raise ValueError("the largest text is negative")
-    output = _Output(out_path, _BASE if base is None else base, block_size, Header(header, metadata))
+    if memory is not None and not (header is None and metadata is None):
+        raise ValueError("a build with memory takes no header: rewrite replaces it, with the file in memory")
+    made_header, low = Header(header, metadata), LowMemory.of(memory, scratch)
+    output = _Output(out_path, _BASE if base is None else base, block_size, made_header, low)
     check_header(output.base, block_size, output.header)
     if largest_text is None and not progress and is_plain(nt_path, syntax):
         return _of_ntriples(cast(Path, nt_path), output, longest_line)
@@ -110,17 +118,32 @@ def build(
 
 
 class _Output(NamedTuple):
-    """What is to be made: the path, the name in the header, the strings of a block, the header."""
+    """What is to be made: the path, the name in the header, the strings of a block, the header, and in what memory."""
 
     path: Path
     base: str
     block_size: int
     header: Header
+    low: Optional[LowMemory]
 
     def take(self, made: Made) -> None:
         """Replace the file at the path by one that was built, with its header."""
         with Made() as other:
             replace(self.path, self.header.put(made, other).view())
+
+    def options(self, longest_line: Optional[int]) -> list[str]:
+        """The same as options of the program."""
+        lines = [] if longest_line is None else [f"--longest-line={min(operator.index(longest_line), 2**64 - 1)}"]
+        return [f"--base={self.base}", f"--block-size={operator.index(self.block_size)}", *lines]
+
+    def scratch(self) -> IO[bytes]:
+        """A file without a name, in the folder of the output, or in that for scratch files."""
+        target, is_replaced = target_of(self.path)
+        told = None if self.low is None else self.low.scratch
+        try:
+            return tempfile.TemporaryFile(dir=told or (os.path.dirname(target) if is_replaced else None))
+        except OSError as error:
+            raise OSError(error.errno, error.strerror, told or os.fsdecode(self.path)) from None
 
 
 def check_header(base: str, block_size: int = 16, header: Optional[Header] = None) -> None:
@@ -148,6 +171,9 @@ def _of_ntriples(path: Path, output: _Output, longest_line: Optional[int]) -> Co
     """Build the file of one N-Triples file."""
     _check_output(os.fsdecode(path), output.path)
     lines = longest_of(longest_line, path)
+    if output.low is not None:
+        with io.open(path, "rb") as text:
+            return output.low.build(text, output.path, output.options(longest_line), path)
     with Made() as made:
         counts = built(data_of(path, lines=lines)[0], made, output.base, output.block_size, path)
         output.take(made)
@@ -160,26 +186,19 @@ def _of_sources(sources: list[Source], output: _Output, options: _Options, progr
         _check_output(it.path, output.path)
     sizes = [it.size for it in sources]
     meter = Meter(progress, None if None in sizes else sum(map(int, filter(None, sizes))))
-    with closing(meter), _scratch(output.path) as text:
+    with closing(meter), output.scratch() as text:
         size = _Writer(text, output.path, options, meter).write(sources)
         meter.end()
         if not size:
             raise NoTriples(path=sources[0].name if len(sources) == 1 else None)
+        if output.low is not None:
+            text.seek(0)
+            return output.low.build(text, output.path, output.options(None))
         with Made() as made:
             with Mapped(text.fileno()) as lines:
                 counts = built(lines, made, output.base, output.block_size)
             output.take(made)
     return counts
-
-
-def _scratch(out_path: Path) -> IO[bytes]:
-    """A file without a name in the folder of the output, or in that for scratch files if the output is a device."""
-    target = os.path.realpath(os.fsdecode(out_path))
-    is_device = os.path.exists(target) and not os.path.isfile(target)
-    try:
-        return tempfile.TemporaryFile(dir=None if is_device else os.path.dirname(target))
-    except OSError as error:
-        raise OSError(error.errno, error.strerror, os.fsdecode(out_path)) from None
 
 
 class _Writer:

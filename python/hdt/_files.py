@@ -9,7 +9,9 @@ import mmap
 import operator
 import os
 import secrets
+import shutil
 import stat
+from collections.abc import Iterator
 from typing import Any, NamedTuple, Optional, Union
 
 from ._calls import Counts, Path, counts_of, encoded
@@ -61,16 +63,34 @@ def _umask() -> int:
         return 0o077
 
 
+def _new_in(folder: str) -> str:
+    return os.path.join(folder, f"hdt-unfinished-{secrets.token_hex(8)}")
+
+
 def _create_beside(path: str) -> tuple[int, str]:
     """A new file in the folder of a path, which nobody else can read."""
     while True:
-        beside = os.path.join(os.path.dirname(path), f"hdt-unfinished-{secrets.token_hex(8)}")
+        beside = _new_in(os.path.dirname(path))
         try:
             return os.open(beside, os.O_WRONLY | os.O_CREAT | os.O_EXCL | os.O_CLOEXEC, 0o600), beside
         except FileExistsError:
             continue
         except OSError as error:
             raise OSError(error.errno, error.strerror, path) from None  # (the caller knows nothing of the other name)
+
+
+@contextlib.contextmanager
+def unfinished(folder: str, path: Path) -> Iterator[str]:
+    """A new folder in a folder, which nobody else can open. It is removed at the end. Raises OSError of `path`."""
+    made = _new_in(folder)
+    try:
+        os.mkdir(made, 0o700)
+    except OSError as error:
+        raise OSError(error.errno, error.strerror, os.fsdecode(path)) from None
+    try:
+        yield made
+    finally:
+        shutil.rmtree(made, ignore_errors=True)
 
 
 def _take_over(descriptor: int, target: str) -> None:
@@ -94,16 +114,37 @@ def _take_over(descriptor: int, target: str) -> None:
     os.fchmod(descriptor, mode)
 
 
+def target_of(path: Path) -> tuple[str, bool]:
+    """Where a path leads, and whether a file is replaced there: a device or a pipe is written to. Raises OSError."""
+    target = os.path.realpath(os.fsdecode(path))
+    if os.path.islink(target):
+        raise OSError(errno.ELOOP, os.strerror(errno.ELOOP), os.fsdecode(path))
+    return target, os.path.isfile(target) or not os.path.exists(target)
+
+
+def move(made: str, path: Path) -> None:
+    """Replace the file at a path by another one of its file system, which is on the disk; write a device or a pipe.
+
+    The file takes over from the one that it replaces, and then takes its name.
+    """
+    target, is_replaced = target_of(path)
+    with io.open(made, "rb") as file:
+        if not is_replaced:
+            with io.open(target, "wb") as there:
+                shutil.copyfileobj(file, there)
+            return
+        _take_over(file.fileno(), target)
+    os.replace(made, target)
+
+
 def replace(path: Path, data: memoryview) -> None:
     """Replace the file at a path by one with these bytes; a device or a pipe is written to.
 
     A new file beside it is handed to the disk, takes over from the one that it replaces, and then takes its name. On
     failure the old file is unchanged.
     """
-    target = os.path.realpath(os.fsdecode(path))
-    if os.path.islink(target):
-        raise OSError(errno.ELOOP, os.strerror(errno.ELOOP), os.fsdecode(path))
-    if os.path.exists(target) and not os.path.isfile(target):
+    target, is_replaced = target_of(path)
+    if not is_replaced:
         with io.open(target, "wb") as there:
             there.write(data)
         return

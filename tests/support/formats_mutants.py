@@ -8,13 +8,13 @@ from support.package_mutants import judge
 
 FORMATS, HOSTILE, TRIPLES = "tests/test_formats.py", "tests/test_formats_hostile.py", "tests/test_formats_triples.py"
 COMMAND, COMPAT, INSTALL = "tests/test_formats_command.py", "tests/test_compat.py", "tests/test_install.py"
-HEADER = "tests/test_header_python.py"
+HEADER, MEMORY = "tests/test_header_python.py", "tests/test_python_build_memory.py"
 ORDERS = {
     "_triples": [TRIPLES, FORMATS], "_process": [HOSTILE, FORMATS], "_compressed": [HOSTILE, FORMATS],
     "__main__": [COMMAND], "_program": [COMMAND], "compat": [COMPAT],
     "_blocks": [FORMATS, HOSTILE, "tests/test_parts.py", "tests/test_parts_hostile.py"],
     "_mapped": ["tests/test_parts.py", FORMATS], "_build": [HEADER, FORMATS, HOSTILE, TRIPLES], "_metadata": [HEADER],
-    "_about": [HEADER],
+    "_about": [HEADER], "_low_memory": [MEMORY], "_files": [MEMORY],
 }  # fmt: skip
 
 WRONG = {
@@ -27,6 +27,33 @@ WRONG = {
         ("lines before one that is too long aren't looked at", "            yield block[:at]\n", "            pass\n"),
         ("labels have no prefix", "prefix, len(prefix), made", 'b"", 0, made'),
         ("blank nodes aren't seen", "bool(report.has_blank_nodes)", "False"),
+    ],
+    "_low_memory": [
+        ("less memory is enough", "_LEAST = 4 * 1024 * 1024", "_LEAST = 1024 * 1024"),
+        ("any memory is enough", "if not _LEAST <= size < 2**64:", "if not size < 2**64:"),
+        ("units are of 1000", '"M": 2**20', '"M": 10**6'),
+        ("a number is looked for in a text", "_SIZE.fullmatch(memory)", "_SIZE.match(memory)"),
+        ("scratch means nothing alone", "            if scratch is not None:\n", "            if False:\n"),
+        ("scratch is beside the output", "scratch = folder if self.scratch is None", "scratch = folder if True"),
+        ("a device has a folder beside it",
+         "os.path.dirname(target) if is_replaced", "os.path.dirname(target) if True"),
+        ("any end is a success", "            if status:\n", "            if False:\n"),
+        ("a limit of files ends the program", "restore_signals=False", "restore_signals=True"),
+        ("an interrupt leaves the program", "            child.kill()", "            pass"),
+        ("an interrupt doesn't wait for the program", "            child.wait()\n", ""),
+        ("faults have no path", "LineFault(reason, line, column, name)", "LineFault(reason, line, column)"),
+        ("line and column are changed over", "line, column, reason = map", "column, line, reason = map"),
+        ("the output isn't named in errors", 'if more.startswith("  -: ") else os.fsdecode(out_path)', ""),
+        ("errors have no number", "_NUMBERS.get(why, errno.EIO)", "errno.EIO"),
+        ("memory that runs out is another error", "    if status == 4:\n", "    if False:\n"),
+        ("the size is a default", "--memory={self.size}", "--memory={2**32}"),
+    ],
+    "_files": [
+        ("the folder stays", "        shutil.rmtree(made, ignore_errors=True)\n", "        pass\n"),
+        ("others may enter the folder", "os.mkdir(made, 0o700)", "os.mkdir(made, 0o755)"),
+        ("the folder is named in errors",
+         "error.strerror, os.fsdecode(path)) from None\n    try:", "error.strerror)\n    try:"),
+        ("permissions are those of a new file", "        _take_over(file.fileno(), target)\n", ""),
     ],
     "_mapped": [
         ("pages of a text stay in memory", "            self._data.madvise(mmap.MADV_DONTNEED)", "            pass"),
@@ -49,7 +76,8 @@ WRONG = {
          "source.size is None or self._options.converter", "self._options.converter"),
         ("another converter than the chosen one",
          "source.size is None or self._options.converter", "source.size is None"),
-        ("the scratch file is named in errors", "error.strerror, os.fsdecode(out_path)) from None", "error.strerror)"),
+        ("the scratch file is named in errors",
+         "error.strerror, told or os.fsdecode(self.path)) from None", "error.strerror)"),
         ("a compressed file goes to the library", " and not suffix_of(name)", ""),
         ("blank nodes of the last block alone", "has_blank_nodes or found.has_blank_nodes", "found.has_blank_nodes"),
         ("no triples are a file", "        if not size:\n", "        if False:\n"),

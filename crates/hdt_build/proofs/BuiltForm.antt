@@ -22,15 +22,15 @@ form_sections g d ts h t = split_sections _ _ _ d h.sections t.subjects_are t.pr
 -- an encoded graph gives the canonical file of the graph, and its report
 pub made_of : (g : List StringTriple) (d : SectionLists) (ts : List Triple) (header : List ℕ) (b : ℕ) (bytes : List ℕ)
     (report : Report)
-    → 0 < length g → HasDictionaryStrings g → IsEncodedGraph g d ts → bytes ≡ canonical_file header b d ts
+    → 0 < length g → AreSections d → IsEncodedGraph g d ts → bytes ≡ canonical_file header b d ts
     → report ≡ report_of d ts bytes → IsCanonicalWithReport header g b bytes report
-made_of g d ts header b bytes report some texts form file report_is = record {
+made_of g d ts header b bytes report some valid form file report_is = record {
   file = record {
     dictionary = d;
     triples = ts;
     some = some;
     form = form;
-    sections = form_sections g d ts form texts;
+    sections = valid;
     bytes_are = file;
   };
   report_is = report_is;
@@ -65,15 +65,15 @@ report_of_lens lens d ts bytes n m is count long =
 pub all_built : {V E : Type 0} (items : V
     → List ℕ) (r : Result (V × Report) E) (options : Options) (g : List StringTriple) (d : SectionLists)
     (ts : List Triple) (header : List ℕ)
-    → 0 < length g → HasDictionaryStrings g → IsEncodedGraph g d ts
+    → 0 < length g → AreSections d → IsEncodedGraph g d ts
     → header ≡ header_body options.base.items (length ts)
     → IfOk r (λ made. items made.0 ≡ canonical_file header options.block_size d ts)
     → IfOk r (λ made. made.1 ≡ report_of d ts (items made.0))
     → IfOk r (λ made. IsBuilt options g (items made.0) made.1)
 unfolding report_of
-all_built items (Ok made) options g d ts header some texts form head file report_is =
+all_built items (Ok made) options g d ts header some valid form head file report_is =
     let count : length ts ≡ made.1.triples = sym (ap (λ (r : Report). r.triples) report_is) in
     subst (λ (h : List ℕ). IsCanonicalWithReport h g options.block_size (items made.0) made.1) (head
     ∙ ap (header_body options.base.items) count)
-    (made_of g d ts header options.block_size (items made.0) made.1 some texts form file report_is)
-all_built items (Err e) options g d ts header some texts form head file report_is = tt
+    (made_of g d ts header options.block_size (items made.0) made.1 some valid form file report_is)
+all_built items (Err e) options g d ts header some valid form head file report_is = tt

@@ -35,7 +35,7 @@ use Rattle.hdt_build.specs.Graph.{IsEncodedGraph, subjects_of, predicates_of, ob
 use Rattle.hdt_build.specs.Layouts.{denoted_by, graph_parts_of}
 use Rattle.hdt_build.specs.Options.{IsBlockSize}
 use Rattle.hdt_build.specs.Inside.Rewriting.{string_of_id}
-use Rattle.hdt_build.proofs.BuiltForm.{made_of}
+use Rattle.hdt_build.proofs.BuiltForm.{form_sections, made_of}
 use Rattle.hdt_build.proofs.Denoting.{encoded_form, once}
 use Rattle.hdt_build.proofs.DenotedStrings.{denoted_texts, some_denoted}
 use Rattle.hdt_build.proofs.DistinctMembers.{at_most}
@@ -225,7 +225,8 @@ own_form_rewritten b bytes g size h own = record {
   encoded = own.tight.layout;
   report = report_of g.dictionary g.triples bytes;
   rewritten = made_of (denoted_by g) g.dictionary g.triples g.header b bytes (report_of g.dictionary g.triples bytes)
-      (some_denoted g h) (denoted_texts g h) (tight_form g h own.tight.tight) own.same refl;
+      (some_denoted g h) (form_sections _ _ _ (tight_form g h own.tight.tight) (denoted_texts g h))
+      (tight_form g h own.tight.tight) own.same refl;
 }
 
 -- a file has fewer than 2 ^ 64 triples

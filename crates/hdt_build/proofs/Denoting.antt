@@ -33,17 +33,17 @@ use Rattle.hdt_dict.specs.Dictionary.{SectionLists, role_strings}
 use Rattle.hdt_file.specs.File.{role_counts}
 
 -- the IDs of a triple are those of the strings
-abbrev AreIdsOf : SectionLists → StringTriple → Triple → Type 0
+abbrev pub AreIdsOf : SectionLists → StringTriple → Triple → Type 0
 AreIdsOf d x t = IsIdOf (role_strings d Subject) x.0 t.0 × IsIdOf (role_strings d Predicate) x.1 t.1
     × IsIdOf (role_strings d Object) x.2 t.2
 
 -- triples that stand for string triples, and their IDs in the sections
-module _ (d : SectionLists) (ids : List Triple) (new : Triple → Triple) (strings : Triple
-    → StringTriple) (are : (t : Triple) → Contains ids t → AreIdsOf d (strings t) (new t)) where
-  one_denoted : (t : Triple) → Contains ids t → string_triple d (new t) ≡ strings t
+module _ {X : Type 0} (d : SectionLists) (ids : List X) (new : X → Triple) (strings : X → StringTriple)
+    (are : (t : X) → Contains ids t → AreIdsOf d (strings t) (new t)) where
+  one_denoted : (t : X) → Contains ids t → string_triple d (new t) ≡ strings t
   one_denoted t there = let r = are t there in same_strings _ _ _ _ _ _ r.0.is r.1.is r.2.is
 
-  one_in_range : (t : Triple) → Contains ids t → IsInRange (role_counts d) (new t)
+  one_in_range : (t : X) → Contains ids t → IsInRange (role_counts d) (new t)
   one_in_range t there = let r = are t there in
       ((r.0.from_one, r.0.within), (r.1.from_one, r.1.within), (r.2.from_one, r.2.within))
 

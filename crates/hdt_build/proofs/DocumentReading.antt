@@ -27,11 +27,11 @@ pub either : (b : Bool) → (b ≡ true) ⊎ (b ≡ false)
 either true = inl refl
 either false = inr refl
 
--- the triples so far, as strings with the prefix, after those before
-pub record IsReadSoFar (prefix : List ℕ) (s : LinesState) (input mid : Option (List ℕ))
+-- the triples so far, as strings with the prefix, after those before, if they are known
+pub record IsReadSoFar (known : Type 0) (prefix : List ℕ) (s : LinesState) (input mid : Option (List ℕ))
     (before graph : List StringTriple) (blank : Bool) : Type 0 where
   pub triples : List Triple
-  pub strings : graph ≡ before ++ prefixed_strings prefix triples
+  pub strings : known → graph ≡ before ++ prefixed_strings prefix triples
   pub blank_is : blank ≡ triples_have_blank_nodes triples
   pub going : s.ended ≡ false → TriplesSoFar most s input mid triples
   pub ended : s.ended ≡ true → IsDocumentInput most input triples
@@ -73,9 +73,10 @@ at_end buffered None none e = tt
 at_end buffered (Some xs) none e = sym (ap (λ (ys : List ℕ). ys ++ xs) none) ∙ e
 
 -- one more triple
-pub run_on : (prefix : List ℕ) (s new : LinesState) (input mid after : Option (List ℕ))
+pub run_on : (known : Type 0) (prefix : List ℕ) (s new : LinesState) (input mid after : Option (List ℕ))
     (before graph more : List StringTriple) (triple : Triple) (added : StringTriple) (old blank : Bool)
-    → IsReadSoFar prefix s input mid before graph old → s.ended ≡ false → more ≡ graph ++ added ∷ []
+    → IsReadSoFar known prefix s input mid before graph old → s.ended ≡ false
+    → (known → more ≡ graph ++ added ∷ [])
     → added ≡ term_strings (prefixed_triple prefix triple)
     → blank ≡ (old || (is_blank_node triple.s || is_blank_node triple.o))
     → ((triples : List Triple) → TriplesSoFar most s input mid triples → new.ended ≡ false
@@ -83,11 +84,11 @@ pub run_on : (prefix : List ℕ) (s new : LinesState) (input mid after : Option 
     → ((triples : List Triple) → TriplesSoFar most s input mid triples → new.ended ≡ true
     → IsDocumentInput most input (triples ++ triple ∷ []))
     → TakesTriple s new mid after triple
-    → IsReadSoFar prefix new input after before more blank
-run_on prefix s new input mid after before graph more triple added old blank r still grown are has on last taken =
+    → IsReadSoFar known prefix new input after before more blank
+run_on known prefix s new input mid after before graph more triple added old blank r still grown are has on last taken =
     record {
       triples = r.triples ++ triple ∷ [];
-      strings = grown ∙ strings_more prefix before graph r.triples triple added r.strings are;
+      strings = λ k. grown k ∙ strings_more prefix before graph r.triples triple added (r.strings k) are;
       blank_is = blank_more r.triples triple old blank r.blank_is has;
       going = λ e. on r.triples (r.going still) e;
       ended = λ e. last r.triples (r.going still) e;
@@ -146,12 +147,12 @@ triple_size x y old new triple t =
 
 -- ---- the start and the end of reading
 
-pub run_begins : (prefix : List ℕ) (s : LinesState) (input : Option (List ℕ)) (graph : List StringTriple)
+pub run_begins : (known : Type 0) (prefix : List ℕ) (s : LinesState) (input : Option (List ℕ)) (graph : List StringTriple)
     → s ≡ start most → TriplesSoFar most (start most) input (left (start most) input) []
-    → IsReadSoFar prefix s input (left s input) graph graph false
-run_begins prefix s input graph e h = record {
+    → IsReadSoFar known prefix s input (left s input) graph graph false
+run_begins known prefix s input graph e h = record {
   triples = [];
-  strings = sym (append-nil graph);
+  strings = λ _. sym (append-nil graph);
   blank_is = refl;
   going = λ _. subst (λ (t : LinesState). TriplesSoFar most t input (left t input) []) (sym e) h;
   ended = λ end. absurd (let f : s.ended ≡ false = ap (λ (t : LinesState). t.ended) e in cc);

@@ -49,3 +49,21 @@ mod DistinctMembers
 mod SequencePushes
 mod RestOfBytes
 pub mod CanonicalForm
+pub mod CountedChunks
+pub mod Events
+pub mod RecordMerging
+pub mod Groups
+pub mod GroupRoles
+pub mod SectionBuilders
+pub mod TripleTapes
+pub mod RecordIds
+pub mod BatchEncoding
+pub mod RecordBatches
+pub mod Outputs
+pub mod EntryWriting
+pub mod ByteTapes
+pub mod SectionPieces
+pub mod SectionTapes
+pub mod AscendingTriples
+pub mod TripleEntries
+pub mod ScratchSequences

@@ -18,10 +18,10 @@ use Rattle.hdt_build.proofs.PackedTriples.{some_digits, split_back}
 abbrev IsWord : ℕ → Type 0
 IsWord x = x < 2 ^ 64
 
-pub length-unpacked_numbers : (n : ℕ) (bytes : List ℕ) → length (unpacked_numbers n bytes) ≡ n
+pub length_unpacked_numbers : (n : ℕ) (bytes : List ℕ) → length (unpacked_numbers n bytes) ≡ n
 unfolding unpacked_numbers
-length-unpacked_numbers zero bytes = refl
-length-unpacked_numbers (suc n) bytes = ap suc (length-unpacked_numbers n _)
+length_unpacked_numbers zero bytes = refl
+length_unpacked_numbers (suc n) bytes = ap suc (length_unpacked_numbers n _)
 
 unpack_one : (n x : ℕ) (rest : List ℕ) → x < 2 ^ 64
     → unpacked_numbers (suc n) (vbyte x ++ rest) ≡ x ∷ unpacked_numbers n rest
@@ -68,7 +68,7 @@ module _ (bytes : List ℕ) (most count : ℕ) (h : ArePackedNumbers bytes most 
   pub few_numbers : count ≤ length bytes
   few_numbers = omega (
     arith,
-    length-unpacked_numbers count bytes,
+    length_unpacked_numbers count bytes,
     long_enough (unpacked_numbers count bytes) h.fit,
     ap length h.bytes_are,
   )
@@ -86,7 +86,7 @@ module _ (bytes : List ℕ) (most count : ℕ) (h : ArePackedNumbers bytes most 
     pub pushed_number_is : unpacked_numbers (count + 1) new ≡ unpacked_numbers count bytes ++ x ∷ []
     pushed_number_is =
         let len : count + 1 ≡ length (old ++ x ∷ []) =
-        omega (arith, length-append old (x ∷ []), length-unpacked_numbers count bytes) in
+        omega (arith, length-append old (x ∷ []), length_unpacked_numbers count bytes) in
         ap (λ (n : ℕ). unpacked_numbers n new) len
         ∙ ap (λ (l : List ℕ). unpacked_numbers (length (old ++ x ∷ [])) l) packed_is
         ∙ unpack_all (old ++ x ∷ []) fit

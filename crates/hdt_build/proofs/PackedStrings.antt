@@ -29,10 +29,10 @@ lcp_within x y = (common_prefix_len-le nat_eq x y).1
 
 -- ---- strings
 
-pub length-unpacked : (n : ℕ) (x bytes : List ℕ) → length (unpacked_strings n x bytes) ≡ n
+pub length_unpacked_strings : (n : ℕ) (x bytes : List ℕ) → length (unpacked_strings n x bytes) ≡ n
 unfolding unpacked_strings
-length-unpacked zero x bytes = refl
-length-unpacked (suc n) x bytes = ap suc (length-unpacked n _ _)
+length_unpacked_strings zero x bytes = refl
+length_unpacked_strings (suc n) x bytes = ap suc (length_unpacked_strings n _ _)
 
 unpack_one : (n : ℕ) (x y rest : List ℕ) → length y < 2 ^ 64
     → unpacked_strings (suc n) x
@@ -105,7 +105,7 @@ module _ (bytes last : List ℕ) (count : ℕ) (h : ArePackedStrings bytes last 
   old = unpacked_strings count [] bytes
 
   pub few : count ≤ length bytes
-  few = omega (arith, length-unpacked count [] bytes, long_enough [] old h.fit, ap length h.bytes_are)
+  few = omega (arith, length_unpacked_strings count [] bytes, long_enough [] old h.fit, ap length h.bytes_are)
 
   module _ (new y : List ℕ) (fits : length y < 2 ^ 64) (e : new ≡ bytes ++ encoded last y) where
     packed_is : new ≡ packed_strings [] (old ++ y ∷ [])
@@ -118,7 +118,7 @@ module _ (bytes last : List ℕ) (count : ℕ) (h : ArePackedStrings bytes last 
     pub pushed_is : unpacked_strings (count + 1) [] new ≡ old ++ y ∷ []
     pushed_is =
         let len : count + 1 ≡ length (old ++ y ∷ []) =
-        omega (arith, length-append old (y ∷ []), length-unpacked count [] bytes) in
+        omega (arith, length-append old (y ∷ []), length_unpacked_strings count [] bytes) in
         ap (λ (n : ℕ). unpacked_strings n [] new) len
         ∙ ap (λ (l : List ℕ). unpacked_strings (length (old ++ y ∷ [])) [] l) packed_is
         ∙ unpack_all [] (old ++ y ∷ []) all_fit

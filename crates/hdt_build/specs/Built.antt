@@ -57,6 +57,13 @@ pub record WritesBuiltPrefix (options : Options) (input before after : Option (L
   pub part : n < length bytes
   pub written : Appends before after (take n bytes)
 
+-- all bytes of the canonical file of these string triples were written
+pub record WritesTriples (options : Options) (graph : List StringTriple) (before after : Option (List ℕ))
+    (report : Report) : Type 0 where
+  pub bytes : List ℕ
+  pub built : IsBuilt options graph bytes report
+  pub written : Appends before after bytes
+
 -- ---- rewriting
 
 -- the canonical file of the string triples that the graph denotes, with the graph's header body, and its report

@@ -41,6 +41,12 @@ pub record AddsDocument (prefix : List ℕ) (input : Option (List ℕ)) (before 
   pub strings : after ≡ before ++ prefixed_strings prefix triples
   pub blank : has_blank_nodes ≡ triples_have_blank_nodes triples
 
+-- the input is a document; has_blank_nodes says whether it has blank nodes
+pub record IsDocumentWith (input : Option (List ℕ)) (has_blank_nodes : Bool) : Type 0 where
+  pub triples : List Triple
+  pub document : IsDocumentInput most input triples
+  pub blank : has_blank_nodes ≡ triples_have_blank_nodes triples
+
 -- ---- files of documents
 
 -- a document, a prefix for its labels, and the graph of the file that was built from the document without the prefix

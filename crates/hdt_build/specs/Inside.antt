@@ -8,3 +8,17 @@ pub mod Comparing
 pub mod PackedTriples
 pub mod PackedNumbers
 pub mod TripleRuns
+pub mod Chunks
+pub mod Groups
+pub mod GroupedSections
+pub mod Events
+pub mod Records
+pub mod RecordMerging
+pub mod TripleTapes
+pub mod Batches
+pub mod Output
+pub mod EntryWriting
+pub mod ScratchSequences
+pub mod ByteTapes
+pub mod SectionTapes
+pub mod TripleEntries

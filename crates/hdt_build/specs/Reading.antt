@@ -9,6 +9,8 @@ use Rattle.hdt_terms.specs.Documents.{IsDocumentInput, FaultInDocument}
 use Rattle.hdt_terms.specs.Terms.{dictionary_string}
 use Rattle.hdt_build.specs.declared.fault.BuildFault.{BuildFault}
 use Rattle.hdt_build.specs.declared.fault.BuildFault.TheVariants as faults
+use Rattle.hdt_build.specs.declared.fault.ScratchFault.{ScratchFault}
+use Rattle.hdt_build.specs.declared.fault.ScratchFault.TheVariants as scratches
 use Rattle.hdt_file.specs.Denoted.{StringTriple}
 use Rattle.hdt_build.specs.Graph.{subjects_of, predicates_of, objects_of}
 
@@ -52,3 +54,17 @@ ReadFailed faults.NoTriples = ⊥
 ReadFailed faults.BadOptions = ⊥
 ReadFailed faults.OutOfMemory = ⊥
 ReadFailed (faults.Write n) = ⊥
+
+-- ---- errors of building with scratch
+
+-- if this is an error of building, P is true of it
+abbrev pub IfBuild : {E : Type 0} → (BuildFault → Type 0) → ScratchFault E → Type 0
+IfBuild P (scratches.Build e) = P e
+IfBuild P (scratches.Scratch e) = ⊤
+IfBuild P scratches.Damaged = ⊤
+
+-- this is an error of building, and P is true of it
+abbrev pub IsBuild : {E : Type 0} → (BuildFault → Type 0) → ScratchFault E → Type 0
+IsBuild P (scratches.Build e) = P e
+IsBuild P (scratches.Scratch e) = ⊥
+IsBuild P scratches.Damaged = ⊥

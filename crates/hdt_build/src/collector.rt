@@ -84,6 +84,13 @@ impl TripleCollector {
         self.ids.is_empty() && self.queue.ids.is_empty()
     }
 
+    /// An estimate of the memory in bytes, but for that of the queue, also while the strings are sorted.
+    pub(crate) fn memory(&self) -> usize {
+        self.terms
+            .memory()
+            .saturating_add(self.ids.len().saturating_mul(24))
+    }
+
     /// Returns the strings and the triples, and frees the cache of the interner.
     pub(crate) fn into_parts(
         self,

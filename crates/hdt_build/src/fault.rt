@@ -4,10 +4,12 @@ ghost use Rattle.hdt_build.specs.declared.fault.BuildFault.TheVariants as faults
 ghost use Rattle.hdt_build.specs.declared.fault.HeaderFault.TheVariants as headers;
 ghost use Rattle.hdt_build.specs.declared.fault.MergeFault.TheVariants as merges;
 ghost use Rattle.hdt_build.specs.declared.fault.RewriteFault.TheVariants as rewrites;
+ghost use Rattle.hdt_build.specs.declared.fault.ScratchFault.TheVariants as scratches;
 
 use hdt_file::OpenFault;
 use hdt_terms::LineFault;
 use std::alloc::{AllocError, AllocFailed};
+use std::fmt::Display;
 use thiserror::Error;
 
 /// Why no file was built, or why it was not written completely.
@@ -43,6 +45,37 @@ impl<T: Drop> From<AllocFailed<T>> for BuildFault {
 
     fn from(_error: AllocFailed<T>) -> BuildFault {
         BuildFault::OutOfMemory
+    }
+}
+
+/// Why no file was built with scratch.
+#[derive(Debug, Drop, Error)]
+#[error_bound(E: Display)]
+pub enum ScratchFault<E> {
+    /// An error of building.
+    #[error("{0}")]
+    Build(BuildFault),
+    /// An error of the scratch, which may be that memory ran out.
+    #[error("the scratch has a fault: {0}")]
+    Scratch(E),
+    /// The scratch does not have what was written to it.
+    #[error("the scratch is damaged")]
+    Damaged,
+}
+
+impl<E> From<AllocError> for ScratchFault<E> {
+    ghost from_gives = { λ _ e. e ≡ scratches.Build faults.OutOfMemory };
+
+    fn from(_error: AllocError) -> ScratchFault<E> {
+        ScratchFault::Build(BuildFault::OutOfMemory)
+    }
+}
+
+impl<E> From<BuildFault> for ScratchFault<E> {
+    ghost from_gives = { λ fault e. e ≡ scratches.Build fault };
+
+    fn from(fault: BuildFault) -> ScratchFault<E> {
+        ScratchFault::Build(fault)
     }
 }
 

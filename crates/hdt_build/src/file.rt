@@ -1,5 +1,5 @@
 //! The bytes of a file in canonical form.
-ghost use Rattle.std.specs.Prelude.{◌≡◌, ◌<◌, ◌++◌, ◌∷◌, [], List, length, IfOk, OnOk};
+ghost use Rattle.std.specs.Prelude.{◌≡◌, ◌<◌, ◌++◌, ◌∷◌, [], ℕ, List, length, IfOk, OnOk};
 ghost use Rattle.hdt_triples.specs.TripleSequences.{Triple};
 ghost use Rattle.hdt_dict.specs.Dictionary.{SectionLists};
 ghost use Rattle.hdt_dict.specs.Writing.{AreSections, canonical_dictionary};
@@ -55,21 +55,21 @@ pub(crate) fn head_and_dictionary(
     Ok(bytes)
 }
 
-/// The counts of a file, given the number of its triples and those of the strings of its sections.
+/// The counts of a file, given the numbers of its triples, of the strings of its sections, and of its bytes.
 #[tactic(auto, unfolding(crate::specs::Built::report_of))]
-pub(crate) fn counted_report(triples: usize, lens: [u64; 4], bytes: &[u8]) -> Report
-    ensures { (d : SectionLists) (ts : List Triple)
+pub(crate) fn counted_report(triples: u64, lens: [u64; 4], bytes: u64) -> Report
+    ensures { (d : SectionLists) (ts : List Triple) (all : List ℕ)
         → lens ≡ length d.shared ∷ length d.subjects ∷ length d.predicates ∷ length d.objects ∷ []
-        → triples ≡ length ts → result ≡ report_of d ts bytes.now }
+        → triples ≡ length ts → bytes ≡ length all → result ≡ report_of d ts all }
 {
     let [shared, subjects, predicates, objects] = lens;
     Report {
-        triples: triples as u64,
+        triples,
         shared,
         subjects,
         predicates,
         objects,
-        bytes: bytes.len() as u64,
+        bytes,
     }
 }
 
@@ -78,7 +78,7 @@ pub(crate) fn report_of(triples: &[(u64, u64, u64)], lens: [u64; 4], bytes: &[u8
     ensures { (d : SectionLists) → lens ≡ length d.shared ∷ length d.subjects ∷ length d.predicates ∷ length d.objects
         ∷ [] → result ≡ report_of d triples.now bytes.now }
 {
-    counted_report(triples.len(), lens, bytes)
+    counted_report(triples.len() as u64, lens, bytes.len() as u64)
 }
 
 /// The bytes of the canonical file of a header body, four sections and ID triples, and its counts.
@@ -127,6 +127,6 @@ pub(crate) fn encode_merged_file(
     let count = triples.len();
     let mut bytes = head_and_dictionary(alloc, header, sections)?;
     triples.put(&mut bytes)?;
-    let report = counted_report(count, lens, bytes.as_slice());
+    let report = counted_report(count as u64, lens, bytes.len() as u64);
     Ok((bytes, report))
 }

@@ -22,6 +22,8 @@ pub(crate) struct Interner {
     list: Arena,
     /// The upper half of a string's hash, and its index + 1; 0 is a free slot.
     slots: Vec<u64>,
+    /// The total length of the strings in bytes.
+    bytes: usize,
 }
 
 impl Model for Interner {
@@ -201,14 +203,25 @@ impl Interner {
         Ok(Interner {
             list: Arena::new(alloc)?,
             slots: Vec::from_elem(alloc, 0, FIRST)?,
+            bytes: 0,
         })
+    }
+
+    /// An estimate of the memory in bytes, also while the list is sorted: that of the strings, and 50 for each.
+    pub(crate) fn memory(&self) -> usize {
+        self.bytes
+            .saturating_add(self.list.len().saturating_mul(50))
     }
 
     /// Returns the strings, and frees the cache.
     pub(crate) fn into_list(self) -> Arena
         ensures { result ≡ self }
     {
-        let Interner { list, slots: _ } = self;
+        let Interner {
+            list,
+            slots: _,
+            bytes: _,
+        } = self;
         list
     }
 
@@ -269,6 +282,7 @@ impl Interner {
             self.slots = double_slots(alloc, self.slots.as_slice())?;
         }
         self.list.push(text)?;
+        self.bytes = self.bytes.saturating_add(text.len());
         remember(self.slots.as_mut_slice(), hash, at);
         Ok(at)
     }

@@ -32,16 +32,25 @@
 //! `new_header`: replacing a header. `laws`: properties of all this.
 #![tactic(auto)]
 
+mod batch_encoding;
+mod batch_file;
+mod batches;
 mod building;
+mod byte_tape;
 mod canonical;
+mod chunks;
 mod collector;
 mod comparing;
 mod dedup;
+mod distribution;
 mod documents;
 mod encoding;
+mod entry_writer;
 mod fault;
 mod file;
+mod ghost_strings;
 mod graph_strings;
+mod grouped_sections;
 mod header;
 mod id_map;
 mod interner;
@@ -50,32 +59,46 @@ mod laws;
 mod merged_triples;
 mod merging;
 mod new_header;
+mod number_tape;
 mod options;
+mod output;
 mod packed_numbers;
 mod packed_strings;
 mod packed_triples;
 mod prefetch;
 mod queue;
 mod reading;
+mod record_merging;
 mod retained;
 mod rewriting;
 mod role_flags;
 mod run_merging;
+mod scratch;
+mod scratch_building;
+mod scratch_sequences;
 mod section_filter;
 mod section_run;
+mod section_tape;
 mod sections;
 mod sorted_runs;
 mod string_runs;
 mod string_sort;
+mod string_tape;
+mod tape_merging;
 mod tournament;
+mod triple_cursor;
+mod triple_entries;
 mod triple_merging;
+mod triple_runs;
 mod triple_sequences;
+mod triple_tape;
 mod triples;
+mod vectors;
 
 pub use building::{build, build_bytes};
 pub use canonical::{is_canonical, layout_is_canonical};
 pub use documents::DocumentBuilder;
-pub use fault::{BuildFault, HeaderFault, MergeFault, RewriteFault};
+pub use fault::{BuildFault, HeaderFault, MergeFault, RewriteFault, ScratchFault};
 pub use laws::{
     canonical_files_are_layouts, equal_graphs_equal_files, merging_is_a_union, merging_is_building,
     no_triples_is_reported, one_canonical_file, one_document, relabelling_keeps_the_order,
@@ -85,3 +108,5 @@ pub use merging::{Merger, merge, merge_bytes};
 pub use new_header::{new_headers_keep_the_graph, with_header};
 pub use options::{Options, Report, are_valid_options};
 pub use rewriting::{rewrite, rewrite_bytes};
+pub use scratch::{MemoryScratch, Scratch};
+pub use scratch_building::ScratchBuilder;

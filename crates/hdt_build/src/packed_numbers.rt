@@ -54,10 +54,19 @@ impl PackedNumbers {
     }
 
     /// The number of numbers.
+    #[tactic(auto, using(crate::proofs::PackedNumbers::length_unpacked_numbers))]
     pub(crate) fn len(&self) -> usize
         ensures { result ≡ length self.now }
     {
         self.count
+    }
+
+    /// The numbers as bytes.
+    #[tactic(auto, using(crate::proofs::PackedNumbers::length_unpacked_numbers))]
+    pub(crate) fn bytes(&self) -> &[u8]
+        ensures { unpacked_numbers (length self.now) result.now ≡ self.now }
+    {
+        self.bytes.as_slice()
     }
 
     /// Appends a number. If memory runs out, the list is unchanged.

@@ -1,11 +1,11 @@
 //! A list of strings as bytes, written and read from front to back.
 ghost use Rattle.std.specs.Prelude.{◌≡◌, ◌≤◌, ◌+◌, ◌-◌, ◌++◌, ◌∷◌, [], ℕ, List, None, drop, length, IfOk, IfSome};
-ghost use Rattle.std.specs.Prelude.{IsFalse, IsTrue, OnOk};
+ghost use Rattle.std.specs.Prelude.{◌<◌, IsFalse, IsTrue, OnOk};
 ghost use Rattle.hdt_front.specs.Order.{lcp_len};
 ghost use Rattle.hdt_wire.specs.VByte.{vbyte};
 ghost use Rattle.hdt_build.specs.Inside.PackedStrings.{ArePackedStrings, final_string, remaining_strings};
 ghost use Rattle.hdt_build.specs.Inside.PackedStrings.{split_bytes, unpacked_strings};
-ghost use Rattle.hdt_build.specs.Inside.PackedTriples.{split_number};
+ghost use Rattle.hdt_build.specs.Inside.PackedTriples.{IsEndOf, split_number};
 ghost use Rattle.hdt_build.specs.Inside.SortedEntries.{IsLessThanLast, IsPushedOnce};
 
 use crate::packed_triples::read_number;
@@ -78,9 +78,25 @@ fn put_after(
 fn split_at_most(bytes: &[u8], len: u64) -> (&[u8], &[u8])
     ensures front { result.0.now ≡ (split_bytes len bytes.now).0 }
     ensures rest { result.1.now ≡ (split_bytes len bytes.now).1 }
+    ensures end { IsEndOf result.1.now bytes.now }
 {
     let at = (len as usize).min(bytes.len());
     bytes.split_at(at)
+}
+
+/// Reads the string that follows the one in `text` into it; returns the bytes after it.
+#[tactic(auto, using(crate::proofs::CountedChunks::end_of_end), unfolding(crate::specs::Inside::PackedStrings::unpacked_strings))]
+pub(crate) fn read_string<'a>(bytes: &'a [u8], text: &mut Vec<u8>) -> Result<&'a [u8], AllocError>
+    ensures string { IfOk result (λ rest. (n : ℕ) → 0 < n → unpacked_strings n text.old.items bytes.now
+        ≡ text.new.items ∷ unpacked_strings (n - 1) text.new.items rest.now) }
+    ensures end { IfOk result (λ rest. IsEndOf rest.now bytes.now) }
+{
+    let (same, rest) = read_number(bytes);
+    let (len, rest) = read_number(rest);
+    let (front, rest) = split_at_most(rest, len);
+    text.truncate(same as usize);
+    text.extend_from_slice(front)?;
+    Ok(rest)
 }
 
 #[tactic(auto, unfolding(crate::specs::Inside::PackedStrings::unpacked_strings))]
@@ -97,10 +113,19 @@ impl PackedStrings {
     }
 
     /// The number of strings.
+    #[tactic(auto, using(crate::proofs::PackedStrings::length_unpacked_strings))]
     pub(crate) fn len(&self) -> usize
         ensures { result ≡ length self.now }
     {
         self.count
+    }
+
+    /// The strings as bytes.
+    #[tactic(auto, using(crate::proofs::PackedStrings::length_unpacked_strings))]
+    pub(crate) fn bytes(&self) -> &[u8]
+        ensures { unpacked_strings (length self.now) [] result.now ≡ self.now }
+    {
+        self.bytes.as_slice()
     }
 
     /// Appends a string whose longest common prefix with the last one has `same` bytes. If memory runs out, the list is
@@ -181,12 +206,7 @@ impl StringReader<'_> {
         if self.count == 0 {
             return Ok(false);
         }
-        let (same, rest) = read_number(self.rest);
-        let (len, rest) = read_number(rest);
-        let (front, rest) = split_at_most(rest, len);
-        self.text.truncate(same as usize);
-        self.text.extend_from_slice(front)?;
-        self.rest = rest;
+        self.rest = read_string(self.rest, &mut self.text)?;
         self.count -= 1;
         Ok(true)
     }

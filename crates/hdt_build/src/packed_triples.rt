@@ -3,7 +3,7 @@ ghost use Rattle.std.specs.Prelude.{◌≡◌, ◌+◌, ◌++◌, ◌∷◌, [],
 ghost use Rattle.hdt_wire.specs.Control.{IsPrefixOf};
 ghost use Rattle.hdt_wire.specs.VByte.{vbyte};
 ghost use Rattle.hdt_triples.specs.TripleSequences.{Triple};
-ghost use Rattle.hdt_build.specs.Inside.PackedTriples.{IsPacked, split_number, unpacked};
+ghost use Rattle.hdt_build.specs.Inside.PackedTriples.{IsEndOf, IsPacked, split_number, unpacked};
 
 use hdt_wire::{put_vbyte, read_vbyte, truncate_on_error};
 use std::alloc::{AllocError, Global};
@@ -57,6 +57,7 @@ fn put_numbers(a: u64, b: u64, c: u64, out: &mut Vec<u8>) -> Result<(), AllocErr
 pub(crate) fn read_number(bytes: &[u8]) -> (u64, &[u8])
     ensures number { result.0 ≡ (split_number bytes.now).0 }
     ensures rest { result.1.now ≡ (split_number bytes.now).1 }
+    ensures end { IsEndOf result.1.now bytes.now }
 {
     match read_vbyte(bytes, 0) {
         Ok((number, end)) => (number, &bytes[end..]),

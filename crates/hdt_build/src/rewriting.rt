@@ -39,7 +39,7 @@ fn rewritten(
     drop(runs);
     let count = sequences.len();
     sequences.put(&mut bytes)?;
-    let report = counted_report(count, lens, bytes.as_slice());
+    let report = counted_report(count as u64, lens, bytes.len() as u64);
     Ok((bytes, report))
 }
 

@@ -105,9 +105,9 @@ fn are_done(cursors: &[TripleCursor<'_>]) -> bool
 
 /// The sequences of ascending triples.
 #[derive(Drop)]
-struct AscendingSequences {
-    sequences: TripleSequences,
-    last: Option<(u64, u64, u64)>,
+pub(crate) struct AscendingSequences {
+    pub(crate) sequences: TripleSequences,
+    pub(crate) last: Option<(u64, u64, u64)>,
 }
 
 impl AscendingSequences {
@@ -132,7 +132,7 @@ impl AscendingSequences {
     }
 
     /// Appends a triple, unless it is the last one. Returns false, and changes nothing, if it is less than that.
-    fn push_distinct(&mut self, triple: (u64, u64, u64)) -> Result<bool, AllocError>
+    pub(crate) fn push_distinct(&mut self, triple: (u64, u64, u64)) -> Result<bool, AllocError>
         ensures { IfOk result (λ pushed. IsTrue pushed → (ts : List Triple) → HaveMembers ts self.old
             → HaveMembers (ts ++ triple ∷ []) self.new) }
     {

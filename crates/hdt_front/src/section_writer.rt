@@ -6,7 +6,8 @@ ghost use Rattle.hdt_wire.specs.Control.{HasNoZero, IsPrefixOf};
 ghost use Rattle.hdt_front.specs.Section.{AreSectionStrings, IsSectionAt};
 ghost use Rattle.hdt_front.specs.SectionWriting.{section_preamble, section_encoding};
 ghost use Rattle.hdt_front.specs.Order.{lcp_len};
-ghost use Rattle.hdt_front.specs.Canonical.{entry_with_prefix, encode_entry, canonical, canonical_parts};
+ghost use Rattle.hdt_front.specs.Canonical.{block_offsets, entry_with_prefix, encode_entry, canonical, canonical_parts};
+ghost use Rattle.hdt_front.specs.Canonical.{packed_of};
 ghost use Rattle.hdt_front.specs.WriterState.{last_string};
 
 use crate::decode::decode_over;
@@ -255,6 +256,28 @@ impl SectionWriter {
         }
         self.count += 1;
         Ok(())
+    }
+
+    /// Returns the length of the front-coded bytes.
+    pub fn packed_len(&self) -> usize
+        ensures { result ≡ length (packed_of self.now.block_size self.now.strings) }
+    {
+        self.packed.len()
+    }
+
+    /// Returns the offset of each block in the front-coded bytes, and these bytes.
+    pub fn into_parts(self) -> (Vec<u64>, Vec<u8>)
+        ensures starts { result.0.items ++ length result.1.items ∷ [] ≡ block_offsets self.block_size self.strings }
+        ensures packed { result.1.items ≡ packed_of self.block_size self.strings }
+    {
+        let SectionWriter {
+            block_size: _,
+            count: _,
+            last: _,
+            starts,
+            packed,
+        } = self;
+        (starts, packed)
     }
 
     /// Appends the canonical section of the strings, as [`put_section`](crate::put_section) does. The strings must

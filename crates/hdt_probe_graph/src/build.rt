@@ -2,19 +2,26 @@
 
 use crate::faults::{reply_build_fault, reply_rewrite_fault};
 use crate::open::graph_of;
-use hdt_build::{Options, Report, build, build_bytes, is_canonical, rewrite, rewrite_bytes};
+use hdt_build::{
+    BuildFault, MemoryScratch, Options, Report, ScratchBuilder, ScratchFault, build, build_bytes,
+    is_canonical, rewrite, rewrite_bytes,
+};
 use hdt_probe::{Args, Reply};
+use hdt_wire::Counted;
+use std::alloc::{AllocError, Global};
 use std::hash::{FoldHasher, Hasher};
+use std::io::Read;
 
 /// The words of this module, each with its number of arguments.
 pub(crate) const WORDS: &str =
-    "build_bytes 4 build 6 rewrite_bytes 2 rewrite 4 is_canonical 1 fold_hash 0+";
+    "build_bytes 4 build 6 scratch_build 5 rewrite_bytes 2 rewrite 4 is_canonical 1 fold_hash 0+";
 
 /// Answers a request with one of these words. Returns false if the word is not one of them.
 pub(crate) fn answer(word: &str, args: &mut Args<'_>, reply: &mut Reply) -> bool {
     match word {
         "build_bytes" => reply_build_bytes(args, reply),
         "build" => reply_build(args, reply),
+        "scratch_build" => reply_scratch_build(args, reply),
         "rewrite_bytes" => reply_rewrite_bytes(args, reply),
         "rewrite" => reply_rewrite(args, reply),
         "is_canonical" => reply_is_canonical(args, reply),
@@ -64,6 +71,38 @@ fn reply_build(args: &mut Args<'_>, reply: &mut Reply) {
     }
     let _left = reply.finish_reader(input);
     reply.finish_writer(out)
+}
+
+/// Builds with scratch in memory.
+fn scratch_build<R: Read>(
+    alloc: Global,
+    memory: usize,
+    options: &Options,
+    input: &mut Counted<R>,
+) -> Result<(Vec<u8>, Report), ScratchFault<AllocError>> {
+    let builder = ScratchBuilder::new(alloc, memory, MemoryScratch::new(alloc))?;
+    let (builder, _) = builder.with_document(alloc, b"", input)?;
+    if builder.is_empty() {
+        return Err(ScratchFault::Build(BuildFault::NoTriples));
+    }
+    let (out, report) = builder.finish(alloc, options, Counted::new(Vec::new(alloc)))?;
+    Ok((out.into_inner(), report))
+}
+
+fn reply_scratch_build(args: &mut Args<'_>, reply: &mut Reply) {
+    let memory = args.size();
+    let options = options_of(args);
+    let mut input = args.source(args.file);
+    match scratch_build(args.alloc, memory, &options, &mut input) {
+        Ok((bytes, report)) => {
+            reply.bytes(&bytes);
+            reply_report(report, reply)
+        }
+        Err(ScratchFault::Build(fault)) => reply_build_fault(fault, reply),
+        Err(ScratchFault::Scratch(_)) => reply.out_of_memory(),
+        Err(ScratchFault::Damaged) => reply.error("damaged"),
+    }
+    let _left = reply.finish_reader(input);
 }
 
 fn reply_rewrite_bytes(args: &mut Args<'_>, reply: &mut Reply) {

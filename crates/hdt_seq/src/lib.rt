@@ -35,6 +35,6 @@ pub use bits::{Bits, Steps};
 pub use checks::{byte_at, crc8_at, packed_at};
 pub use directory::{Directory, rank_select_inverse};
 pub use numbers::Numbers;
-pub use packing::width_of;
+pub use packing::{put_entries, width_of};
 pub use sequence_writer::SequenceWriter;
 pub use writing::{bits_round_trip, numbers_round_trip, put_bits, put_numbers};

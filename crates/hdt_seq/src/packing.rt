@@ -61,8 +61,9 @@ pub(crate) fn append_entry(
     Ok(())
 }
 
-/// Appends the packed bytes of entries of a width. An error may leave the first of them.
-pub(crate) fn append_entries(xs: &[u64], width: u8, out: &mut Vec<u8>) -> Result<(), AllocError>
+/// Appends the packed entries of a sequence of a width in bits, without what surrounds them. Entries of which each part
+/// but the last one takes whole bytes can be packed part by part. An error may leave the first bytes. Linear time.
+pub fn put_entries(xs: &[u64], width: u8, out: &mut Vec<u8>) -> Result<(), AllocError>
     requires narrow { width ≤ 64 }
     requires fits { (i : ℕ) → slice_index xs.now i < 2 ^ width }
     ensures ok { OnOk result (out.new.items ≡ out.old.items ++ packed width xs.now) }

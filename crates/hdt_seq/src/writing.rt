@@ -7,7 +7,7 @@ ghost use Rattle.hdt_seq.specs.PackedBits.{EachFits};
 ghost use Rattle.hdt_seq.specs.Numbers.{EncodesNumbers, numbers_at, expected_numbers_offsets, numbers_encoding};
 ghost use Rattle.hdt_seq.specs.Bits.{EncodesBits, bits_at, expected_bits_offsets, bits_encoding};
 
-use crate::packing::{append_bits, append_crc8, append_crc32, append_entries, width_of};
+use crate::packing::{append_bits, append_crc8, append_crc32, put_entries, width_of};
 use hdt_wire::{put_vbyte, truncate_on_error};
 use std::alloc::AllocError;
 
@@ -23,7 +23,7 @@ fn append_log_sequence(xs: &[u64], out: &mut Vec<u8>) -> Result<(), AllocError>
     put_vbyte(xs.len() as u64, out)?;
     append_crc8(start, out)?;
     let packed = out.len();
-    append_entries(xs, width, out)?;
+    put_entries(xs, width, out)?;
     append_crc32(packed, out)
 }
 

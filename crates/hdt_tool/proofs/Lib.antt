@@ -1,7 +1,9 @@
+mod Sizes
 mod Refusals
 mod OutPaths
 mod SplitRuns
 mod DocumentRuns
+mod ScratchRuns
 mod ParsedArguments
 mod StringLines
 mod CountLines

@@ -43,7 +43,7 @@ asked name rows request (inr (inr h)) = with _ _ _ request.out h.out (builds row
 
 entered : (command : Option (Text × List Row)) (request : Request) → IsRequestOfCommand command request → HasOut request
 entered None request h = absurd h
-entered (Some command) request h = asked command.0 command.1 request h
+entered (Some command) request h = asked command.0 command.1 request h.0
 
 -- A request of a command line has an output path exactly if its command writes a file.
 pub wanted_out : (words : List Text) (request : Request) → ParsesToRequest words request → HasOut request

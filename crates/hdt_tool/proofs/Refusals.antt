@@ -9,6 +9,8 @@ use Rattle.clap.specs.declared.parser.matches.ArgMatches.{ArgMatches}
 use Rattle.clap.specs.declared.error.Error.{Error}
 use Rattle.clap.specs.declared.error.kind.ErrorKind.{ErrorKind}
 use Rattle.clap.specs.declared.error.kind.ErrorKind.TheVariants as kind
+use Rattle.hdt_terms.specs.declared.fault.TermFault.{TermFault}
+use Rattle.hdt_tool.specs.declared.fault.TermArgument.{TermArgument}
 use Rattle.hdt_tool.specs.declared.fault.UsageFault.{UsageFault}
 use Rattle.hdt_tool.specs.declared.fault.UsageFault.TheVariants.{Usage, Help, InvalidTerm, OutOfMemory}
 use Rattle.hdt_tool.specs.declared.request.Action.{Action}
@@ -17,7 +19,8 @@ use Rattle.hdt_tool.specs.declared.request.Invocation.{Invocation}
 use Rattle.hdt_tool.specs.declared.request.Request.{Request}
 use Rattle.hdt_usage.specs.CommandTable.{Names, AreRoles, table}
 use Rattle.hdt_usage.proofs.Simple.{simple, simple_and_free}
-use Rattle.hdt_tool.specs.CommandLine.{IsRequestOfCommand, IsRequestOf, IsQueryAction, IsOutputAction, HasInvalidTerm}
+use Rattle.hdt_tool.specs.CommandLine.{AsksFor, IsRequestOfCommand, IsRequestOf, IsQueryAction, IsOutputAction}
+use Rattle.hdt_tool.specs.CommandLine.{HasInvalidTerm, ParsesAsMemory}
 use Rattle.hdt_tool.specs.CommandLine.{HasInvalidTermIn, ParsesAsFlag, ParsesAsNumberOrNone, ParsesAsProgress}
 use Rattle.hdt_tool.specs.CommandLine.{ParsesToRequest}
 use Rattle.hdt_tool.specs.CommandLine.{ParsesToInvocation, IsExplainCommand, IsExplanation, IsFaultOfCommand, IsRefused}
@@ -81,19 +84,25 @@ told names roles words e fault h k = with names roles words fault (told_by names
 pub wanted : (names : Names) → AreRoles names
     → (words : List Text) (name : Text) (rows : List Row) (r : Result Invocation UsageFault)
     → clap_errors names words ≡ [] → subcommand_of (table names) words ≡ Some (name, rows)
-    → IfOk r (λ asked. IsRequestOf name rows asked.request) → IfOk r (λ asked. ParsesAsProgress rows asked.progress)
+    → IfOk r (λ asked. IsRequestOf name rows asked.request) → IfOk r (λ asked. ParsesAsMemory rows asked.memory)
+    → IfOk r (λ asked. first_of (codes "scratch") rows ≡ option_map string_bytes asked.scratch)
+    → IfOk r (λ asked. ParsesAsProgress rows asked.progress)
     → IfOk r (λ asked. ParsesAsFlag (one_of (codes "verbose") rows) asked.verbose)
     → IfOk r (λ asked. ParsesAsNumberOrNone (one_of (codes "longest-line") rows) asked.longest_line)
     → IfOk r (λ asked. first_of (codes "header") rows ≡ option_map string_bytes asked.header)
     → IfOk r (ParsesToInvocation words)
-wanted names roles words name rows (Ok asked) none is h progress verbose longest header = record {
+wanted names roles words name rows (Ok asked) none is h memory scratch progress verbose longest header = record {
   names = names;
   roles = roles;
   wanted = record {
     taken = none;
-    asked =
-        subst (λ (o : Option (Text × List Row)). IsRequestOfCommand o asked.request) (sym is) h;
+    asked = subst (λ (o : Option (Text × List Row)). IsRequestOfCommand o asked.request) (sym is)
+        (h, (asked.memory, memory));
   };
+  memory = subst (λ (o : Option (Text × List Row)). IsSomeAnd o
+      (λ command. ParsesAsMemory command.1 asked.memory)) (sym is) memory;
+  scratch = subst (λ (o : Option (Text × List Row)). IsSomeAnd o
+      (λ command. first_of (codes "scratch") command.1 ≡ option_map string_bytes asked.scratch)) (sym is) scratch;
   progress = subst (λ (o : Option (Text × List Row)). IsSomeAnd o
       (λ command. ParsesAsProgress command.1 asked.progress)) (sym is) progress;
   verbose = subst (λ (o : Option (Text × List Row)). IsSomeAnd o
@@ -103,7 +112,7 @@ wanted names roles words name rows (Ok asked) none is h progress verbose longest
   header = subst (λ (o : Option (Text × List Row)). IsSomeAnd o
       (λ command. first_of (codes "header") command.1 ≡ option_map string_bytes asked.header)) (sym is) header;
 }
-wanted names roles words name rows (Err fault) none is h progress verbose longest header = tt
+wanted names roles words name rows (Err fault) none is h memory scratch progress verbose longest header = tt
 
 -- The request of an invocation is the request of the command line.
 pub parses_to_request : (words : List Text) (asked : Invocation) → ParsesToInvocation words asked
@@ -112,12 +121,20 @@ parses_to_request words asked w = record { names = w.names; roles = w.roles; wan
 
 -- An error of a command other than `explain`.
 pub of_request : (name : Text) (rows : List Row) (fault : UsageFault) → name ≢ codes "explain"
-    → RefutesOrInvalidTerm ((request : Request) × IsRequestOf name rows request) (HasInvalidTerm name rows) fault
+    → RefutesOrInvalidTerm ((request : Request) × AsksFor name rows request) (HasInvalidTerm name rows) fault
     → IsFaultOfCommand name rows fault
 of_request name rows (Help text) other h = absurd h
 of_request name rows (Usage text) other h = (λ request w. h (request, w), λ text w. other w.0)
 of_request name rows (InvalidTerm argument fault) other h = h
 of_request name rows OutOfMemory other h = tt
+
+-- What refutes a request refutes all that asks for more.
+pub asks_for_more : (P Q : Type 0) (R : TermArgument → TermFault → Type 0) (fault : UsageFault) → (Q → P)
+    → RefutesOrInvalidTerm P R fault → RefutesOrInvalidTerm Q R fault
+asks_for_more P Q R (Help text) less h = absurd h
+asks_for_more P Q R (Usage text) less h = λ q. h (less q)
+asks_for_more P Q R (InvalidTerm argument fault) less h = h
+asks_for_more P Q R OutOfMemory less h = tt
 
 -- No request is that of `explain`.
 none_on_file : (name : Text) (rows : List Row) → name ≡ codes "explain" → (a : Action) → IsQueryAction name rows a → ⊥
@@ -146,7 +163,7 @@ no_request name rows is request (inr (inr w)) = differ name _ _ is w.named refl
 pub of_explain : (name : Text) (rows : List Row) (fault : UsageFault) → name ≡ codes "explain"
     → IsExplanation rows fault → IsFaultOfCommand name rows fault
 of_explain name rows (Help text) is h = (is, h)
-of_explain name rows (Usage text) is h = (λ request w. no_request name rows is request w, λ text w. h text w.1)
+of_explain name rows (Usage text) is h = (λ request w. no_request name rows is request w.0, λ text w. h text w.1)
 of_explain name rows (InvalidTerm argument fault) is h = absurd h
 of_explain name rows OutOfMemory is h = tt
 

@@ -1,7 +1,8 @@
 -- Which request a command line is, in terms of what `clap` finds in it. An entry is the text that `clap` has for an
 -- argument, if any.
-use Rattle.std.specs.Prelude.{◌≡◌, ◌≢◌, ◌<◌, ◌≤◌, ◌==◌, ◌^◌, ◌⊎◌, List, ℕ, Bool, true, false, [], ◌∷◌, ◌++◌, Option}
-use Rattle.std.specs.Prelude.{Some, None, codes, map, string_bytes, option_map, unwrap_or, IsSomeAnd}
+use Rattle.std.specs.Prelude.{◌≡◌, ◌≢◌, ◌<◌, ◌≤◌, ◌==◌, ◌^◌, ◌*◌, ◌-◌, ◌⊎◌, List, ℕ, Bool, true, false, [], ◌∷◌, ◌++◌, Option}
+use Rattle.std.specs.Prelude.{Some, None, codes, map, string_bytes, option_map, unwrap_or, IsSomeAnd, length, take}
+use Rattle.std.specs.Prelude.{get_or, if◌then◌else◌}
 use Rattle.std.specs.List.{before_first, after_first}
 use Rattle.std.specs.Str.Parse.{IsNumeral, digits_value, without_leading_plus}
 use Rattle.std.specs.declared.alloc.Global.{Global}
@@ -240,6 +241,34 @@ pub record ParsesAsMergeOptions (rows : List Row) (options : MergeOptions) : Typ
   pub paths : further_paths rows ≡ map string_bytes options.others.items ++ string_bytes options.out ∷ []
   pub file : ParsesAsBuildOptions rows options.options
 
+-- ---- `--memory`
+
+-- The number of bytes that a letter behind a number means: K, M or G.
+abbrev pub letter_unit : ℕ → ℕ
+letter_unit b = if b == 75 then 1024 else (if b == 77 then 1048576 else (if b == 71 then 1073741824 else 1))
+
+abbrev pub last_byte : Text → ℕ
+last_byte text = get_or text (length text - 1) 0
+
+abbrev pub size_unit : Text → ℕ
+size_unit text = letter_unit (last_byte text)
+
+-- The digits of a size: the text, without such a letter.
+abbrev pub size_digits : Text → Text
+size_digits text = if size_unit text == 1 then text else take (length text - 1) text
+
+-- The text is a size of n bytes, below 2^64.
+pub record IsSizeOf (text : Text) (n : ℕ) : Type 0 where
+  pub count : ℕ
+  pub digits : IsDecimalOf 64 (size_digits text) count
+  pub bytes : n ≡ count * size_unit text
+  pub fits : n < 2 ^ 64
+
+-- `--memory` has this value, of 4 MiB or more; without it there is no `--scratch`.
+abbrev pub ParsesAsMemory : List Row → Option ℕ → Type 0
+ParsesAsMemory rows None = (first_of (codes "memory") rows ≡ None) × (first_of (codes "scratch") rows ≡ None)
+ParsesAsMemory rows (Some n) = IsSomeAnd (first_of (codes "memory") rows) (λ text. IsSizeOf text n) × (4194304 ≤ n)
+
 -- ---- commands
 
 -- The command's name and arguments give this action, which writes no file.
@@ -315,8 +344,12 @@ abbrev pub IsRequestOf : Text → List Row → Request → Type 0
 IsRequestOf name rows request = IsQueryRequest name rows request
     ⊎ (IsOutputRequest name rows request ⊎ IsBuildRequest name rows request)
 
+-- The same, and `--memory` and `--scratch` are valid.
+abbrev pub AsksFor : Text → List Row → Request → Type 0
+AsksFor name rows request = IsRequestOf name rows request × ((memory : Option ℕ) × ParsesAsMemory rows memory)
+
 abbrev pub IsRequestOfCommand : Option (Text × List Row) → Request → Type 0
-IsRequestOfCommand entered request = IsSomeAnd entered (λ command. IsRequestOf command.0 command.1 request)
+IsRequestOfCommand entered request = IsSomeAnd entered (λ command. AsksFor command.0 command.1 request)
 
 -- The kinds of error that `clap` may return for the command line; if there are none, it accepts it.
 unfoldable pub clap_errors : Names → List Text → Kinds
@@ -334,7 +367,7 @@ pub record ParsesToRequest (words : List Text) (request : Request) : Type 0 wher
   pub wanted : ParsesWithRoles names words request
 
 -- The command line gives this request, this way to report progress, `--verbose` if that is true, this number of
--- `--longest-line`, and this path of `--header`.
+-- `--longest-line`, this memory, and these paths of `--scratch` and `--header`.
 pub record ParsesToInvocation (words : List Text) (asked : Invocation) : Type 0 where
   pub names : Names
   pub roles : AreRoles names
@@ -344,6 +377,9 @@ pub record ParsesToInvocation (words : List Text) (asked : Invocation) : Type 0 
       (λ command. ParsesAsFlag (one_of (codes "verbose") command.1) asked.verbose)
   pub longest_line : IsSomeAnd (subcommand_of (table names) words)
       (λ command. ParsesAsNumberOrNone (one_of (codes "longest-line") command.1) asked.longest_line)
+  pub memory : IsSomeAnd (subcommand_of (table names) words) (λ command. ParsesAsMemory command.1 asked.memory)
+  pub scratch : IsSomeAnd (subcommand_of (table names) words)
+      (λ command. first_of (codes "scratch") command.1 ≡ option_map string_bytes asked.scratch)
   pub header : IsSomeAnd (subcommand_of (table names) words)
       (λ command. first_of (codes "header") command.1 ≡ option_map string_bytes asked.header)
 
@@ -466,7 +502,7 @@ IsExplanation rows OutOfMemory = Unit {0}
 -- give no request and no explanation.
 abbrev pub IsFaultOfCommand : Text → List Row → UsageFault → Type 0
 IsFaultOfCommand name rows (Help text) = IsExplainCommand (Some (name, rows)) (string_bytes text)
-IsFaultOfCommand name rows (Usage text) = ((request : Request) → IsRequestOf name rows request → ⊥)
+IsFaultOfCommand name rows (Usage text) = ((request : Request) → AsksFor name rows request → ⊥)
     × ((explained : Text) → IsExplainCommand (Some (name, rows)) explained → ⊥)
 IsFaultOfCommand name rows (InvalidTerm argument fault) = HasInvalidTerm name rows argument fault
 IsFaultOfCommand name rows OutOfMemory = Unit {0}

@@ -1,5 +1,5 @@
 //! Atomic replacement of a file: a new file in the same folder is written and synced, and then renamed.
-ghost use Rattle.std.specs.Prelude.{◌≡◌, ◌≤◌, ℕ, length, IfOk, IfErr};
+ghost use Rattle.std.specs.Prelude.{◌≡◌, ◌≤◌, ◌⊎◌, [], ℕ, length, IfOk, IfErr};
 ghost use Rattle.std.specs.Io.KnownBytes.{Appends};
 ghost use Rattle.hdt_tool.specs.Outcomes.{IsReplaceFault};
 
@@ -9,7 +9,7 @@ use crate::session::Session;
 use hdt_wire::Counted;
 use std::alloc::Global;
 use std::env;
-use std::fs::{self, File, Files, Metadata, OpenFile, OpenOptions, Permissions};
+use std::fs::{self, File, Files, Metadata, OpenOptions, Permissions};
 use std::io::{self, ErrorKind, Write};
 use std::os::unix::fs::{MetadataExt, OpenOptionsExt, PermissionsExt, fchown};
 use std::path::PathBuf;
@@ -161,8 +161,8 @@ fn apply_access(rt: &HostRuntime, file: &File, name: &str, fallback: Access) -> 
     file.set_permissions(Permissions::from_mode(mode))
 }
 
-/// Writes and syncs a new file.
-fn write_and_sync<F: Write + OpenFile + Drop>(
+/// Writes a new file.
+fn write_whole<F: Write + Drop>(
     session: &Session<'_>,
     file: F,
     built: &[u8],
@@ -173,37 +173,11 @@ fn write_and_sync<F: Write + OpenFile + Drop>(
 {
     let mut file = Counted::new(session.watch_file(file));
     file.write_all(built).map_err(ToolFault::Write)?;
-    let whole = file.into_inner().into_inner();
-    match session.note_error(whole.sync_all()) {
-        Ok(()) => Ok(whole),
-        Err(_) => Err(ToolFault::Write(built.len() as u64)),
-    }
-}
-
-/// Writes the new file, and gives it the permissions, the group and the name of the old one. Other users cannot open it
-/// until it is complete and synced. A crash between the last two steps leaves its permissions too strict, not too wide.
-fn write_and_rename(
-    rt: &HostRuntime,
-    session: &Session<'_>,
-    file: File,
-    new: &str,
-    name: &str,
-    fallback: Access,
-    built: &[u8],
-) -> Result<(), ToolFault>
-    ensures fault { IfErr result (IsReplaceFault built.now) }
-{
-    let moved = session.note_error(move_off_std_streams(file));
-    let file = moved.map_err(|error| file_fault(&error, ToolFault::Write(0)))?;
-    let whole = write_and_sync(session, file, built)?;
-    let permitted = session.note_error(apply_access(rt, &whole, name, fallback));
-    permitted.map_err(|error| file_fault(&error, ToolFault::Write(built.len() as u64)))?;
-    let renamed = session.note_error(fs::rename(rt, new, name));
-    renamed.map_err(|_| ToolFault::Write(built.len() as u64))
+    Ok(file.into_inner().into_inner())
 }
 
 /// The folder of a path, and the file name.
-fn split_path(path: &str) -> (&str, &str) {
+pub(crate) fn split_path(path: &str) -> (&str, &str) {
     match path.rsplit_once('/') {
         Some(("", name)) => ("/", name),
         Some(parts) => parts,
@@ -224,11 +198,83 @@ fn begin_replacement(
     Ok((fallback, file, new))
 }
 
+/// A new file beside the regular file that it replaces, or where none is. If it is dropped before it is complete, it is
+/// removed, and the old file is unchanged. (Contracts cannot describe the file system; tests/test_filesystem.py checks
+/// this.)
+pub(crate) struct Replacement<'a> {
+    rt: &'a HostRuntime,
+    session: &'a Session<'a>,
+    /// The name of the old file in the current folder.
+    name: &'a str,
+    /// The name of the new file.
+    new: String,
+    /// What it gets if the old file is gone by then.
+    fallback: Access,
+}
+
+impl Drop for Replacement<'_> {
+    fn drop(self) {
+        let _ = fs::remove_file(self.rt, self.new.as_str());
+        let Replacement {
+            rt: _,
+            session: _,
+            name: _,
+            new: _,
+            fallback: _,
+        } = self;
+    }
+}
+
+impl<'a> Replacement<'a> {
+    /// Creates a new file, which other users cannot open. The process changes into its folder, so that the temporary
+    /// name fits for the longest paths.
+    pub(crate) fn begin(
+        rt: &'a HostRuntime,
+        session: &'a Session<'a>,
+        path: &'a PathBuf,
+    ) -> Result<(Replacement<'a>, File), ToolFault>
+        ensures { IfErr result (IsReplaceFault []) }
+    {
+        let (folder, name) = split_path(path.as_str());
+        let begun = session.note_error(begin_replacement(rt, folder, name));
+        let (fallback, file, new) = begun.map_err(|error| file_fault(&error, ToolFault::Write(0)))?;
+        let replacement = Replacement {
+            rt,
+            session,
+            name,
+            new,
+            fallback,
+        };
+        let moved = session.note_error(move_off_std_streams(file));
+        let file = moved.map_err(|error| file_fault(&error, ToolFault::Write(0)))?;
+        Ok((replacement, file))
+    }
+
+    /// Syncs the new file, which has this number of bytes, and gives it the permissions, the group and the name of the
+    /// old one. A crash between the last two steps leaves its permissions too strict, not too wide.
+    pub(crate) fn complete(self, file: File, len: u64) -> Result<(), ToolFault>
+        ensures { IfErr result (λ e. (e ≡ ToolFault.OutOfMemory) ⊎ (e ≡ ToolFault.Write len)) }
+    {
+        let (rt, session) = (self.rt, self.session);
+        let synced = session.note_error(file.sync_all());
+        synced.map_err(|_| ToolFault::Write(len))?;
+        let permitted = session.note_error(apply_access(rt, &file, self.name, self.fallback));
+        permitted.map_err(|error| file_fault(&error, ToolFault::Write(len)))?;
+        let renamed = session.note_error(fs::rename(rt, self.new.as_str(), self.name));
+        renamed.map_err(|_| ToolFault::Write(len))?;
+        let Replacement {
+            rt: _,
+            session: _,
+            name: _,
+            new: _,
+            fallback: _,
+        } = self;
+        Ok(())
+    }
+}
+
 /// Atomically replaces the regular file at a path, or creates it. The new file has the permissions of the old one, but
-/// for setuid, setgid and sticky bits, and its group if the user may give it. On
-/// error the old file is unchanged, and the new one is removed. The process changes into the folder, so that the
-/// temporary name fits for the longest paths. (Contracts cannot describe the file system; tests/test_filesystem.py
-/// checks this.)
+/// for setuid, setgid and sticky bits, and its group if the user may give it. On error the old file is unchanged.
 pub(crate) fn replace_file(
     rt: &HostRuntime,
     session: &Session<'_>,
@@ -238,12 +284,7 @@ pub(crate) fn replace_file(
     // Out of memory, or a write error after at most all of the bytes.
     ensures fault { IfErr result (IsReplaceFault built.now) }
 {
-    let (folder, name) = split_path(path.as_str());
-    let begun = session.note_error(begin_replacement(rt, folder, name));
-    let (fallback, file, new) = begun.map_err(|error| file_fault(&error, ToolFault::Write(0)))?;
-    let outcome = write_and_rename(rt, session, file, new.as_str(), name, fallback, built);
-    if outcome.is_err() {
-        let _ = fs::remove_file(rt, new.as_str());
-    }
-    outcome
+    let (replacement, file) = Replacement::begin(rt, session, path)?;
+    let file = write_whole(session, file, built)?;
+    replacement.complete(file, built.len() as u64)
 }

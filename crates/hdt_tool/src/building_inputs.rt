@@ -1,5 +1,5 @@
 //! `build` of several documents.
-ghost use Rattle.std.specs.Prelude.{◌≡◌, ◌<◌, ◌≤◌, ◌↔◌, IfOk, IfErr, IsErrOf, [], codes, length, map};
+ghost use Rattle.std.specs.Prelude.{◌≡◌, ◌<◌, ◌≤◌, ◌↔◌, ◌⊎◌, IfOk, IfErr, IfSome, IsErrOf, [], codes, length, map};
 ghost use Rattle.hdt_build.specs.Built.{IsBuilt};
 ghost use Rattle.hdt_build.specs.Options.{AreValidOptions};
 ghost use Rattle.hdt_build.specs.declared.options.Report.{Report};
@@ -7,6 +7,7 @@ ghost use Rattle.hdt_tool.specs.BuildInputs.{AddsInTurn, StopsAdding, document_f
 ghost use Rattle.hdt_tool.specs.Changes.{update};
 ghost use Rattle.hdt_tool.specs.SplitInputs.{first_turn};
 ghost use Rattle.hdt_tool.specs.PrintedReports.{counts_line};
+ghost use Rattle.hdt_tool.specs.declared.outcome.Outcome.TheVariants as Outcome;
 
 use crate::error_context::ErrorSource;
 use crate::fault::ToolFault;
@@ -29,7 +30,7 @@ const STDIN_MESSAGE: &str = "error: only one IN can be standard input
 For more information, try '--help'.";
 
 /// The error of the document with this number, from 0.
-fn document_fault(number: u64, fault: BuildFault) -> SplitInputsFault
+pub(crate) fn document_fault(number: u64, fault: BuildFault) -> SplitInputsFault
     ensures { result ≡ document_fault number fault }
 {
     match fault {
@@ -92,6 +93,26 @@ fn repeats_stdin(request: &Request, others: &[String]) -> bool {
     false
 }
 
+/// The outcome if two inputs are standard input, or the options are not valid. Prints the message of the former.
+pub(crate) fn refuse_inputs(
+    rt: &HostRuntime,
+    request: &Request,
+    others: &[String],
+    options: &Options,
+) -> Option<Outcome>
+    ensures { IfSome result
+        (λ outcome. (outcome ≡ Outcome.Refused) ⊎ (outcome ≡ Outcome.Failed ToolFault.BadOptions)) }
+{
+    if repeats_stdin(request, others) {
+        let _ = rt.eprintln(STDIN_MESSAGE);
+        return Some(Outcome::Refused);
+    }
+    if !are_valid_options(options) {
+        return Some(Outcome::Failed(ToolFault::BadOptions));
+    }
+    None
+}
+
 /// The canonical file of all triples, and the line with its counts.
 fn built(
     alloc: Global,
@@ -141,12 +162,8 @@ pub(crate) fn build_inputs(
     ensures { result ≤ 4 }
 {
     let others = options.others.as_slice();
-    if repeats_stdin(request, others) {
-        let _ = rt.eprintln(STDIN_MESSAGE);
-        return exit_status(rt, source, Outcome::Refused);
-    }
-    if !are_valid_options(&options.options) {
-        return exit_status(rt, source, Outcome::Failed(ToolFault::BadOptions));
+    if let Some(outcome) = refuse_inputs(rt, request, others, &options.options) {
+        return exit_status(rt, source, outcome);
     }
     let Ok(inputs) = late_inputs(rt, source.session, request, others) else {
         return exit_status(rt, source, Outcome::Failed(ToolFault::OutOfMemory));

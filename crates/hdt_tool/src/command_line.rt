@@ -2,6 +2,7 @@
 ghost use Rattle.std.specs.Prelude.{◌≡◌, ◌≢◌, IfOk, IfErr, codes, map, option_map, string_bytes};
 ghost use Rattle.clap.specs.Words.{found_of, first_of, one_of, rows_of, kind_of};
 ghost use Rattle.hdt_tool.specs.Outcomes.{HasOut};
+ghost use Rattle.hdt_tool.specs.CommandLine.{AsksFor, ParsesAsMemory};
 ghost use Rattle.hdt_tool.specs.CommandLine.{IsQueryAction, IsRequestOf, IsQueryRequest, IsOutputRequest};
 ghost use Rattle.hdt_tool.specs.CommandLine.{IsOutputAction, Refutes, RefutesOrInvalidTerm, IsRefused, HasInvalidTerm};
 ghost use Rattle.hdt_tool.specs.CommandLine.{IsExplanation, IsFaultOfCommand, ParsesAsFlag, ParsesAsProgress};
@@ -17,6 +18,7 @@ use crate::arguments::{
 };
 use crate::build_arguments::build_request;
 use crate::fault::{TermArgument, UsageFault, missing};
+use crate::memory_arguments::memory_option;
 use crate::merge_arguments::merge_action;
 use crate::request::{Action, Invocation, Progress, Request};
 use crate::split_arguments::split_action;
@@ -213,18 +215,22 @@ fn progress_option<'m>(matches: &ArgMatches<'m>) -> Progress
     }
 }
 
-/// The path of a new header, if it is given.
-fn header_path<'m>(alloc: Global, matches: &ArgMatches<'m>) -> Result<Option<String>, AllocError>
-    ensures { IfOk result
-        (λ path. first_of (codes "header") (rows_of (found_of matches.now)) ≡ option_map string_bytes path) }
+/// The text of an option, if it is given.
+fn optional_text<'m>(
+    alloc: Global,
+    matches: &ArgMatches<'m>,
+    id: &str,
+) -> Result<Option<String>, AllocError>
+    ensures { IfOk result (λ text. first_of id.now (rows_of (found_of matches.now)) ≡ option_map string_bytes text) }
 {
-    match argument_text(matches, "header") {
+    match argument_text(matches, id) {
         Some(text) => Ok(Some(String::from_str(alloc, text)?)),
         None => Ok(None),
     }
 }
 
-/// The request of a command, how to report progress and errors, the limit on lines, and the path of a new header.
+/// The request of a command, how to report progress and errors, the limits on lines and memory, and the paths of
+/// options.
 fn invocation_of<'m>(
     alloc: Global,
     name: &str,
@@ -238,17 +244,22 @@ fn invocation_of<'m>(
     ensures longest_line { IfOk result
         (λ invocation. ParsesAsNumberOrNone (one_of (codes "longest-line") (rows_of (found_of matches.now)))
         invocation.longest_line) }
+    ensures memory { IfOk result (λ invocation. ParsesAsMemory (rows_of (found_of matches.now)) invocation.memory) }
+    ensures scratch { IfOk result (λ invocation. first_of (codes "scratch") (rows_of (found_of matches.now))
+        ≡ option_map string_bytes invocation.scratch) }
     ensures header { IfOk result (λ invocation. first_of (codes "header") (rows_of (found_of matches.now))
         ≡ option_map string_bytes invocation.header) }
     ensures refused { IfErr result
-        (RefutesOrInvalidTerm ((request : Request) × IsRequestOf name.now (rows_of (found_of matches.now)) request)
+        (RefutesOrInvalidTerm ((request : Request) × AsksFor name.now (rows_of (found_of matches.now)) request)
         (HasInvalidTerm name.now (rows_of (found_of matches.now)))) }
 {
     Ok(Invocation {
         request: request_of(alloc, name, matches)?,
         progress: progress_option(matches),
         longest_line: optional_number(matches, "longest-line"),
-        header: header_path(alloc, matches)?,
+        memory: memory_option(alloc, matches)?,
+        scratch: optional_text(alloc, matches, "scratch")?,
+        header: optional_text(alloc, matches, "header")?,
         verbose: has_flag(matches, "verbose"),
     })
 }
@@ -284,6 +295,9 @@ fn invocation_or_explanation<'m>(
     ensures longest_line { IfOk result
         (λ invocation. ParsesAsNumberOrNone (one_of (codes "longest-line") (rows_of (found_of matches.now)))
         invocation.longest_line) }
+    ensures memory { IfOk result (λ invocation. ParsesAsMemory (rows_of (found_of matches.now)) invocation.memory) }
+    ensures scratch { IfOk result (λ invocation. first_of (codes "scratch") (rows_of (found_of matches.now))
+        ≡ option_map string_bytes invocation.scratch) }
     ensures header { IfOk result (λ invocation. first_of (codes "header") (rows_of (found_of matches.now))
         ≡ option_map string_bytes invocation.header) }
     ensures refused { IfErr result (IsFaultOfCommand name.now (rows_of (found_of matches.now))) }
@@ -335,10 +349,10 @@ pub fn parse_words<'a>(alloc: Global, words: &'a [&'a str]) -> Result<Request, U
 }
 
 /// Parses a command line as [`parse_words`] does, and also `--progress`, `--no-progress`, `--verbose`,
-/// `--longest-line` and `--header`.
+/// `--longest-line`, `--memory`, `--scratch` and `--header`.
 pub fn parse_invocation<'a>(alloc: Global, words: &'a [&'a str]) -> Result<Invocation, UsageFault>
     // The request is that of `parse_words`; `progress` is what these options say, `verbose` is true exactly if it is
-    // given, `longest_line` is the number that is given, and `header` the path.
+    // given, `longest_line` is the number that is given, `memory` that of bytes, and `scratch` and `header` are paths.
     ensures ok { IfOk result (ParsesToInvocation (map (λ word. word.now) words.now)) }
     ensures out { IfOk result (λ invocation. HasOut invocation.request) }
     ensures refused { IfErr result (IsRefused (map (λ word. word.now) words.now)) }

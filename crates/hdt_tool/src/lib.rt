@@ -17,14 +17,16 @@
 //! - `pending_output`: output that is collected before it is written;
 //! - `commands`: all commands, from a reader to a writer; `lint`: the one with two writers;
 //! - `split_arguments`, `splitting`: the command `split`;
-//! - `merge_arguments` and `build_arguments`: reading the arguments of the commands `merge` and `build`;
+//! - `merge_arguments`, `build_arguments` and `memory_arguments`: reading the arguments of the commands `merge` and
+//!   `build`;
 //! - `error_lines` and `outcome`: exit statuses and messages; `error_context`, `error_hints` and `error_strings`: the
 //!   lines that follow a message;
 //! - `line_limit`: documents whose lines may not be longer than a limit;
 //! - `session`: what a command shows on standard error beside its message; `progress`, `progress_text`,
 //!   `session_stream` and `recent_lines`: its parts;
 //! - `files`, `overwriting`, `atomic_replace`, `output_file`, `split_parts`, `split_files`, `merging`,
-//!   `building_inputs`, `new_header` and `status`: the same over files and streams.
+//!   `building_inputs`, `new_header` and `status`: the same over files and streams; `scratch_files` and
+//!   `scratch_build`: `build --memory`.
 #![tactic(auto)]
 
 mod answerer;
@@ -46,6 +48,7 @@ mod info;
 mod line_limit;
 mod lint;
 mod listed_strings;
+mod memory_arguments;
 mod merge_arguments;
 mod merging;
 mod new_header;
@@ -63,6 +66,8 @@ mod progress_text;
 mod queries;
 mod recent_lines;
 mod request;
+mod scratch_build;
+mod scratch_files;
 mod session;
 mod session_stream;
 mod split_arguments;

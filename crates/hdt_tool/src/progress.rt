@@ -1,8 +1,8 @@
-//! Reporting the progress of reading.
+//! Reporting the progress of reading and writing.
 ghost use Rattle.std.specs.Prelude.{◌≡◌};
 
-use crate::session::{REPORT_INTERVAL, Session};
-use std::io::{self, Read};
+use crate::session::{Phase, REPORT_INTERVAL, Session};
+use std::io::{self, Read, Write};
 
 /// The maximum number of reports if the size is known, not counting the last one.
 const MAX_REPORTS: u64 = 100;
@@ -90,5 +90,73 @@ impl<R: Read> Read for ProgressReader<'_, R> {
             self.count(count, buf.len());
         }
         outcome
+    }
+}
+
+/// A writer of OUT that reports how many bytes it has written, at intervals.
+#[derive(Drop)]
+pub(crate) struct ProgressWriter<'a, W: Write> {
+    out: W,
+    session: &'a Session<'a>,
+    written: u64,
+    /// The number of bytes at which the next report is due.
+    next: u64,
+}
+
+impl<'a, W: Write> ProgressWriter<'a, W> {
+    /// A writer to `out`.
+    pub(crate) fn new(out: W, session: &'a Session<'a>) -> ProgressWriter<'a, W>
+        ensures { result.out ≡ out }
+    {
+        ProgressWriter {
+            out,
+            session,
+            written: 0,
+            next: REPORT_INTERVAL,
+        }
+    }
+
+    /// Returns the writer.
+    pub(crate) fn into_inner(self) -> W
+        ensures { result ≡ self.entry.out }
+    {
+        let ProgressWriter { out, .. } = self;
+        out
+    }
+
+    /// Counts bytes that were written, and reports them if that is due.
+    fn count(&mut self, bytes: usize)
+        ensures { self.new.out ≡ self.old.out }
+    {
+        self.written = self.written.saturating_add(bytes as u64);
+        if self.written >= self.next {
+            self.next = self.written.saturating_add(REPORT_INTERVAL);
+            self.session.show_phase(Phase::Writing, self.written);
+        }
+    }
+}
+
+impl<W: Write> Write for ProgressWriter<'_, W> {
+    ghost use Rattle.std.specs.Io.{WritesAtMost};
+    ghost use Rattle.std.specs.Io.KnownBytes.{WriteAppends, Keeps};
+
+    // It passes all bytes on to the writer.
+    ghost contents = { λ s. W.contents s.out };
+
+    fn write(&mut self, buf: &[u8]) -> io::Result<usize>
+        ensures bound { WritesAtMost result buf.now }
+        ensures bytes { WriteAppends (W.contents self.old.out) (W.contents self.new.out) result buf.now }
+    {
+        let outcome = self.out.write(buf);
+        if let Ok(count) = outcome {
+            self.count(count);
+        }
+        outcome
+    }
+
+    fn flush(&mut self) -> io::Result<()>
+        ensures bytes { Keeps (W.contents self.old.out) (W.contents self.new.out) }
+    {
+        self.out.flush()
     }
 }

@@ -200,7 +200,7 @@ pub enum Progress {
     Off,
 }
 
-/// A request, how to report progress and errors, a limit for documents, and a new header.
+/// A request, how to report progress and errors, limits for documents and for memory, and a new header.
 #[derive(Debug, Drop)]
 pub struct Invocation {
     /// The request.
@@ -209,6 +209,10 @@ pub struct Invocation {
     pub progress: Progress,
     /// The maximum number of bytes of a line of an N-Triples document, without its end; `None` for no limit.
     pub longest_line: Option<u64>,
+    /// The bytes of memory that `build` is to use about, and scratch files for the rest; `None` for no limit.
+    pub memory: Option<u64>,
+    /// The path of the folder in which scratch files are made; `None` for that of OUT.
+    pub scratch: Option<String>,
     /// The path of the N-Triples by which `rewrite` replaces the header, and nothing else; `None` if it rewrites.
     pub header: Option<String>,
     /// Whether more lines follow an error message.

@@ -97,7 +97,7 @@ split_rows = limit_row (codes "parts") ∷ text_row (codes "of") ∷ text_row (c
 
 abbrev pub build_rows : List Argument
 build_rows = verbose_row ∷ flag_row (codes "no-progress") ∷ base_row ∷ block_size_row ∷ text_row (codes "blank-nodes")
-    ∷ longest_line_row ∷ progress_row ∷ []
+    ∷ longest_line_row ∷ text_row (codes "memory") ∷ text_row (codes "scratch") ∷ progress_row ∷ []
 
 abbrev pub merge_rows : List Argument
 merge_rows = verbose_row ∷ flag_row (codes "no-progress") ∷ base_row ∷ block_size_row ∷ text_row (codes "blank-nodes")

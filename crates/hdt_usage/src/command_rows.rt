@@ -236,6 +236,8 @@ pub(crate) const COMMANDS: &[CommandRow] = &[
             BLOCK_SIZE,
             BLANK_NODES,
             LONGEST_LINE,
+            ("memory", Kind::Text, "SIZE", "", Help::Memory),
+            ("scratch", Kind::Text, "FOLDER", "", Help::Scratch),
             PROGRESS,
         ],
     ),

@@ -67,6 +67,8 @@ pub(crate) enum Help {
     BuildUsage,
     BuildLongAbout,
     BuildPaths,
+    Memory,
+    Scratch,
     RewriteAbout,
     RewriteLongAbout,
     NewHeader,
@@ -255,6 +257,14 @@ of the line in it.
 With --longest-line N a line of more than N bytes, without its end, is an error, TooLong. It is
 found in the memory of a line of N bytes, however long it is.
 
+With --memory SIZE the build takes about SIZE of memory, whatever the size of the documents, and
+writes the same file, more slowly. What does not fit goes to scratch files, which take 2 to 3
+times the size of OUT. SIZE is a number of bytes, or of KiB, MiB or GiB if K, M or G follows it:
+4M or more. On top of SIZE come some 8 MB for the program, and several times the longest line.
+The scratch files are in a new folder, hdt-unfinished- and 16 digits, which only its owner can
+open. It is made beside OUT, or in FOLDER with --scratch FOLDER, and removed at the end, also
+after an error. If OUT is not a regular file, --scratch is needed.
+
 OUT must not be an IN. OUT is replaced atomically: a temporary file in the same directory, which
 only its owner can open, is written and synced, gets OUT's permissions and group, and is renamed.
 If you may not give it the group, group and others get the permissions that both had. On failure
@@ -264,6 +274,8 @@ not a regular file, it is opened and written.
 If OUT is - or the file or pipe of standard output, the file goes there, after what is already
 written there, and the line of counts to standard error. If that goes there too, the line is not
 printed.",
+            Help::Memory => "Use about SIZE of memory, as 512M or 4G, and scratch files",
+            Help::Scratch => "Make the scratch files of --memory in FOLDER",
             Help::RewriteAbout => "Write a file again in canonical form",
             Help::RewriteLongAbout =>
                 "Write an HDT file again, as the canonical file of its triples.

@@ -30,5 +30,8 @@ abbrev pub crc16 : List ℕ → ℕ
 crc16 bytes = fold crc16_step 0 bytes
 
 -- CRC-32C: the initial value is all ones, and all bits are inverted at the end
+abbrev pub crc32_register : List ℕ → ℕ
+crc32_register bytes = fold crc32_step 0xFFFF_FFFF bytes
+
 abbrev pub crc32 : List ℕ → ℕ
-crc32 bytes = bit_xor (fold crc32_step 0xFFFF_FFFF bytes) 0xFFFF_FFFF
+crc32 bytes = bit_xor (crc32_register bytes) 0xFFFF_FFFF

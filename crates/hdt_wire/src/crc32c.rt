@@ -1,6 +1,8 @@
 //! CRC-32C, eight bytes at a time, by eight tables of 256 entries.
-ghost use Rattle.std.specs.Prelude.{◌≡◌, fold, length, slice_index};
-ghost use Rattle.hdt_wire.specs.Crc.{crc32_step, crc32};
+ghost use Rattle.std.specs.Prelude.{◌≡◌, ◌++◌, [], ℕ, List, fold, length, slice_index};
+ghost use Rattle.hdt_wire.specs.Crc.{crc32_register, crc32_step, crc32};
+
+use std::marker::Model;
 
 /// The register of the CRC after one more byte.
 #[tactic(auto, using(crate::proofs::CrcTables::entry32))]
@@ -38,13 +40,56 @@ fn entry(table: &[u32; 256], byte: u8) -> u32
     table[byte as usize]
 }
 
-/// Returns the CRC-32C of the bytes: polynomial 1EDC6F41, initial value all ones, reflected, inverted at the end. HDT
-/// has it after the data of a sequence and after the front-coded strings of a section. Linear time, eight bytes at a
-/// time.
-pub fn check32(bytes: &[u8]) -> u32
-    ensures { result ≡ crc32 bytes.now }
+/// The CRC-32C of bytes that come in pieces. In contracts it is the register.
+///
+/// ```rust
+/// let mut crc = Crc32c::new();
+/// crc.update(b"12345");
+/// crc.update(b"6789");
+/// let code = crc.value(); // check32(b"123456789")
+/// ```
+#[derive(Drop)]
+pub struct Crc32c {
+    register: u32,
+}
+
+impl Model for Crc32c {
+    ghost use Rattle.std.specs.Prelude.{ℕ};
+
+    ghost Value = { ℕ };
+
+    ghost view = { λ c. c.register };
+}
+
+impl Crc32c {
+    /// The CRC of no bytes.
+    pub fn new() -> Crc32c
+        ensures { result ≡ crc32_register [] }
+    {
+        Crc32c { register: u32::MAX }
+    }
+
+    /// Adds bytes after those so far. Linear time, eight bytes at a time.
+    pub fn update(&mut self, bytes: &[u8])
+        ensures { (before : List ℕ) → self.old ≡ crc32_register before
+            → self.new ≡ crc32_register (before ++ bytes.now) }
+    {
+        self.register = register_after(self.register, bytes);
+    }
+
+    /// Returns the CRC of all bytes so far, as [`check32`] does.
+    pub fn value(&self) -> u32
+        ensures { (bytes : List ℕ) → self.now ≡ crc32_register bytes → result ≡ crc32 bytes }
+    {
+        self.register ^ u32::MAX
+    }
+}
+
+/// The register after more bytes.
+fn register_after(before: u32, bytes: &[u8]) -> u32
+    ensures { result ≡ fold crc32_step before bytes.now }
 {
-    let mut register = u32::MAX;
+    let mut register = before;
     let mut rest = bytes;
     'eights: while rest.len() >= 8 {
         let (eight, after) = rest.split_at(8);
@@ -54,7 +99,16 @@ pub fn check32(bytes: &[u8]) -> u32
     for byte in rest {
         register = next_one(register, *byte);
     }
-    register ^ u32::MAX
+    register
+}
+
+/// Returns the CRC-32C of the bytes: polynomial 1EDC6F41, initial value all ones, reflected, inverted at the end. HDT
+/// has it after the data of a sequence and after the front-coded strings of a section. Linear time, eight bytes at a
+/// time.
+pub fn check32(bytes: &[u8]) -> u32
+    ensures { result ≡ crc32 bytes.now }
+{
+    register_after(u32::MAX, bytes) ^ u32::MAX
 }
 
 // Entry b of `AFTER_n` is byte b after n shifts by the reflected Castagnoli polynomial.

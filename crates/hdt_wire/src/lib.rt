@@ -26,7 +26,7 @@ pub use checks::{bytes_at, demand, len_before_zero, text_at, truncate_on_error};
 pub use control::{Control, Kind, control_round_trip, put_control, read_control};
 pub use counted::{Counted, Failed};
 pub use crc::{check8, check16};
-pub use crc32c::check32;
+pub use crc32c::{Crc32c, check32};
 pub use fault::{Fault, Reason};
 pub use ghost_counter::GhostCounter;
 pub use properties::property;

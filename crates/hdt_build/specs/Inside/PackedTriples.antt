@@ -1,5 +1,6 @@
 -- Triples as bytes: of each, the step from the subject of the previous one, the predicate and the object as VBytes.
-use Rattle.std.specs.Prelude.{◌≡◌, ℕ, zero, suc, ◌+◌, ◌-◌, ◌%◌, ◌^◌, ◌<◌, List, [], ◌∷◌, ◌++◌, drop, Result, Ok, Err}
+use Rattle.std.specs.Prelude.{◌≡◌, ℕ, zero, suc, ◌+◌, ◌-◌, ◌%◌, ◌^◌, ◌<◌, List, [], ◌∷◌, ◌++◌, drop, length}
+use Rattle.std.specs.Prelude.{Result, Ok, Err}
 use Rattle.std.specs.List.{All}
 use Rattle.hdt_wire.specs.declared.fault.Fault.{Fault}
 use Rattle.hdt_wire.specs.VByte.{vbyte, vbyte_at}
@@ -22,6 +23,10 @@ last_subject x [] = x
 last_subject x (t ∷ ts) = last_subject t.0 ts
 
 -- ---- reading
+
+-- xs is an end of ys
+abbrev pub IsEndOf : List ℕ → List ℕ → Type 0
+IsEndOf xs ys = drop (length ys - length xs) ys ≡ xs
 
 -- what was read: the number, and the bytes after it; 0 and no bytes at an error
 abbrev pub number_and_rest : List ℕ → Result (ℕ × ℕ) Fault → ℕ × List ℕ

@@ -136,6 +136,17 @@ packed_number_push width (y ∷ ys) x =
       scaled (2 ^ width) (packed_number width ys) x (2 ^ (width * length ys)),
     ) (omega arith)
 
+-- more entries
+packed_number_append : (width : ℕ) (xs ys : List ℕ) → packed_number width (xs ++ ys)
+    ≡ packed_number width xs + packed_number width ys * 2 ^ (width * length xs)
+packed_number_append width [] ys = rw (none width) (omega arith)
+packed_number_append width (x ∷ xs) ys =
+    rw (
+      packed_number_append width xs ys,
+      wider width (length xs),
+      scaled (2 ^ width) (packed_number width xs) (packed_number width ys) (2 ^ (width * length xs)),
+    ) (omega arith)
+
 pub packed_number_below : (width : ℕ) (xs : List ℕ) → EachFits width xs
     → packed_number width xs < 2 ^ (width * length xs)
 packed_number_below width [] fits = rw (none width) (omega arith)
@@ -171,6 +182,33 @@ length-packed width xs = length-bytes_low_first 0 (bytes_for (width * length xs)
 pub IsBytes-packed : (width : ℕ) (xs : List ℕ) → IsBytes (packed width xs)
 unfolding packed
 IsBytes-packed width xs = IsBytes-little_bytes (bytes_for (width * length xs)) (packed_number width xs)
+
+-- entries that take whole bytes, and more entries
+pub packed_append : (width : ℕ) (xs ys : List ℕ) → EachFits width xs → width * length xs % 8 ≡ 0
+    → packed width (xs ++ ys) ≡ packed width xs ++ packed width ys
+unfolding packed
+packed_append width xs ys fits whole =
+    let n : ℕ = width * length xs in
+    let k : ℕ = n / 8 in
+    let m : ℕ = bytes_for (width * length ys) in
+    let v : ℕ = packed_number width xs in
+    let y : ℕ = packed_number width ys in
+    let place : n ≡ 8 * k = omega arith in
+    let long : width * length (xs ++ ys) ≡ n + width * length ys =
+    ap (λ (l : ℕ). width * l) (length-append xs ys) ∙ mul-add width (length xs) (length ys) in
+    let size : bytes_for (width * length (xs ++ ys)) ≡ k + m = omega (arith, long, place) in
+    let own : bytes_for n ≡ k = omega (arith, place) in
+    let sum : packed_number width (xs ++ ys) ≡ v + y * 2 ^ (8 * k) =
+    packed_number_append width xs ys ∙ ap (λ (i : ℕ). v + y * 2 ^ i) place in
+    let below : v < 2 ^ (8 * k) = subst (λ (i : ℕ). v < 2 ^ i) place (packed_number_below width xs fits) in
+    let order : v + y * 2 ^ (8 * k) ≡ y * 2 ^ (8 * k) + v = omega arith in
+    let high : (v + y * 2 ^ (8 * k)) / 2 ^ (8 * k) ≡ y =
+    ap (λ (i : ℕ). i / 2 ^ (8 * k)) order ∙ shr_high y (8 * k) v below in
+    ap (λ (i : ℕ). little_bytes i (packed_number width (xs ++ ys))) size
+    ∙ ap (little_bytes (k + m)) sum ∙ bytes_more k m (v + y * 2 ^ (8 * k))
+    ∙ ap (λ (l : List ℕ). l ++ little_bytes m ((v + y * 2 ^ (8 * k)) / 2 ^ (8 * k))) (bytes_above k v y)
+    ∙ ap (λ (i : ℕ). little_bytes k v ++ little_bytes m i) high
+    ∙ ap (λ (i : ℕ). little_bytes i v ++ little_bytes m y) (sym own)
 
 little-packed : (width : ℕ) (xs : List ℕ) → EachFits width xs → little (packed width xs) ≡ packed_number width xs
 unfolding packed

@@ -32,7 +32,7 @@ returns c =
     let many : vec_len ts ≡ length ts.items = omega (arith, ts.ok.0) in
     all_built (λ v. v.items) c.encode_file.result c.args.options.now (collected_triples c.args.collector)
     (lists_of_sections c.in_ok-encoded.encoded.sections) ts.items c.in_ok-header.header.items
-    c.requires.some c.requires.texts form
+    c.requires.some (form_sections _ _ _ form c.requires.texts) form
     ((rw (c.as_slice.ensures.value, c.len.ensures) at c.in_ok-header.ensures)
     ∙ ap (header_body c.args.options.now.base.items) many)
     (rw (c.as_slice-2.ensures.value, c.in_ok-encoded.ensures.blocks.shared) at c.encode_file.ensures.bytes)

@@ -1,7 +1,6 @@
-use Rattle.std.proofs.Common.{◌∙◌, ◌++◌, List, ℕ, ap, append_assoc, sym}
+use Rattle.std.proofs.Common.{◌∙◌, ◌++◌, List, ℕ, ap, append_assoc, arith, sym}
 use Rattle.hdt_dict.specs.Writing.{canonical_dictionary}
 use Rattle.hdt_triples.specs.Writing.{canonical_sequences, canonical_triples}
-use Rattle.hdt_build.specs.Built.{report_of}
 use Rattle.hdt_build.specs.Canonical.{canonical_file, canonical_head}
 use Rattle.hdt_build.specs.Inside.Rewriting.{lists_of_sections}
 use Rattle.hdt_build.specs.Inside.Sequences.{sequences_in}
@@ -21,7 +20,5 @@ returns-clause-bytes c = λ ts h.
 
 pub returns-clause-report : goal.returns-clause-report
 returns-clause-report c = λ ts h.
-    let d = lists_of_sections c.args.encoded.sections in
-    c.counted_report-report.ensures d ts c.lens-lens.ensures
-    (c.len-count.ensures ∙ sym (many ts c.args.encoded.triples h))
-    ∙ ap (λ (l : List ℕ). report_of d ts l) c.as_slice.ensures.value
+    c.counted_report-report.ensures (lists_of_sections c.args.encoded.sections) ts c.put.new.out.items
+    c.lens-lens.ensures (c.len-count.ensures ∙ sym (many ts c.args.encoded.triples h)) (omega (arith, c.len.ensures, c.put.new.out.ok.0))

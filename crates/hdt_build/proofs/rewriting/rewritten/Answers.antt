@@ -1,11 +1,11 @@
-use Rattle.std.proofs.Common.{◌≡◌, ◌∙◌, append_assoc, sym}
+use Rattle.std.proofs.Common.{◌≡◌, ◌∙◌, append_assoc, arith, sym}
 use Rattle.hdt_dict.specs.Laws.Members.{SameMembers-trans}
 use Rattle.hdt_dict.specs.Laws.Split.{split_sections}
 use Rattle.hdt_file.specs.Graph.{graph_view}
 use Rattle.hdt_build.specs.Canonical.{canonical_file}
 use Rattle.hdt_build.specs.Inside.Rewriting.{lists_of_sections}
 use Rattle.hdt_build.specs.Layouts.{denoted_by}
-use Rattle.hdt_build.proofs.BuiltForm.{made_of}
+use Rattle.hdt_build.proofs.BuiltForm.{form_sections, made_of}
 use Rattle.hdt_build.proofs.Denoting.{some_triple}
 use Rattle.hdt_build.proofs.DenotedStrings.{some_denoted, denoted_texts}
 use Rattle.hdt_build.proofs.RewrittenSections.{rewritten_form}
@@ -49,6 +49,7 @@ returns c =
       c.in_ok-sections.ensures.blocks.shared,
       c.header.ensures,
     ) (simp append_assoc) in
-    made_of (denoted_by g) d ts g.header c.args.block_size bytes _ (some_denoted g h) (denoted_texts g h) form file
-    (rw c.as_slice.ensures.value at (c.counted_report-report.ensures d ts c.lens-lens.ensures
-    (c.len-count.ensures ∙ sym (many ts _ m.sequences))))
+    made_of (denoted_by g) d ts g.header c.args.block_size bytes _ (some_denoted g h)
+    (form_sections _ _ _ form (denoted_texts g h)) form file
+    (c.counted_report-report.ensures d ts bytes c.lens-lens.ensures (c.len-count.ensures ∙ sym (many ts _ m.sequences))
+    (omega (arith, c.len.ensures, c.put.new.out.ok.0)))

@@ -21,7 +21,8 @@ returns-in-Some-clause-ok c =
     wanted c.args.roles c.requires words name
     (rows_of (found_of c.in-Some.entries.now)) c.invocation_or_explanation.result
     (taken c.args.roles (app_of c.in_ok-command.command) words c.in_ok-command.ensures c.in-Ok.ensures.kinds) is
-    c.invocation_or_explanation.ensures.ok c.invocation_or_explanation.ensures.progress
+    c.invocation_or_explanation.ensures.ok c.invocation_or_explanation.ensures.memory
+    c.invocation_or_explanation.ensures.scratch c.invocation_or_explanation.ensures.progress
     c.invocation_or_explanation.ensures.verbose c.invocation_or_explanation.ensures.longest_line
     c.invocation_or_explanation.ensures.header
 

@@ -1,0 +1,18 @@
+-- What is written piece by piece.
+use Rattle.std.proofs.Common.{◌∙◌, ℕ, List, [], ◌++◌, refl, arith, length-append}
+use Rattle.std.proofs.KnownBytes.{Appends-nil, Appends-trans}
+use Rattle.hdt_build.specs.Inside.Output.{OutputState, Puts}
+
+pub puts_nothing : (o : OutputState) → Puts o o []
+puts_nothing o = record {
+  written = Appends-nil o.0;
+  counted = omega arith;
+  unfailed = refl;
+}
+
+pub puts_then : (a b c : OutputState) (xs ys : List ℕ) → Puts a b xs → Puts b c ys → Puts a c (xs ++ ys)
+puts_then a b c xs ys p q = record {
+  written = Appends-trans a.0 b.0 c.0 xs ys p.written q.written;
+  counted = omega (arith, p.counted, q.counted, length-append xs ys);
+  unfailed = q.unfailed ∙ p.unfailed;
+}
