@@ -1,12 +1,15 @@
 -- The encoding of batches.
-use Rattle.std.proofs.Common.{◌≡◌, ◌∙◌, ℕ, zero, suc, ◌+◌, ◌-◌, ◌<◌, List, [], ◌∷◌, ◌++◌, map, length, get_or, drop, take}
+use Rattle.std.proofs.Common.{◌≡◌, ◌∙◌, ℕ, zero, suc, ◌+◌, ◌-◌, ◌<◌, List, [], ◌∷◌, ◌++◌, map, length, get_or, drop}
+use Rattle.std.proofs.Common.{take}
 use Rattle.std.specs.Prelude.{IfSome}
-use Rattle.std.proofs.Common.{Option, Some, None, inl, inr, refl, ap, sym, subst, append_assoc, append-nil, arith, length-append}
+use Rattle.std.proofs.Common.{Option, Some, None, inl, inr, refl, ap, sym, subst, append_assoc, append-nil, arith}
+use Rattle.std.proofs.Common.{length-append}
 use Rattle.std.specs.List.{All, Contains}
 use Rattle.std.proofs.Math.Seq.{take-append_seam}
 use Rattle.std.proofs.lemmas.Bool.{cases_lt}
 use Rattle.std.proofs.lemmas.List.{get_or_append_left, get_or_push, length_push, map-append}
-use Rattle.std.proofs.lemmas.List.Elements.{All-contains, Contains-append_cases, Contains-append_left, Contains-append_right}
+use Rattle.std.proofs.lemmas.List.Elements.{All-contains, Contains-append_cases, Contains-append_left}
+use Rattle.std.proofs.lemmas.List.Elements.{Contains-append_right}
 use Rattle.std.proofs.lemmas.Simd.{map-map}
 use Rattle.hdt_wire.specs.declared.Role.{Role}
 use Rattle.hdt_wire.specs.declared.Role.TheVariants.{Subject, Predicate, Object}
@@ -17,7 +20,8 @@ use Rattle.hdt_file.specs.Denoted.{StringTriple}
 use Rattle.hdt_triples.specs.Order.{AreAscending}
 use Rattle.hdt_triples.specs.TripleSequences.{Triple}
 use Rattle.hdt_dict.specs.Split.{IsSplit}
-use Rattle.hdt_build.specs.Graph.{IsEncodedGraph, mapped_triple, string_triple_at, string_triples_of, subjects_of, predicates_of, objects_of}
+use Rattle.hdt_build.specs.Graph.{IsEncodedGraph, mapped_triple, string_triple_at, string_triples_of, subjects_of}
+use Rattle.hdt_build.specs.Graph.{predicates_of, objects_of}
 use Rattle.hdt_build.specs.Inside.Batches.{AreBatches, AreIdLists, batch_triples, joined_mapped, plain, record_triple}
 use Rattle.hdt_build.specs.Inside.Batches.{strings_in_role}
 use Rattle.hdt_build.specs.Inside.Collecting.{AreBelow}
@@ -133,7 +137,8 @@ module _ (d : SectionLists) where
   -- the IDs of the records of each batch
   abbrev HaveRecordIds : List (List (List ℕ)) → List (List ℕ) → Type 0
   HaveRecordIds xss idss = (b i : ℕ) → b < length xss → i < length (get_or xss b []) → (role : Role) (x : List ℕ)
-      → get_or (get_or xss b []) i [] ≡ record_of role x → IsIdOf (role_strings d role) x (get_or (get_or idss b []) i 0)
+      → get_or (get_or xss b []) i [] ≡ record_of role x
+      → IsIdOf (role_strings d role) x (get_or (get_or idss b []) i 0)
 
   abbrev AllBelow : List (List (List ℕ)) → List (List Triple) → Type 0
   AllBelow xss tss = (b : ℕ) → b < length xss → AreBelow (length (get_or xss b [])) (get_or tss b [])
@@ -155,7 +160,8 @@ module _ (d : SectionLists) where
             (λ t h. are t (Contains-append_right (string_triples_of xs ts) (batch_triples xss tss) t h)) p later
       ]
     where
-      one : (t : Triple) → Contains ts t → AreIdsOf d (plain_triple (string_triple_at xs t)) (mapped_triple ids ids ids t)
+      one : (t : Triple) → Contains ts t → AreIdsOf d (plain_triple (string_triple_at xs t))
+          (mapped_triple ids ids ids t)
       one t h =
           let s = are (string_triple_at xs t) (Contains-append_left (string_triples_of xs ts) (batch_triples xss tss)
           (string_triple_at xs t) (Contains-map (string_triple_at xs) ts t h)) in
@@ -216,10 +222,12 @@ module _ (known : Type 0) (n : ℕ) (runs : List (List (List ℕ))) (tss : List 
       (sym (ids.ids k b (omega (arith, lt, are.long))))
       (record_id known n runs sections numbers events m k are.records b i lt in' role x is))
       are.below
-      (λ t h. let s = Contains-from_map record_triple g t (subst (λ (l : List StringTriple). Contains l t) are.triples h) in
+      (λ t h. let s = Contains-from_map record_triple g t
+      (subst (λ (l : List StringTriple). Contains l t) are.triples h) in
       (s.0, sym s.2)))
       (subst (λ (h : List StringTriple). IsSplit (subjects_of h) (predicates_of h) (objects_of h) d) (sym strings_are)
-      (m.finished.split (subjects_of g) (predicates_of g) (objects_of g) (roles Subject) (roles Predicate) (roles Object)))
+      (m.finished.split (subjects_of g) (predicates_of g) (objects_of g)
+      (roles Subject) (roles Predicate) (roles Object)))
       made up (subst (SameMembers made) (sym (second_parts d runs tss lists are.long (ids.long ∙ are.long))) same))
 
 -- ---- empty lists
@@ -233,7 +241,8 @@ one_list old new n x e none long h = (ap length e ∙ omega (arith, length_push 
     each b lt = elim (cases_lt b n) [
       | inl before ↦ ap (λ (l : List (List ℕ)). get_or l b []) e
           ∙ (get_or_append_left old (x ∷ []) [] b (omega (arith, before, long)) ∙ h b before)
-      | inr le ↦ ap (λ (l : List (List ℕ)). get_or l b []) e ∙ (get_or_push old x [] b (omega (arith, lt, le, long)) ∙ none)
+      | inr le ↦ ap (λ (l : List (List ℕ)). get_or l b []) e ∙
+          (get_or_push old x [] b (omega (arith, lt, le, long)) ∙ none)
     ]
 
 pub no_items : {X : Type 0} (xs : List X) → length xs ≡ 0 → xs ≡ []

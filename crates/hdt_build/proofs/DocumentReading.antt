@@ -147,7 +147,8 @@ triple_size x y old new triple t =
 
 -- ---- the start and the end of reading
 
-pub run_begins : (known : Type 0) (prefix : List ℕ) (s : LinesState) (input : Option (List ℕ)) (graph : List StringTriple)
+pub run_begins : (known : Type 0) (prefix : List ℕ) (s : LinesState) (input : Option (List ℕ))
+    (graph : List StringTriple)
     → s ≡ start most → TriplesSoFar most (start most) input (left (start most) input) []
     → IsReadSoFar known prefix s input (left s input) graph graph false
 run_begins known prefix s input graph e h = record {

@@ -17,10 +17,10 @@ use Rattle.hdt_triples.specs.Uses.{role_component}
 use Rattle.hdt_file.specs.Denoted.{StringTriple}
 use Rattle.hdt_build.specs.declared.collector.TripleCollector.{TripleCollector}
 use Rattle.hdt_build.specs.Graph.{mapped_triple, string_triple_at, string_triples_of}
-use Rattle.hdt_build.specs.Inside.Batches.{AreBatches, HaveRecords, IsBatchOf, IsUsed, batch_triples, plain}
+use Rattle.hdt_build.specs.Inside.Batches.{AreBatches, HaveRecords, IsBatchOf, IsUsedIndex, batch_triples, plain}
 use Rattle.hdt_build.specs.Inside.Batches.{plain_triples, record_triple, strings_in_role}
 use Rattle.hdt_build.specs.Inside.Collecting.{AreBelow, IsValidCollector, collected_triples}
-use Rattle.hdt_build.specs.Inside.Records.{IsRecord, record_of, record_with, role_number}
+use Rattle.hdt_build.specs.Inside.Records.{IsRecord, record_of, record_with, role_code}
 use Rattle.hdt_build.specs.Inside.SortedEntries.{AreIndicesOf}
 use Rattle.hdt_build.specs.Inside.TripleRuns.{joined_runs}
 use Rattle.hdt_build.proofs.IndexTriples.{moved_is, moved_within}
@@ -31,7 +31,7 @@ use Rattle.hdt_build.proofs.TripleRuns.{joined_more}
 
 plain_record : (role : Role) (x : List ℕ) → plain (record_of role x) ≡ x
 plain_record role x =
-    let end : List ℕ = 0 ∷ role_number role ∷ [] in
+    let end : List ℕ = 0 ∷ role_code role ∷ [] in
     let len : length (x ++ end) - 2 ≡ length x = omega (arith, length-append x end) in
     ap (λ (n : ℕ). take n (x ++ end)) len ∙ take-append_seam x end
 
@@ -40,7 +40,7 @@ role_with (suc zero) = Predicate
 role_with (suc (suc zero)) = Object
 role_with n = Subject
 
-role_back : (role : Role) → role_with (role_number role) ≡ role
+role_back : (role : Role) → role_with (role_code role) ≡ role
 unfolding role_with
 role_back Subject = refl
 role_back Predicate = refl
@@ -50,8 +50,8 @@ role_back Object = refl
 same_record : (r role : Role) (y x : List ℕ) → record_of r y ≡ record_of role x → (r ≡ role) × (y ≡ x)
 same_record r role y x e =
     let text : y ≡ x = sym (plain_record r y) ∙ (ap plain e ∙ plain_record role x) in
-    let number : role_number r ≡ role_number role =
-    sym (last (role_number r) y) ∙ ((λ i. get_or (e i) (length (text i) + 1) 0) ∙ last (role_number role) x) in
+    let number : role_code r ≡ role_code role =
+    sym (last (role_code r) y) ∙ ((λ i. get_or (e i) (length (text i) + 1) 0) ∙ last (role_code role) x) in
     (sym (role_back r) ∙ (ap role_with number ∙ role_back role), text)
   where
     last : (n : ℕ) (z : List ℕ) → get_or (record_with n z) (length z + 1) 0 ≡ n
@@ -125,7 +125,7 @@ module _ (g : List StringTriple) (run : List (List ℕ)) (ts : List Triple)
 -- a batch from a list of its records with duplicates
 pub batch_of : (all : List StringTriple) (xs ys : List (List ℕ)) (ns : List ℕ) → AreIndicesOf xs ys ns
     → (ids new : List Triple) → AreBelow (length xs) ids → string_triples_of xs ids ≡ all
-    → new ≡ map (mapped_triple ns ns ns) ids → ((k : ℕ) → k < length ys → IsUsed new k) → IsBatchOf all ys new
+    → new ≡ map (mapped_triple ns ns ns) ids → ((k : ℕ) → k < length ys → IsUsedIndex new k) → IsBatchOf all ys new
 batch_of all xs ys ns r ids new below are e used = record {
   triples = ap (string_triples_of ys) e ∙ (moved_is xs ys ns r ids below ∙ are);
   below = subst (AreBelow (length ys)) (sym e) (moved_within xs ys ns r ids below);
@@ -183,7 +183,8 @@ module _ (runs : List (List (List ℕ))) (tss : List (List Triple)) (old : List 
         let apart : strings_in_role role (old ++ g) ≡ strings_in_role role old ++ strings_in_role role g =
         map-append (role_component role) old g in (
           λ c. subst (λ (l : List (List ℕ)). Contains l x) (sym apart)
-              (both_members (joined_runs runs) run (strings_in_role role old) (strings_in_role role g) (record_of role x)
+              (both_members (joined_runs runs) run (strings_in_role role old) (strings_in_role role g)
+              (record_of role x)
               x (h.members role x).0 (run_to g run ts b role x)
               (subst (λ (l : List (List ℕ)). Contains l (record_of role x)) (joined_more runs run) c)),
           λ c. subst (λ (l : List (List ℕ)). Contains l (record_of role x)) (sym (joined_more runs run))
@@ -231,7 +232,8 @@ module _ (known : Type 0) (runs : List (List (List ℕ))) (tss : List (List Trip
   all = collected_triples c
 
   -- nothing is left to write
-  pub parts_are : (now : List StringTriple) → plain_triples (batch_triples runs tss) ++ plain_triples all ≡ now → all ≡ []
+  pub parts_are : (now : List StringTriple) → plain_triples (batch_triples runs tss) ++ plain_triples all ≡ now
+      → all ≡ []
       → known → AreBatches runs tss now
   parts_are now e none k = subst (AreBatches runs tss)
       (sym (append-nil (plain_triples (batch_triples runs tss)))

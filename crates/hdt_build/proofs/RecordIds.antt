@@ -1,6 +1,8 @@
 -- The IDs that are dealt to a run are those of its records.
-use Rattle.std.proofs.Common.{◌≡◌, ◌∙◌, ℕ, zero, suc, ◌<◌, ◌/◌, ◌%◌, Bool, true, false, List, [], ◌∷◌, ◌++◌, cond, nat_eq}
-use Rattle.std.proofs.Common.{Option, Some, None, inl, inr, map, length, length-append, take, ◌+◌, get_or, refl, ap, sym, subst, arith}
+use Rattle.std.proofs.Common.{◌≡◌, ◌∙◌, ℕ, zero, suc, ◌<◌, ◌/◌, ◌%◌, Bool, true, false, List, [], ◌∷◌, ◌++◌, cond}
+use Rattle.std.proofs.Common.{nat_eq}
+use Rattle.std.proofs.Common.{Option, Some, None, inl, inr, map, length, length-append, take, ◌+◌, get_or, refl, ap}
+use Rattle.std.proofs.Common.{sym, subst, arith}
 use Rattle.std.specs.List.{Contains}
 use Rattle.std.proofs.Math.Seq.{take-append_seam}
 use Rattle.std.proofs.lemmas.List.{get_or-append-add, get_or-map, get_or_default, length-map}
@@ -9,11 +11,11 @@ use Rattle.hdt_wire.specs.declared.Role.{Role}
 use Rattle.hdt_wire.specs.declared.Role.TheVariants.{Subject, Predicate, Object}
 use Rattle.hdt_dict.specs.Dictionary.{SectionLists, role_strings}
 use Rattle.hdt_dict.specs.Laws.Members.{Contains-here, Contains-later, Contains-cons_cases, Contains-nil}
-use Rattle.hdt_build.specs.Inside.Events.{advanced, dealt, id_of, made_of, pairs_of}
+use Rattle.hdt_build.specs.Inside.Events.{advanced, dealt, id_of_codes, made_of, pairs_of}
 use Rattle.hdt_build.specs.Inside.Groups.{AreGroups, Group, has_role, HaveCodes, id_in_role, IsNodeCode, IsPredicateId}
 use Rattle.hdt_build.specs.Inside.Groups.{texts_of_groups}
 use Rattle.hdt_build.specs.Inside.RecordMerging.{AreGroupsOf, AreMergedRecords}
-use Rattle.hdt_build.specs.Inside.Records.{AreRecordRuns, record_of, record_with, role_number}
+use Rattle.hdt_build.specs.Inside.Records.{AreRecordRuns, record_of, record_with, role_code}
 use Rattle.hdt_build.specs.Inside.Groups.{lists_of_states, SectionStates}
 use Rattle.hdt_build.specs.Inside.Rewriting.{IsIdOf}
 use Rattle.hdt_build.specs.Inside.TripleRuns.{joined_runs}
@@ -150,16 +152,17 @@ unfolding HaveCodes coded
 coded_each d [] numbers h z there = absurd (Contains-nil z there)
 coded_each d (g ∷ gs) [] h z there = absurd h
 coded_each d (g ∷ gs) (code ∷ []) h z there = absurd h
-coded_each d (g ∷ gs) (code ∷ id ∷ numbers) h z there = elim (Contains-cons_cases (g, (code, id)) z (coded gs numbers) there) [
-  | inl same ↦ subst (IsCoded d (g ∷ gs)) same (Contains-here g gs, h.0, h.1)
-  | inr later ↦ let r = coded_each d gs numbers h.2 z later in (Contains-later g z.0 gs r.0, r.1, r.2)
-]
+coded_each d (g ∷ gs) (code ∷ id ∷ numbers) h z there = elim (Contains-cons_cases (g, (code, id)) z
+    (coded gs numbers) there) [
+      | inl same ↦ subst (IsCoded d (g ∷ gs)) same (Contains-here g gs, h.0, h.1)
+      | inr later ↦ let r = coded_each d gs numbers h.2 z later in (Contains-later g z.0 gs r.0, r.1, r.2)
+    ]
 
 -- ---- the IDs of records
 
 role_numbered : (shared : ℕ) (role : Role) (codes : ℕ × ℕ)
-    → id_of shared (role_number role) codes ≡ id_in_role role shared codes.0 codes.1
-unfolding id_of
+    → id_of_codes shared (role_code role) codes ≡ id_in_role role shared codes.0 codes.1
+unfolding id_of_codes
 role_numbered shared Subject codes = refl
 role_numbered shared Predicate codes = refl
 role_numbered shared Object codes = refl
@@ -199,7 +202,7 @@ module _ (known : Type 0) (n : ℕ) (runs : List (List (List ℕ))) (sections : 
 
   -- what run b is given
   abbrev pub dealt_ids : ℕ → List ℕ
-  dealt_ids b = dealt (id_of (length d.shared)) b None (pairs_of numbers) events
+  dealt_ids b = dealt (id_of_codes (length d.shared)) b None (pairs_of numbers) events
 
   abbrev from : List Coded
   from = coded m.groups m.codes
@@ -212,22 +215,23 @@ module _ (known : Type 0) (n : ℕ) (runs : List (List (List ℕ))) (sections : 
       ∙ dealt_over (λ (z : Coded). z.0.text) record_with b None from events)
 
   ids_dealt : (b : ℕ)
-      → dealt_ids b ≡ dealt (λ r (z : Coded). id_of (length d.shared) r z.1) b None from events
+      → dealt_ids b ≡ dealt (λ r (z : Coded). id_of_codes (length d.shared) r z.1) b None from events
   ids_dealt b =
-      ap (λ (l : List (ℕ × ℕ)). dealt (id_of (length d.shared)) b None l events)
+      ap (λ (l : List (ℕ × ℕ)). dealt (id_of_codes (length d.shared)) b None l events)
       (ap pairs_of (sym (m.codes_are k records)) ∙ sym (coded_pairs d m.groups m.codes have))
-      ∙ dealt_over (λ (z : Coded). z.1) (id_of (length d.shared)) b None from events
+      ∙ dealt_over (λ (z : Coded). z.1) (id_of_codes (length d.shared)) b None from events
 
   pub record_id : (b i : ℕ) → b < length runs → i < length (get_or runs b []) → (role : Role) (x : List ℕ)
       → get_or (get_or runs b []) i [] ≡ record_of role x → IsIdOf (role_strings d role) x (get_or (dealt_ids b) i 0)
   record_id b i lt in' role x is =
       let e = texts_dealt b lt in
-      let at = dealt_at (λ r (z : Coded). record_with r z.0.text) (λ r (z : Coded). id_of (length d.shared) r z.1) [] 0
+      let at = dealt_at (λ r (z : Coded). record_with r z.0.text)
+      (λ r (z : Coded). id_of_codes (length d.shared) r z.1) [] 0
       from b None from events (λ z h. absurd (Contains-nil z h)) (λ z h. h) i
       (subst (λ (l : List (List ℕ)). i < length l) e in') in
       let z = at.element in
       let c = coded_each d m.groups m.codes have z at.there in
-      let parts = record_parts x z.0.text (role_number role) at.role
+      let parts = record_parts x z.0.text (role_code role) at.role
       (sym is ∙ (ap (λ (l : List (List ℕ)). get_or l i []) e ∙ at.one)) in
       let inside = in_joined runs b [] (record_of role x) lt
       (subst (Contains (get_or runs b [])) is (Contains-get_or (get_or runs b []) i [] in')) in
@@ -236,7 +240,7 @@ module _ (known : Type 0) (n : ℕ) (runs : List (List (List ℕ))) (sections : 
       let on : has_role role z.0 ≡ true = subst (λ (g : Group). has_role role g ≡ true) same had.2 in
       let id : get_or (dealt_ids b) i 0 ≡ id_in_role role (length d.shared) z.1.0 z.1.1 =
       ap (λ (l : List ℕ). get_or l i 0) (ids_dealt b)
-      ∙ (at.two ∙ (ap (λ (r : ℕ). id_of (length d.shared) r z.1) (sym parts.1)
+      ∙ (at.two ∙ (ap (λ (r : ℕ). id_of_codes (length d.shared) r z.1) (sym parts.1)
       ∙ role_numbered (length d.shared) role z.1)) in
       subst (λ (y : List ℕ). IsIdOf (role_strings d role) y (get_or (dealt_ids b) i 0)) (sym parts.0)
       (subst (IsIdOf (role_strings d role) z.0.text) (sym id) (role_id d z.0 z.1.0 z.1.1 c.1 c.2 role on))

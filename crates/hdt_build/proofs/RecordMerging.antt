@@ -1,11 +1,14 @@
 -- Merging runs of records: one record after another becomes a group, or a role of the last one.
-use Rattle.std.proofs.Common.{◌≡◌, ◌↔◌, ◌∙◌, ◌⊎◌, inl, inr, ℕ, zero, suc, ◌+◌, ◌<◌, ◌/◌, ◌%◌, Bool, true, false, List, [], ◌∷◌, ◌++◌, cond}
-use Rattle.std.proofs.Common.{map, length, get_or, set, drop, Option, Some, None, nat_eq, refl, ap, sym, subst, append_assoc, append-nil, arith}
+use Rattle.std.proofs.Common.{◌≡◌, ◌↔◌, ◌∙◌, ◌⊎◌, inl, inr, ℕ, zero, suc, ◌+◌, ◌<◌, ◌/◌, ◌%◌, Bool, true, false, List}
+use Rattle.std.proofs.Common.{[], ◌∷◌, ◌++◌, cond}
+use Rattle.std.proofs.Common.{map, length, get_or, set, drop, Option, Some, None, nat_eq, refl, ap, sym, subst}
+use Rattle.std.proofs.Common.{append_assoc, append-nil, arith}
 use Rattle.std.specs.List.{All, Contains}
 use Rattle.std.proofs.lemmas.Bool.{cases_eq}
 use Rattle.std.proofs.lemmas.Bool.Decides.{nat_tests}
 use Rattle.std.proofs.lemmas.List.{get_or-set_other, get_or-set_same, length-set, map-append}
-use Rattle.std.proofs.lemmas.List.Elements.{All-contains, Contains-append_cases, Contains-append_left, Contains-append_right}
+use Rattle.std.proofs.lemmas.List.Elements.{All-contains, Contains-append_cases, Contains-append_left}
+use Rattle.std.proofs.lemmas.List.Elements.{Contains-append_right}
 use Rattle.hdt_wire.specs.declared.Role.{Role}
 use Rattle.hdt_wire.specs.declared.Role.TheVariants.{Subject, Predicate, Object}
 use Rattle.hdt_dict.specs.Laws.Members.{Contains-cons_cases, Contains-here, Contains-later, Contains-nil}
@@ -14,9 +17,11 @@ use Rattle.hdt_build.specs.declared.grouped_sections.Pushed.{Pushed}
 use Rattle.hdt_build.specs.declared.grouped_sections.Pushed.TheVariants.{Refused, Added, Began}
 use Rattle.hdt_build.specs.Inside.GroupedSections.{BuilderState, HasGroups, IsPushed}
 use Rattle.hdt_build.specs.Inside.Groups.{SectionStates}
-use Rattle.hdt_build.specs.Inside.Groups.{AreFinished, Group, HasRole, has_role, new_group, numbers_of, texts_of_groups, with_role}
-use Rattle.hdt_build.specs.Inside.Records.{AreRecordRuns, IsRecord, record_of, record_with, role_number}
-use Rattle.hdt_build.specs.Inside.RecordMerging.{AreGroupsOf, AreGroupsSoFar, AreMergedRecords, Deals, IsMerging, IsNoted}
+use Rattle.hdt_build.specs.Inside.Groups.{AreFinished, Group, HasRole, has_role, new_group, numbers_of_codes}
+use Rattle.hdt_build.specs.Inside.Groups.{texts_of_groups, with_role}
+use Rattle.hdt_build.specs.Inside.Records.{AreRecordRuns, IsRecord, record_of, record_with, role_code}
+use Rattle.hdt_build.specs.Inside.RecordMerging.{AreGroupsOf, AreGroupsSoFar, AreMergedRecords, Deals, IsMerging}
+use Rattle.hdt_build.specs.Inside.RecordMerging.{IsNoted}
 use Rattle.hdt_build.specs.Inside.TripleRuns.{joined_runs}
 use Rattle.hdt_build.proofs.Events.{dealt_step}
 
@@ -286,7 +291,7 @@ module _ (known : Type 0) (n : ℕ) (runs rests new : List (List (List ℕ))) (b
     (numbers more events later : List ℕ) (run : ℕ) (bytes text : List ℕ) (role : Role) (begins target : ℕ)
     (lt : run < length rests) (first : get_or rests run [] ≡ bytes ∷ drop 1 (get_or rests run []))
     (split : (r : Role) (x : List ℕ) → bytes ≡ record_of r x → (text ≡ x) × (role ≡ r))
-    (run_is : target / 4 ≡ run) (role_is : target % 4 ≡ role_number role)
+    (run_is : target / 4 ≡ run) (role_is : target % 4 ≡ role_code role)
     (events_are : known → later ≡ events ++ begins ∷ target ∷ [])
     (rests_are : known → new ≡ set rests run (drop 1 (get_or rests run []))) where
   module _ (h : IsMerging known n runs rests b numbers events) where
@@ -326,7 +331,8 @@ module _ (known : Type 0) (n : ℕ) (runs rests new : List (List (List ℕ))) (b
             subst (Deals i (get_or runs i []) (get_or new i []) (texts_of_groups gs)) (sym (events_are k))
             (deals i (get_or rests i []) (so_far.each i below)
             (run_split rests run bytes lt first i target run_is
-            ∙ (ap (λ (x : List ℕ). cond (nat_eq (target / 4) i) (x ∷ []) [] ++ get_or (left rests run bytes lt first) i [])
+            ∙ (ap (λ (x : List ℕ). cond (nat_eq (target / 4) i) (x ∷ []) []
+            ++ get_or (left rests run bytes lt first) i [])
             (sym with_number)
             ∙ ap (λ (l : List (List (List ℕ))). cond (nat_eq (target / 4) i) (record_with (target % 4) text ∷ []) []
             ++ get_or l i []) (sym (rests_are k)))));
@@ -336,11 +342,12 @@ module _ (known : Type 0) (n : ℕ) (runs rests new : List (List (List ℕ))) (b
         ];
         in_groups = λ r x inside. elim (so_far.in_groups r x inside) [
           | inl old ↦ inl ((adds r x).1 (inl old))
-          | inr rest ↦ elim (one_taken rests run [] bytes (drop 1 (get_or rests run [])) lt first (record_of r x) rest) [
-            | inl e ↦ let s = split r x (sym e) in inl ((adds r x).1 (inr (sym s.1, s.0)))
-            | inr still ↦ inr (subst (λ (l : List (List (List ℕ))). Contains (joined_runs l) (record_of r x))
-                (sym (rests_are k)) still)
-          ]
+          | inr rest ↦ elim (one_taken rests run [] bytes (drop 1 (get_or rests run [])) lt first
+              (record_of r x) rest) [
+                | inl e ↦ let s = split r x (sym e) in inl ((adds r x).1 (inr (sym s.1, s.0)))
+                | inr still ↦ inr (subst (λ (l : List (List (List ℕ))). Contains (joined_runs l) (record_of r x))
+                    (sym (rests_are k)) still)
+              ]
         ];
       }
 
@@ -372,9 +379,10 @@ module _ (known : Type 0) (n : ℕ) (runs rests new : List (List (List ℕ))) (b
         let gs = h.groups ++ new_group text role ∷ [] in
         record {
           groups = gs;
-          codes = h.codes ++ numbers_of codes;
+          codes = h.codes ++ numbers_of_codes codes;
           has = p;
-          codes_are = λ k records. ap (λ (l : List ℕ). l ++ numbers_of codes) (h.codes_are k records) ∙ sym (noted.1 k);
+          codes_are = λ k records. ap (λ (l : List ℕ). l ++ numbers_of_codes codes) (h.codes_are k records)
+              ∙ sym (noted.1 k);
           groups_are = λ k records. taken gs (adds_group h.groups role text) k records
               (λ i before d s. deals_next i (get_or runs i []) before (get_or new i []) (texts_of_groups h.groups)
               (texts_of_groups gs) events begins target text d s noted.0 (texts_more h.groups role text));

@@ -17,7 +17,7 @@ use Rattle.hdt_front.specs.SectionWriting.{section_encoding, section_preamble}
 use Rattle.hdt_front.specs.WriterState.{SectionWriterState}
 use Rattle.hdt_build.specs.Inside.EntryWriting.{EntryState, IsWritingEntries}
 use Rattle.hdt_build.specs.Inside.Output.{OutputState, Puts}
-use Rattle.hdt_build.specs.Inside.SectionTapes.{AreMoved, AreParts, HavePushed, IsSectionTape}
+use Rattle.hdt_build.specs.Inside.SectionTapes.{AreMoved, AreParts, HavePushedEntries, IsSectionTape}
 use Rattle.hdt_build.proofs.EntryWriting.{written_numbers}
 use Rattle.hdt_build.proofs.Outputs.{puts_then}
 use Rattle.hdt_build.proofs.SectionPieces.{offsets_of_both, packed_of_both, width_of_offsets}
@@ -135,10 +135,10 @@ fits_inside width x done rest all is fits =
     (subst (EachFits width) (sym is) fits (length done + 0))
 
 pub one_pushed : (all rest : List ℕ) (x count n : ℕ) (old mid new : EntryState)
-    → HavePushed all (x ∷ rest) count old mid → n ≡ count + 1
+    → HavePushedEntries all (x ∷ rest) count old mid → n ≡ count + 1
     → ((before : OutputState) (head xs : List ℕ) (width : ℕ) → x < 2 ^ width
     → IsWritingEntries before head width xs mid → IsWritingEntries before head width (xs ++ x ∷ []) new)
-    → HavePushed all rest n old new
+    → HavePushedEntries all rest n old new
 one_pushed all rest x count n old mid new h one more = record {
   done = h.done ++ x ∷ [];
   all_are = append_assoc h.done (x ∷ []) rest ∙ h.all_are;

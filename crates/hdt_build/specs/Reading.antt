@@ -58,10 +58,10 @@ ReadFailed (faults.Write n) = ⊥
 -- ---- errors of building with scratch
 
 -- if this is an error of building, P is true of it
-abbrev pub IfBuild : {E : Type 0} → (BuildFault → Type 0) → ScratchFault E → Type 0
-IfBuild P (scratches.Build e) = P e
-IfBuild P (scratches.Scratch e) = ⊤
-IfBuild P scratches.Damaged = ⊤
+abbrev pub IfBuildFault : {E : Type 0} → (BuildFault → Type 0) → ScratchFault E → Type 0
+IfBuildFault P (scratches.Build e) = P e
+IfBuildFault P (scratches.Scratch e) = ⊤
+IfBuildFault P scratches.Damaged = ⊤
 
 -- this is an error of building, and P is true of it
 abbrev pub IsBuild : {E : Type 0} → (BuildFault → Type 0) → ScratchFault E → Type 0

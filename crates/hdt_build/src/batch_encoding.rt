@@ -5,8 +5,9 @@ ghost use Rattle.hdt_triples.specs.Order.{AreAscending};
 ghost use Rattle.hdt_build.specs.Inside.Batches.{AreEncodedBatches, AreIdLists, joined_mapped};
 ghost use Rattle.hdt_build.specs.Inside.TripleRuns.{joined_runs};
 
+use crate::chunks::{count_of, push_item};
 use crate::distribution::distribute;
-use crate::grouped_sections::FinishedSections;
+use crate::four_sections::FinishedSections;
 use crate::number_tape::{NumberTape, NumberWriter};
 use crate::record_merging::{MergedRecords, merged_records};
 use crate::scratch::Scratch;
@@ -14,7 +15,6 @@ use crate::string_tape::StringTape;
 use crate::tape_merging::merge_triple_runs;
 use crate::triple_runs::mapped_run;
 use crate::triple_tape::{TripleTape, TripleWriter};
-use crate::vectors::{count_of, push_item};
 use std::alloc::Global;
 
 /// So many empty lists.

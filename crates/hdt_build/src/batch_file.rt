@@ -18,7 +18,7 @@ use crate::batch_encoding::{EncodedBatches, encode_batches};
 use crate::batches::Batches;
 use crate::fault::{BuildFault, ScratchFault};
 use crate::file::{counted_report, put_head};
-use crate::grouped_sections::FinishedSections;
+use crate::four_sections::FinishedSections;
 use crate::header::header_body;
 use crate::options::{Options, Report};
 use crate::output::Output;

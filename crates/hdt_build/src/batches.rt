@@ -1,12 +1,12 @@
 //! The triples of documents, in batches on scratch.
 ghost use Rattle.std.specs.Prelude.{◌≡◌, ◌<◌, ◌++◌, ◌∷◌, [], ℕ, List, length, IfOk, IfSome, IsFalse, IsTrue, OnOk};
 ghost use Rattle.hdt_triples.specs.TripleSequences.{Triple};
-ghost use Rattle.hdt_build.specs.Inside.Batches.{AreBatches, IsBatchOf, IsUsed};
+ghost use Rattle.hdt_build.specs.Inside.Batches.{AreBatches, IsBatchOf, IsUsedIndex};
 ghost use Rattle.hdt_build.specs.Inside.Collecting.{IsValidCollector, collected_triples};
 ghost use Rattle.hdt_build.specs.Inside.Filtering.{AreFlagsOfRoles};
 ghost use Rattle.hdt_build.specs.Inside.Records.{record_of};
 
-use crate::chunks::fail_if;
+use crate::chunks::{fail_if, push_item};
 use crate::collector::TripleCollector;
 use crate::dedup::dedup_strings;
 use crate::packed_strings::PackedStrings;
@@ -16,7 +16,6 @@ use crate::string_tape::{StringTape, StringWriter};
 use crate::triple_runs::written;
 use crate::triple_tape::{TripleTape, TripleWriter};
 use crate::triples::map_ids;
-use crate::vectors::push_item;
 use hdt_dict::Role;
 use std::alloc::{AllocError, Global};
 use std::marker::Model;
@@ -44,7 +43,7 @@ fn has_flag(flags: &RoleFlags, at: usize) -> bool
     requires subjects { at < length flags.now.subjects.items }
     requires predicates { at < length flags.now.predicates.items }
     requires objects { at < length flags.now.objects.items }
-    ensures { IsTrue result → (ids : List Triple) (n : ℕ) → AreFlagsOfRoles ids n flags.now → IsUsed ids at }
+    ensures { IsTrue result → (ids : List Triple) (n : ℕ) → AreFlagsOfRoles ids n flags.now → IsUsedIndex ids at }
 {
     if flags.subjects[at] {
         return true;
@@ -61,7 +60,7 @@ fn are_all_used(
     triples: &[(u64, u64, u64)],
     count: usize,
 ) -> Result<bool, AllocError>
-    ensures { IfOk result (λ all. IsTrue all → (k : ℕ) → k < count → IsUsed triples.now k) }
+    ensures { IfOk result (λ all. IsTrue all → (k : ℕ) → k < count → IsUsedIndex triples.now k) }
 {
     let flags = flags_of_slice(alloc, triples, count)?;
     for at in 0..count {

@@ -29,12 +29,19 @@ impl<S: Scratch> Model for Chunks<S> {
         → length (S.chunks c.scratch) ≡ length c.counts.items };
 }
 
-/// Appends a number.
-fn push_count(count: usize, counts: &mut Vec<usize>) -> Result<(), AllocError>
-    ensures { OnOk result (counts.new.items ≡ counts.old.items ++ count ∷ []) }
+/// Appends an element. Unlike that of `push`, the error does not have the element.
+pub(crate) fn push_item<T: Drop>(out: &mut Vec<T>, item: T) -> Result<(), AllocError>
+    ensures { OnOk result (out.new.items ≡ out.old.items ++ item ∷ []) }
 {
-    counts.push(count)?;
+    out.push(item)?;
     Ok(())
+}
+
+/// The number of elements.
+pub(crate) fn count_of<T>(items: &Vec<T>) -> usize
+    ensures { result ≡ length items.now.items }
+{
+    items.len()
 }
 
 /// An error if this holds.
@@ -86,7 +93,7 @@ impl<S: Scratch> Chunks<S> {
         fail_if(self.has_failed)?;
         self.has_failed = true;
         self.scratch.append(bytes)?;
-        push_count(count, &mut self.counts)?;
+        push_item(&mut self.counts, count)?;
         self.has_failed = false;
         Ok(())
     }

@@ -1,7 +1,7 @@
 //! Merging runs of records: the IDs of the records of each run.
 ghost use Rattle.std.specs.Prelude.{◌≡◌, ◌<◌, ◌+◌, ◌/◌, ◌%◌, ◌^◌, ◌++◌, ◌∷◌, [], ℕ, List, length, slice_index_or, cond};
 ghost use Rattle.std.specs.Prelude.{nat_eq, IfOk, IfSome, IsTrue, None, OnOk, Some};
-ghost use Rattle.hdt_build.specs.Inside.Events.{advanced, dealt, pairs_of, id_of};
+ghost use Rattle.hdt_build.specs.Inside.Events.{advanced, dealt, pairs_of, id_of_codes};
 
 use crate::number_tape::{NumberTape, NumberTapeReader, NumberWriter};
 use crate::scratch::Scratch;
@@ -56,9 +56,9 @@ fn pair_after<S: Scratch>(
 
 /// The ID of a record with this role, given the code of its node and its ID as a predicate. None if it is too great for
 /// a `u64`.
-#[tactic(auto, unfolding(crate::specs::Inside::Events::id_of))]
+#[tactic(auto, unfolding(crate::specs::Inside::Events::id_of_codes))]
 fn record_id(shared: u64, role: u64, codes: (u64, u64)) -> Option<u64>
-    ensures { IfSome result (λ id. id ≡ id_of shared role codes) }
+    ensures { IfSome result (λ id. id ≡ id_of_codes shared role codes) }
 {
     let (node, predicate) = codes;
     if role == 1 {
@@ -102,7 +102,7 @@ pub(crate) fn distribute<S: Scratch>(
     ensures long { length lists.new.items ≡ length lists.old.items }
     ensures dealt { IfOk result (λ done. IsTrue done → S.IsKnown → (b : ℕ) → b < length lists.old.items
         → slice_index_or lists.new.items b []
-        ≡ slice_index_or lists.old.items b [] ++ dealt (id_of shared) b None (pairs_of numbers.now) events.now) }
+        ≡ slice_index_or lists.old.items b [] ++ dealt (id_of_codes shared) b None (pairs_of numbers.now) events.now) }
 {
     let count = events.len() / 2;
     let mut events = events.reader(alloc);

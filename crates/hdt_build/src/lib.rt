@@ -29,7 +29,12 @@
 //! `canonical`. Merging: `string_runs` and `graph_strings`, the strings of graphs as ascending runs; `run_merging` and
 //! `tournament`, the strings of all runs in order, each once; `packed_triples`, triples as bytes; `merged_triples`,
 //! those of graphs, with new IDs; `sorted_runs` and `triple_merging`, the triples in order, each once; `merging`.
-//! `new_header`: replacing a header. `laws`: properties of all this.
+//! `new_header`: replacing a header. Building with scratch: `scratch`; `chunks`, `byte_tape`, `number_tape`,
+//! `string_tape` and `triple_tape`, lists on it; `batches`, the strings and triples of the lines, as runs; `section_tape`
+//! (with `ghost_strings`), `four_sections` and `grouped_sections`, the sections; `record_merging`, the strings of all
+//! runs; `distribution`, their IDs; `triple_runs`, `tape_merging` and `batch_encoding`, the triples; `triple_cursor`,
+//! `triple_entries`, `entry_writer` and `scratch_sequences`, their sequences; `output` and `batch_file`, the file;
+//! `scratch_building`. `laws`: properties of all this.
 #![tactic(auto)]
 
 mod batch_encoding;
@@ -48,6 +53,7 @@ mod encoding;
 mod entry_writer;
 mod fault;
 mod file;
+mod four_sections;
 mod ghost_strings;
 mod graph_strings;
 mod grouped_sections;
@@ -93,7 +99,6 @@ mod triple_runs;
 mod triple_sequences;
 mod triple_tape;
 mod triples;
-mod vectors;
 
 pub use building::{build, build_bytes};
 pub use canonical::{is_canonical, layout_is_canonical};

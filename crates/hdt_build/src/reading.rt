@@ -8,7 +8,7 @@ ghost use Rattle.hdt_terms.specs.Split.{prefix_label};
 ghost use Rattle.hdt_dict.specs.Strings.{IsDictionaryString};
 ghost use Rattle.hdt_file.specs.Denoted.{StringTriple};
 ghost use Rattle.hdt_build.specs.Documents.{AddsDocument, IsDocumentWith};
-ghost use Rattle.hdt_build.specs.Reading.{HasDictionaryStrings, IfBuild, IsBuild, IsBuildFaultOf, IsConvertedTo};
+ghost use Rattle.hdt_build.specs.Reading.{HasDictionaryStrings, IfBuildFault, IsBuild, IsBuildFaultOf, IsConvertedTo};
 ghost use Rattle.hdt_build.specs.Reading.{ReadFailed};
 
 use crate::collector::TripleCollector;
@@ -59,7 +59,7 @@ pub(crate) trait Collector {
         requires { IsSound self.old }
         ensures graph { OnOk result (IsKnown → triples self.new ≡ triples self.old ++ (s.now, p.now, o.now) ∷ []) }
         ensures sound { OnOk result (IsSound self.new) }
-        ensures memory { IfErr result (IfBuild (λ e. e ≡ BuildFault.OutOfMemory)) };
+        ensures memory { IfErr result (IfBuildFault (λ e. e ≡ BuildFault.OutOfMemory)) };
 }
 
 impl Collector for TripleCollector {
@@ -95,7 +95,7 @@ fn add_prefixed<C: Collector>(
     ensures graph { OnOk result (C.IsKnown → C.triples collector.new ≡ C.triples collector.old
         ++ (prefix_label prefix.now s.now, p.now, prefix_label prefix.now o.now) ∷ []) }
     ensures sound { OnOk result (C.IsSound collector.new) }
-    ensures memory { IfErr result (IfBuild (λ e. e ≡ BuildFault.OutOfMemory)) }
+    ensures memory { IfErr result (IfBuildFault (λ e. e ≡ BuildFault.OutOfMemory)) }
 {
     if prefix.is_empty() {
         return collector.collect(alloc, s, p, o);
@@ -122,11 +122,11 @@ pub(crate) fn collect_triples<C: Collector + Drop, R: Read>(
     ensures sound { IfOk result (λ read. C.IsSound read.0) }
     ensures texts { IfOk result (λ read. C.IsKnown → HasDictionaryStrings (C.triples read.0)) }
     ensures end { OnOk result (IsAtEnd (R.remaining (inner input.new))) }
-    ensures fault { IfErr result (IfBuild (IsBuildFaultOf (R.remaining (inner input.old))
+    ensures fault { IfErr result (IfBuildFault (IsBuildFaultOf (R.remaining (inner input.old))
         (R.remaining (inner input.new)))) }
     ensures read { IfErr result (λ e. IsBuild ReadFailed e → failures input.new ≡ failures input.old + 1) }
     ensures still { IfErr result (λ e. (IsBuild ReadFailed e → ⊥) → failures input.new ≡ failures input.old) }
-    ensures some { IfErr result (IfBuild (λ e. e ≢ BuildFault.NoTriples)) }
+    ensures some { IfErr result (IfBuildFault (λ e. e ≢ BuildFault.NoTriples)) }
     ensures count { OnOk result (failures input.new ≡ failures input.old) }
 {
     triples_so_far();

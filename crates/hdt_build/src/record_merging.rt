@@ -1,13 +1,15 @@
 //! Merging runs of records, which are strings with their roles, to the four sections.
-ghost use Rattle.std.specs.Prelude.{◌≡◌, ◌≤◌, ◌<◌, ◌/◌, ◌%◌, ◌++◌, ◌∷◌, [], ℕ, List, cond, drop, length, set, slice_index_or};
+ghost use Rattle.std.specs.Prelude.{◌≡◌, ◌≤◌, ◌<◌, ◌/◌, ◌%◌, ◌++◌, ◌∷◌, [], ℕ, List, cond, drop, length, set};
+ghost use Rattle.std.specs.Prelude.{slice_index_or};
 ghost use Rattle.std.specs.Prelude.{IfOk, IfSome, IsTrue, OnOk, Some, None};
 ghost use Rattle.hdt_wire.specs.declared.Role.{Role as RoleValue};
 ghost use Rattle.hdt_build.specs.Inside.GroupedSections.{HasGroups};
-ghost use Rattle.hdt_build.specs.Inside.Groups.{numbers_of};
+ghost use Rattle.hdt_build.specs.Inside.Groups.{numbers_of_codes};
 ghost use Rattle.hdt_build.specs.Inside.RecordMerging.{AreMergedRecords, IsMergedTo, IsMerging, IsNoted};
-ghost use Rattle.hdt_build.specs.Inside.Records.{record_of, role_number};
+ghost use Rattle.hdt_build.specs.Inside.Records.{record_of, role_code};
 
-use crate::grouped_sections::{FinishedSections, Pushed, SectionBuilder};
+use crate::four_sections::FinishedSections;
+use crate::grouped_sections::{Pushed, SectionBuilder};
 use crate::number_tape::{NumberTape, NumberWriter};
 use crate::scratch::Scratch;
 use crate::string_tape::{StringTape, StringTapeReader};
@@ -157,7 +159,7 @@ fn push_codes<S: Scratch>(
     codes: Option<(u64, u64)>,
     numbers: &mut NumberWriter<S>,
 ) -> Result<(), S::Error>
-    ensures { OnOk result (S.IsKnown → numbers.new ≡ numbers.old ++ numbers_of codes) }
+    ensures { OnOk result (S.IsKnown → numbers.new ≡ numbers.old ++ numbers_of_codes codes) }
 {
     if let Some((node, predicate)) = codes {
         numbers.push(node)?;
@@ -186,7 +188,7 @@ fn note_push<S: Scratch>(
 /// The second number of an event. None if there are too many runs for it.
 fn target_of(run: usize, role: Role) -> Option<u64>
     ensures run { IfSome result (λ t. t / 4 ≡ run) }
-    ensures role { IfSome result (λ t. t % 4 ≡ role_number role) }
+    ensures role { IfSome result (λ t. t % 4 ≡ role_code role) }
 {
     let first = (run as u64).checked_mul(4)?;
     let number = match role {
@@ -321,8 +323,8 @@ fn finish_lists<S: Scratch + Drop>(
     Ok((numbers, events))
 }
 
-/// The sections of ascending runs of records, and the lists for their IDs. None if the runs do not ascend, or have other
-/// bytes than records.
+/// The sections of ascending runs of records, and the lists for their IDs. None if the runs do not ascend, or have
+/// other bytes than records.
 pub(crate) fn merged_records<S: Scratch + Drop>(
     alloc: Global,
     scratch: &mut S,

@@ -38,7 +38,9 @@ pub struct MemoryScratch {
 
 impl MemoryScratch {
     /// Scratch without chunks.
-    pub fn new(alloc: Global) -> MemoryScratch {
+    pub fn new(alloc: Global) -> MemoryScratch
+        ensures { MemoryScratch.chunks result ≡ [] }
+    {
         MemoryScratch {
             alloc,
             chunks: Vec::new(alloc),

@@ -8,7 +8,7 @@ ghost use Rattle.hdt_file.specs.Denoted.{StringTriple};
 ghost use Rattle.hdt_build.specs.Built.{WritesTriples};
 ghost use Rattle.hdt_build.specs.Documents.{AddsDocument, IsDocumentWith};
 ghost use Rattle.hdt_build.specs.Options.{AreValidOptions};
-ghost use Rattle.hdt_build.specs.Reading.{IfBuild, IsBuild, IsBuildFaultOf, ReadFailed};
+ghost use Rattle.hdt_build.specs.Reading.{IfBuildFault, IsBuild, IsBuildFaultOf, ReadFailed};
 
 use crate::batch_file::write_batches;
 use crate::batches::Batches;
@@ -32,7 +32,7 @@ struct LimitedBatches<S: Scratch> {
 /// Writes the current batch.
 fn flush<S: Scratch + Drop>(batches: &mut Batches<S>) -> Result<(), ScratchFault<S::Error>>
     ensures same { OnOk result (S.IsKnown → batches.new ≡ batches.old) }
-    ensures memory { IfErr result (IfBuild (λ e. e ≡ BuildFault.OutOfMemory)) }
+    ensures memory { IfErr result (IfBuildFault (λ e. e ≡ BuildFault.OutOfMemory)) }
 {
     match batches.flush() {
         Ok(true) => Ok(()),
@@ -71,8 +71,8 @@ fn chunk_len(memory: usize) -> usize {
 }
 
 /// Builds the file of N-Triples documents that are added one after another, as
-/// [`DocumentBuilder`](crate::DocumentBuilder) does, but with scratch for what does not fit into memory. In contracts it
-/// is the list of the triples.
+/// [`DocumentBuilder`](crate::DocumentBuilder) does, but with scratch for what does not fit into memory. In contracts
+/// it is the list of the triples.
 #[derive(Drop)]
 pub struct ScratchBuilder<S: Scratch> {
     batches: Batches<S>,
@@ -122,9 +122,9 @@ impl<S: Scratch + Drop> ScratchBuilder<S> {
         ensures document { IfOk result (λ made. IsDocumentWith (R.remaining (inner input.old)) made.1) }
         ensures end { OnOk result (IsAtEnd (R.remaining (inner input.new))) }
         // An error of building is the first one of the input: of a line, or out of memory.
-        ensures fault { IfErr result (IfBuild (IsBuildFaultOf (R.remaining (inner input.old))
+        ensures fault { IfErr result (IfBuildFault (IsBuildFaultOf (R.remaining (inner input.old))
             (R.remaining (inner input.new)))) }
-        ensures some { IfErr result (IfBuild (λ e. e ≢ BuildFault.NoTriples)) }
+        ensures some { IfErr result (IfBuildFault (λ e. e ≢ BuildFault.NoTriples)) }
         // The reader failed in this call, once, if the error says so; else it has not failed.
         ensures read { IfErr result (λ e. IsBuild ReadFailed e → failures input.new ≡ failures input.old + 1) }
         ensures still { IfErr result (λ e. (IsBuild ReadFailed e → ⊥) → failures input.new ≡ failures input.old) }
@@ -149,13 +149,13 @@ impl<S: Scratch + Drop> ScratchBuilder<S> {
     }
 
     /// Writes the canonical file of all triples in pieces: the one that [`DocumentBuilder`](crate::DocumentBuilder)
-    /// makes of the same documents. There must be a triple. Returns the writer and the counts of the file. After an error
-    /// what was written is no file, and the writer is dropped.
+    /// makes of the same documents. There must be a triple. Returns the writer and the counts of the file. After an
+    /// error what was written is no file, and the writer is dropped.
     ///
     /// # Errors
     ///
-    /// [`BuildFault::BadOptions`] if the block size is not 1 to 65,535, or the base is not an absolute IRI, with nothing
-    /// written; [`BuildFault::Write`] if the writer failed, with the number of bytes that were written;
+    /// [`BuildFault::BadOptions`] if the block size is not 1 to 65,535, or the base is not an absolute IRI, with
+    /// nothing written; [`BuildFault::Write`] if the writer failed, with the number of bytes that were written;
     /// [`BuildFault::OutOfMemory`]; those of the scratch.
     pub fn finish<W: Write + Drop>(
         self,

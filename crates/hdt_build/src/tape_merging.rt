@@ -4,11 +4,11 @@ ghost use Rattle.hdt_dict.specs.Strings.{SameMembers};
 ghost use Rattle.hdt_triples.specs.Order.{AreAscending, TripleLess};
 ghost use Rattle.hdt_build.specs.Inside.TripleRuns.{AreAscendingTo, joined_runs};
 
+use crate::chunks::push_item;
 use crate::scratch::Scratch;
 use crate::tournament::Tournament;
 use crate::triple_cursor::TripleCursor;
 use crate::triple_tape::{TripleTape, TripleWriter};
-use crate::vectors::push_item;
 use std::alloc::Global;
 
 /// Ascending triples that are being written.

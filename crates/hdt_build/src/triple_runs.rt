@@ -3,11 +3,11 @@ ghost use Rattle.std.specs.Prelude.{◌≡◌, ◌++◌, [], map, IfOk, IfSome};
 ghost use Rattle.hdt_dict.specs.Strings.{SameMembers};
 ghost use Rattle.hdt_build.specs.Graph.{mapped_triple};
 
+use crate::chunks::push_item;
 use crate::number_tape::NumberTape;
 use crate::scratch::Scratch;
 use crate::triple_tape::{TripleTape, TripleWriter};
 use crate::triples::sort_dedup_triples;
-use crate::vectors::push_item;
 use std::alloc::Global;
 
 /// All numbers of a list.

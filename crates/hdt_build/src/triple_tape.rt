@@ -21,11 +21,11 @@ pub(crate) struct TripleWriter<S: Scratch> {
 impl<S: Scratch> Model for TripleWriter<S> {
     ghost use Rattle.std.specs.Prelude.{List, IfSome};
     ghost use Rattle.hdt_triples.specs.TripleSequences.{Triple};
-    ghost use Rattle.hdt_build.specs.Inside.TripleTapes.{EndWith, triples_of};
+    ghost use Rattle.hdt_build.specs.Inside.TripleTapes.{EndWith, decoded_triples};
 
     ghost Value = { List Triple };
 
-    ghost view = { λ w. triples_of 0 w.numbers };
+    ghost view = { λ w. decoded_triples 0 w.numbers };
 
     ghost invariant = { λ w. S.IsKnown → IfSome w.subject (EndWith w.numbers) };
 }
@@ -53,7 +53,7 @@ fn push_numbers<S: Scratch>(
 
 impl<S: Scratch> TripleWriter<S> {
     /// An empty list, on scratch without chunks. A chunk has at least so many bytes, but for the last one.
-    #[tactic(auto, using(crate::proofs::TripleTapes::start), unfolding(crate::specs::Inside::TripleTapes::triples_of))]
+    #[tactic(auto, using(crate::proofs::TripleTapes::start), unfolding(crate::specs::Inside::TripleTapes::decoded_triples))]
     pub(crate) fn new(alloc: Global, scratch: S, chunk_len: usize) -> TripleWriter<S>
         requires { S.IsKnown → S.chunks scratch ≡ [] }
         ensures { S.IsKnown → result ≡ [] }
@@ -108,11 +108,11 @@ pub(crate) struct TripleTape<S: Scratch> {
 impl<S: Scratch> Model for TripleTape<S> {
     ghost use Rattle.std.specs.Prelude.{List};
     ghost use Rattle.hdt_triples.specs.TripleSequences.{Triple};
-    ghost use Rattle.hdt_build.specs.Inside.TripleTapes.{triples_of};
+    ghost use Rattle.hdt_build.specs.Inside.TripleTapes.{decoded_triples};
 
     ghost Value = { List Triple };
 
-    ghost view = { λ t. triples_of 0 t.numbers };
+    ghost view = { λ t. decoded_triples 0 t.numbers };
 }
 
 impl<S: Scratch> TripleTape<S> {
@@ -143,14 +143,14 @@ pub(crate) struct TripleTapeReader<'a, S: Scratch> {
 impl<'a, S: Scratch> Model for TripleTapeReader<'a, S> {
     ghost use Rattle.std.specs.Prelude.{List};
     ghost use Rattle.hdt_triples.specs.TripleSequences.{Triple};
-    ghost use Rattle.hdt_build.specs.Inside.TripleTapes.{triples_of};
+    ghost use Rattle.hdt_build.specs.Inside.TripleTapes.{decoded_triples};
 
     ghost Value = { List Triple };
 
-    ghost view = { λ r. triples_of r.subject r.numbers };
+    ghost view = { λ r. decoded_triples r.subject r.numbers };
 }
 
-#[tactic(auto, unfolding(crate::specs::Inside::TripleTapes::triples_of))]
+#[tactic(auto, unfolding(crate::specs::Inside::TripleTapes::decoded_triples))]
 impl<S: Scratch> TripleTapeReader<'_, S> {
     /// Reads a triple; none at the end.
     pub(crate) fn next(&mut self) -> Result<Option<(u64, u64, u64)>, S::Error>

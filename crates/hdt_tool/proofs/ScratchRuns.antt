@@ -1,7 +1,7 @@
 -- Reading several documents with scratch: errors.
 use Rattle.std.proofs.Common.{◌≡◌, ℕ, List, [], ◌∷◌, Bool, true, Option, inl, refl, subst}
 use Rattle.hdt_build.specs.Documents.{IsDocumentWith}
-use Rattle.hdt_build.specs.Reading.{IfBuild, IsBuildFaultOf}
+use Rattle.hdt_build.specs.Reading.{IfBuildFault, IsBuildFaultOf}
 use Rattle.hdt_build.specs.declared.fault.ScratchFault.{ScratchFault}
 use Rattle.hdt_build.specs.declared.fault.ScratchFault.TheVariants as scratches
 use Rattle.hdt_tool.specs.BuildInputs.{IfInput, IsFaultOfDocumentAt, StopsReading, collect_fault, document_fault}
@@ -12,7 +12,7 @@ use Rattle.hdt_tool.proofs.DocumentRuns.{fault_of_document}
 
 -- An error of the builder at an input.
 pub fault_at : {E : Type 0} → (turn : Turn) (input left : Option (List ℕ)) (fault : ScratchFault E)
-    (P : SplitInputsFault → Type 0) → IfBuild (IsBuildFaultOf input left) fault
+    (P : SplitInputsFault → Type 0) → IfBuildFault (IsBuildFaultOf input left) fault
     → ((s : SplitInputsFault) → IsFaultOfDocumentAt turn input s → P s)
     → IfInput P (collect_fault turn.number fault)
 fault_at turn input left (scratches.Build f) P h step =

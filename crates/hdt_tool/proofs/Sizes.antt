@@ -26,7 +26,8 @@ cut : (n : ℕ) (text : Text) (c : ℕ) → length text ≡ suc n → get_or tex
 cut n [] c e is = absurd (omega (arith, e))
 cut zero (x ∷ []) c e is = ([], ap (λ b. b ∷ []) is)
 cut zero (x ∷ y ∷ ys) c e is = absurd (omega (arith, e))
-cut (suc n) (x ∷ xs) c e is = let (front, whole) = cut n xs c (omega (arith, e)) is in (x ∷ front, ap (λ t. x ∷ t) whole)
+cut (suc n) (x ∷ xs) c e is = let (front, whole) = cut n xs c (omega (arith, e)) is in
+    (x ∷ front, ap (λ t. x ∷ t) whole)
 
 pub not_ended : (text : Text) (c : ℕ) → c ≢ 0 → ((front : Text) → text ≢ front ++ c ∷ []) → last_byte text ≢ c
 not_ended [] c some none is = some (sym is)

@@ -25,8 +25,8 @@
 //! - `session`: what a command shows on standard error beside its message; `progress`, `progress_text`,
 //!   `session_stream` and `recent_lines`: its parts;
 //! - `files`, `overwriting`, `atomic_replace`, `output_file`, `split_parts`, `split_files`, `merging`,
-//!   `building_inputs`, `new_header` and `status`: the same over files and streams; `scratch_files` and
-//!   `scratch_build`: `build --memory`.
+//!   `building_inputs`, `new_header` and `status`: the same over files and streams; `scratch_files`,
+//!   `scratch_output` and `scratch_build`: `build --memory`.
 #![tactic(auto)]
 
 mod answerer;
@@ -68,6 +68,7 @@ mod recent_lines;
 mod request;
 mod scratch_build;
 mod scratch_files;
+mod scratch_output;
 mod session;
 mod session_stream;
 mod split_arguments;

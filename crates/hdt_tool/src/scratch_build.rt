@@ -1,26 +1,21 @@
 //! `build --memory`: building in about a given amount of memory, with scratch files.
-ghost use Rattle.std.specs.Prelude.{◌≡◌, ◌<◌, ◌≤◌, IfOk, IfErr, OnOk, [], codes, length, map};
-ghost use Rattle.hdt_build.specs.Built.{WritesTriples};
-ghost use Rattle.hdt_build.specs.declared.options.Report.{Report};
+ghost use Rattle.std.specs.Prelude.{◌≡◌, ◌≤◌, IfOk, IfErr, OnOk, [], map};
 ghost use Rattle.hdt_tool.specs.BuildInputs.{AddsInTurn, IfInput, ReadsInTurn, StopsReading, collect_fault};
 ghost use Rattle.hdt_tool.specs.Changes.{update};
 ghost use Rattle.hdt_tool.specs.SplitInputs.{first_turn};
-ghost use Rattle.hdt_tool.specs.PrintedReports.{counts_line};
 ghost use Rattle.hdt_tool.specs.declared.splitting.SplitInputsFault.TheVariants as SplitInputsFault;
 ghost use Rattle.hdt_tool.specs.declared.scratch_build.CollectFault.TheVariants as CollectFault;
 
-use crate::atomic_replace::{Replacement, replaceable_path, split_path};
+use crate::atomic_replace::{replaceable_path, split_path};
 use crate::building_inputs::{document_fault, refuse_inputs};
 use crate::error_context::ErrorSource;
 use crate::fault::{ToolFault, file_fault, line_fault};
-use crate::files::{STDERR_PATH, STDOUT_PATH, create, is_same_file, output_path};
+use crate::files::output_path;
 use crate::line_limit::name_long_split_line;
 use crate::outcome::{Outcome, exit_status, print_error_line};
-use crate::pending_output::write_text;
-use crate::printed_reports::counts_line;
-use crate::progress::ProgressWriter;
 use crate::request::{Action, BlankNodes, Invocation, Request};
 use crate::scratch_files::{FileFault, ScratchFile, ScratchFolder};
+use crate::scratch_output::{WriteStop, write_to_out};
 use crate::session::Session;
 use crate::split_files::{late_inputs, split_status};
 use crate::splitting::{SplitInputsFault, first_with_blank_nodes, input_prefix};
@@ -28,8 +23,7 @@ use hdt_build::{Options, Scratch, ScratchBuilder, ScratchFault};
 use hdt_terms::SplitFault;
 use hdt_wire::Counted;
 use std::alloc::{AllocError, Global};
-use std::io::{self, Read, Write};
-use std::path::PathBuf;
+use std::io::{self, Read};
 
 /// Why documents were not collected.
 #[derive(Clone, Copy, Debug, Drop)]
@@ -107,48 +101,6 @@ fn collect_documents<R: Read + Drop, S: Scratch + Drop>(
         number += 1;
     }
     Ok(builder)
-}
-
-/// Writes the canonical file of all triples. Returns the writer, the line with the counts, and the length of the file.
-fn write_pieces<S: Scratch + Drop, W: Write + Drop>(
-    alloc: Global,
-    builder: ScratchBuilder<S>,
-    options: &Options,
-    out: W,
-) -> Result<(W, Vec<u8>, u64), ScratchFault<S::Error>>
-    requires { S.IsKnown → 0 < length builder }
-    ensures { IfOk result (λ made. S.IsKnown → (report : Report)
-        × WritesTriples options.now builder (W.contents out) (W.contents made.0) report
-        × (made.1.items ≡ counts_line (codes "built") report)) }
-{
-    let (out, report) = builder.finish(alloc, options, Counted::new(out))?;
-    let line = counts_line(alloc, "built", &report)?;
-    Ok((out.into_inner(), line, report.bytes))
-}
-
-/// Why no file was written.
-#[derive(Clone, Copy)]
-enum WriteStop {
-    /// An error of the command.
-    Failed(ToolFault),
-    /// An error of the scratch files.
-    Scratch(FileFault),
-}
-
-impl From<ToolFault> for WriteStop {
-    fn from(fault: ToolFault) -> WriteStop {
-        WriteStop::Failed(fault)
-    }
-}
-
-impl From<ScratchFault<FileFault>> for WriteStop {
-    fn from(fault: ScratchFault<FileFault>) -> WriteStop {
-        match fault {
-            ScratchFault::Build(fault) => WriteStop::Failed(ToolFault::from(fault)),
-            ScratchFault::Scratch(fault) => WriteStop::Scratch(fault),
-            ScratchFault::Damaged => WriteStop::Scratch(FileFault::Damaged),
-        }
-    }
 }
 
 /// A build with scratch files.
@@ -248,73 +200,6 @@ fn inputs_status(
     }
 }
 
-/// Prints the file to standard output, and its line to standard error, unless both are the same file.
-fn print_pieces(
-    rt: &HostRuntime,
-    session: &Session<'_>,
-    builder: ScratchBuilder<ScratchFile<'_>>,
-    options: &Options,
-) -> Result<(), WriteStop> {
-    let out = session.watch(io::writer(rt));
-    let (_, line, _) = write_pieces(rt.alloc(), builder, options, out)?;
-    if is_same_file(rt, STDOUT_PATH, STDERR_PATH) {
-        return Ok(());
-    }
-    let mut errors = Counted::new(session.watch(rt.stderr()));
-    Ok(write_text(&line, &mut errors)?)
-}
-
-/// Writes the file in place to a path that is not that of a regular file. Returns its line.
-fn write_in_place(
-    rt: &HostRuntime,
-    session: &Session<'_>,
-    builder: ScratchBuilder<ScratchFile<'_>>,
-    options: &Options,
-    path: &str,
-) -> Result<Vec<u8>, WriteStop> {
-    let created = session.note_error(create(rt, path));
-    let file = created.map_err(|error| file_fault(&error, ToolFault::Write(0)))?;
-    let (_, line, _) = write_pieces(rt.alloc(), builder, options, session.watch(file))?;
-    Ok(line)
-}
-
-/// Atomically replaces a regular file, or creates it. Returns the line of the new file.
-fn replace_in_pieces(
-    rt: &HostRuntime,
-    session: &Session<'_>,
-    builder: ScratchBuilder<ScratchFile<'_>>,
-    options: &Options,
-    path: &PathBuf,
-) -> Result<Vec<u8>, WriteStop> {
-    let (replacement, file) = Replacement::begin(rt, session, path)?;
-    let file = ProgressWriter::new(session.watch_file(file), session);
-    let (file, line, len) = write_pieces(rt.alloc(), builder, options, file)?;
-    replacement.complete(file.into_inner().into_inner(), len)?;
-    Ok(line)
-}
-
-/// Writes the file to a path, and prints its line, as [`write_made_file`](crate::output_file::write_made_file) does with
-/// a file in memory.
-fn write_to_out(
-    rt: &HostRuntime,
-    session: &Session<'_>,
-    builder: ScratchBuilder<ScratchFile<'_>>,
-    options: &Options,
-    path: &str,
-) -> Result<(), WriteStop> {
-    if is_same_file(rt, path, STDOUT_PATH) {
-        return print_pieces(rt, session, builder, options);
-    }
-    let replaced = session.note_error(replaceable_path(rt, rt.alloc(), path));
-    let replaced = replaced.map_err(|error| file_fault(&error, ToolFault::Write(0)))?;
-    let line = match &replaced {
-        Some(path) => replace_in_pieces(rt, session, builder, options, path)?,
-        None => write_in_place(rt, session, builder, options, path)?,
-    };
-    let mut out = Counted::new(session.watch(io::writer(rt)));
-    Ok(write_text(&line, &mut out)?)
-}
-
 /// Writes the file of all triples to OUT, and returns the status.
 fn write_built(
     rt: &HostRuntime,
@@ -381,7 +266,7 @@ fn scratch_parent(
 }
 
 /// Runs `build` with `--memory`, and returns the status. It makes scratch files in a new folder, which is gone at the
-/// end. All documents are read before OUT is opened. (Contracts cannot describe the file system; tests/test_scratch.py
+/// end. All documents are read before OUT is opened. (Contracts cannot describe the file system; tests/test_build_memory.py
 /// checks this.)
 pub(crate) fn run_scratch_build(
     rt: &HostRuntime,

@@ -258,9 +258,9 @@ With --longest-line N a line of more than N bytes, without its end, is an error,
 found in the memory of a line of N bytes, however long it is.
 
 With --memory SIZE the build takes about SIZE of memory, whatever the size of the documents, and
-writes the same file, more slowly. What does not fit goes to scratch files, which take 2 to 3
-times the size of OUT. SIZE is a number of bytes, or of KiB, MiB or GiB if K, M or G follows it:
-4M or more. On top of SIZE come some 8 MB for the program, and several times the longest line.
+writes the same file, more slowly. What does not fit goes to scratch files, of some 4 times the
+size of OUT. SIZE is a number of bytes, or of KiB, MiB or GiB if K, M or G follows it: 4M or more.
+On top of SIZE come some 8 MB for the program, and several times the longest line.
 The scratch files are in a new folder, hdt-unfinished- and 16 digits, which only its owner can
 open. It is made beside OUT, or in FOLDER with --scratch FOLDER, and removed at the end, also
 after an error. If OUT is not a regular file, --scratch is needed.

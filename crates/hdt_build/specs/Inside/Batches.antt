@@ -10,7 +10,7 @@ use Rattle.hdt_dict.specs.Writing.{AreSections}
 use Rattle.hdt_build.specs.declared.collector.TripleCollector.{TripleCollector}
 use Rattle.hdt_build.specs.Graph.{IsEncodedGraph, mapped_triple, string_triples_of}
 use Rattle.hdt_build.specs.Inside.Collecting.{AreBelow, IsValidCollector, collected_triples}
-use Rattle.hdt_build.specs.Inside.Events.{dealt, id_of, pairs_of}
+use Rattle.hdt_build.specs.Inside.Events.{dealt, id_of_codes, pairs_of}
 use Rattle.hdt_build.specs.Inside.Groups.{HaveSize, lists_of_states, SectionStates}
 use Rattle.hdt_build.specs.Inside.Records.{AreRecordRuns, record_of}
 use Rattle.hdt_build.specs.Inside.TripleRuns.{joined_runs}
@@ -50,14 +50,14 @@ pub record AreBatches (runs : List (List (List ℕ))) (tss : List (List Triple))
 -- ---- one batch
 
 -- a triple has the index in some role
-abbrev pub IsUsed : List Triple → ℕ → Type 0
-IsUsed ts k = (role : Role) × Uses ts role k
+abbrev pub IsUsedIndex : List Triple → ℕ → Type 0
+IsUsedIndex ts k = (role : Role) × Uses ts role k
 
 -- the triples of records, as indices of these records, each of which is used
 pub record IsBatchOf (all : List StringTriple) (run : List (List ℕ)) (ts : List Triple) : Type 0 where
   pub triples : string_triples_of run ts ≡ all
   pub below : AreBelow (length run) ts
-  pub used : (k : ℕ) → k < length run → IsUsed ts k
+  pub used : (k : ℕ) → k < length run → IsUsedIndex ts k
 
 -- ---- while triples are added
 
@@ -78,10 +78,11 @@ joined_mapped (ts ∷ tss) [] = []
 joined_mapped (ts ∷ tss) (ids ∷ idss) = map (mapped_triple ids ids ids) ts ++ joined_mapped tss idss
 
 -- the list of each of so many runs has the IDs of its records
-pub record AreIdLists (known : Type 0) (count shared : ℕ) (numbers events : List ℕ) (lists : List (List ℕ)) : Type 0 where
+pub record AreIdLists (known : Type 0) (count shared : ℕ) (numbers events : List ℕ)
+    (lists : List (List ℕ)) : Type 0 where
   pub long : length lists ≡ count
   pub ids : known → (b : ℕ) → b < count
-      → slice_index_or lists b [] ≡ dealt (id_of shared) b None (pairs_of numbers) events
+      → slice_index_or lists b [] ≡ dealt (id_of_codes shared) b None (pairs_of numbers) events
 
 -- The sections are valid. If the contents of scratch are known, the sections and the triples encode the graph of the
 -- batches.

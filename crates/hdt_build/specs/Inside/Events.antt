@@ -29,9 +29,9 @@ pairs_of [] = []
 pairs_of (a ∷ []) = []
 pairs_of (a ∷ b ∷ rest) = (a, b) ∷ pairs_of rest
 
--- the ID of a record with a role, given the code of its node and its ID as a predicate, and the number of shared strings
-unfoldable pub id_of : ℕ → ℕ → ℕ × ℕ → ℕ
-id_of shared role codes = cond (nat_eq role 1) codes.1 (id_of_code shared codes.0)
+-- the ID of a record with a role, given the code of its node, its ID as a predicate, and the number of shared strings
+unfoldable pub id_of_codes : ℕ → ℕ → ℕ × ℕ → ℕ
+id_of_codes shared role codes = cond (nat_eq role 1) codes.1 (id_of_code shared codes.0)
 
 -- the last element; x if there is none
 unfoldable pub latest : {X : Type 0} → Option X → List X → Option X

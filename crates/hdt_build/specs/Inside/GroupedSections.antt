@@ -5,7 +5,8 @@ use Rattle.hdt_dict.specs.Strings.{IsDictionaryString}
 use Rattle.hdt_build.specs.declared.grouped_sections.Pushed.{Pushed}
 use Rattle.hdt_build.specs.declared.grouped_sections.Pushed.TheVariants.{Refused, Added, Began}
 use Rattle.hdt_build.specs.declared.grouped_sections.Roles.{Roles}
-use Rattle.hdt_build.specs.Inside.Groups.{AreGroups, AreWritten, Group, group_of, IsBelowLast, new_group, numbers_of}
+use Rattle.hdt_build.specs.Inside.Groups.{AreGroups, AreWritten, Group, group_of, IsBelowLast, new_group}
+use Rattle.hdt_build.specs.Inside.Groups.{numbers_of_codes}
 use Rattle.hdt_build.specs.Inside.Groups.{SectionStates, with_role}
 
 -- a builder: its sections, and the current string with its roles so far, if there is one
@@ -33,4 +34,4 @@ IsPushed n b gs numbers text role Refused = IsDictionaryString text → IsBelowL
 IsPushed n b gs numbers text role Added = (front : List Group) × (g : Group) × (gs ≡ front ++ g ∷ [])
     × (g.text ≡ text) × HasGroups n b (front ++ with_role role g ∷ []) numbers
 IsPushed n b gs numbers text role (Began codes) = HasGroups n b (gs ++ new_group text role ∷ [])
-    (numbers ++ numbers_of codes)
+    (numbers ++ numbers_of_codes codes)

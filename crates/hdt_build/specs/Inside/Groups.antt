@@ -131,9 +131,9 @@ id_in_role Predicate shared code id = id
 id_in_role Object shared code id = id_of_code shared code
 
 -- the code and the ID that were given out; none if there was no string before
-abbrev pub numbers_of : Option (ℕ × ℕ) → List ℕ
-numbers_of None = []
-numbers_of (Some codes) = codes.0 ∷ codes.1 ∷ []
+abbrev pub numbers_of_codes : Option (ℕ × ℕ) → List ℕ
+numbers_of_codes None = []
+numbers_of_codes (Some codes) = codes.0 ∷ codes.1 ∷ []
 
 -- ---- writing
 

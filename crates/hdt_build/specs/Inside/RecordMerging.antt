@@ -6,7 +6,7 @@ use Rattle.hdt_build.specs.declared.grouped_sections.Pushed.{Pushed}
 use Rattle.hdt_build.specs.declared.grouped_sections.Pushed.TheVariants.{Refused, Added, Began}
 use Rattle.hdt_build.specs.Inside.Events.{dealt, latest}
 use Rattle.hdt_build.specs.Inside.GroupedSections.{BuilderState, HasGroups}
-use Rattle.hdt_build.specs.Inside.Groups.{AreFinished, Group, HasRole, numbers_of, SectionStates, texts_of_groups}
+use Rattle.hdt_build.specs.Inside.Groups.{AreFinished, Group, HasRole, numbers_of_codes, SectionStates, texts_of_groups}
 use Rattle.hdt_build.specs.Inside.Records.{AreRecordRuns, record_of, record_with}
 use Rattle.hdt_build.specs.Inside.TripleRuns.{joined_runs}
 
@@ -57,7 +57,7 @@ pub record IsMerging (known : Type 0) (n : ℕ) (runs rests : List (List (List �
 abbrev pub IsNoted : Type 0 → Pushed → ℕ → List ℕ → List ℕ → Type 0
 IsNoted known Refused begins before after = ⊥
 IsNoted known Added begins before after = (begins ≡ 0) × (known → after ≡ before)
-IsNoted known (Began codes) begins before after = (begins ≡ 1) × (known → after ≡ before ++ numbers_of codes)
+IsNoted known (Began codes) begins before after = (begins ≡ 1) × (known → after ≡ before ++ numbers_of_codes codes)
 
 -- the state when nothing remains
 pub record IsMergedTo (known : Type 0) (n : ℕ) (runs : List (List (List ℕ))) (b : BuilderState)

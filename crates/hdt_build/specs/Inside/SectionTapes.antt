@@ -33,7 +33,7 @@ pub record IsFinishedSection (known : Type 0) (b count : ℕ) (strings : List (L
   pub parts : known → AreParts b strings starts packed
 
 -- so many of the numbers were written as entries, and the others are left
-pub record HavePushed (all rest : List ℕ) (count : ℕ) (old new : EntryState) : Type 0 where
+pub record HavePushedEntries (all rest : List ℕ) (count : ℕ) (old new : EntryState) : Type 0 where
   pub done : List ℕ
   pub all_are : done ++ rest ≡ all
   pub counted : count ≡ length done

@@ -9,7 +9,8 @@ returns g c =
     let merged = c.in-Some.merged in
     let made = c.in-Some-2.triples in
     let lists = c.in-Some-found.lists.items in
-    let ids = rw (c.in-Some-found.is, c.shared_len-shared.ensures, c.count_of-count.ensures) at c.in_ok-found-2.ensures in
+    let ids = rw (c.in-Some-found.is, c.shared_len-shared.ensures, c.count_of-count.ensures)
+    at c.in_ok-found-2.ensures in
     record {
       valid = m.finished.valid;
       blocks = m.finished.written.blocks;

@@ -22,8 +22,10 @@ returns-clause-written g c known graph some form =
       built = all_built {E = ℕ} (λ (l : List ℕ). l) (Ok (bytes, c.counted_report-report.result)) options graph d ts
           c.in_ok-header.header.items some c.requires.valid form
           (rw (c.as_slice.ensures.value, are.triples) at c.in_ok-header.ensures) refl
-          (c.counted_report-report.ensures d ts bytes c.lens.ensures are.triples (c.len.ensures ∙ (puts.counted ∙ zero-add _)));
-      written = subst (λ (after : Option (List ℕ)). Appends (g.W.Write.contents (inner c.args.out)) after bytes) (sym c.into_inner.ensures.contents)
+          (c.counted_report-report.ensures d ts bytes c.lens.ensures are.triples
+          (c.len.ensures ∙ (puts.counted ∙ zero-add _)));
+      written = subst (λ (after : Option (List ℕ)). Appends (g.W.Write.contents (inner c.args.out)) after bytes)
+          (sym c.into_inner.ensures.contents)
           puts.written;
     }
 

@@ -3,7 +3,10 @@ use Rattle.hdt_build.proofs.Events.{all_dealt, deal_more}
 use Rattle.hdt_build.proofs.distribution.distribute.Goals as goal
 
 pub events-init : goal.events-init
-events-init g c = record { long = refl; dealt = λ known b lt. rw (c.reader-events.ensures, c.reader-numbers.ensures) refl }
+events-init g c = record {
+  long = refl;
+  dealt = λ known b lt. rw (c.reader-events.ensures, c.reader-numbers.ensures) refl;
+}
 
 pub events-preserved : goal.events-preserved
 events-preserved g c = record {
@@ -20,4 +23,5 @@ events-preserved g c = record {
 pub returns-in-None-clause-dealt : goal.returns-in-None-clause-dealt
 returns-in-None-clause-dealt g c t known =
     all_dealt c.args.shared c.args.lists.now.items c.args.numbers.now c.args.events.now c.events.lists.items
-    c.events.current c.events.numbers c.events.events (c.events.invariant.dealt known) (rw c.in-None.is at c.in_ok-next.ensures.none known)
+    c.events.current c.events.numbers c.events.events (c.events.invariant.dealt known)
+    (rw c.in-None.is at c.in_ok-next.ensures.none known)

@@ -21,4 +21,5 @@ returns-clause-bytes c = λ ts h.
 pub returns-clause-report : goal.returns-clause-report
 returns-clause-report c = λ ts h.
     c.counted_report-report.ensures (lists_of_sections c.args.encoded.sections) ts c.put.new.out.items
-    c.lens-lens.ensures (c.len-count.ensures ∙ sym (many ts c.args.encoded.triples h)) (omega (arith, c.len.ensures, c.put.new.out.ok.0))
+    c.lens-lens.ensures (c.len-count.ensures ∙ sym (many ts c.args.encoded.triples h))
+    (omega (arith, c.len.ensures, c.put.new.out.ok.0))

@@ -1,4 +1,5 @@
-use Rattle.std.proofs.Common.{◌≡◌, ◌+◌, ◌-◌, ℕ, List, [], ◌∷◌, ◌++◌, length, take, drop, sym, ap, ◌∙◌, arith, append_assoc}
+use Rattle.std.proofs.Common.{◌≡◌, ◌+◌, ◌-◌, ℕ, List, [], ◌∷◌, ◌++◌, length, take, drop, sym, ap, ◌∙◌, arith}
+use Rattle.std.proofs.Common.{append_assoc}
 use Rattle.std.proofs.lemmas.List.{take_all, drop-drop, length-drop}
 use Rattle.hdt_build.specs.NewHeader.{item_with_length, with_length}
 use Rattle.hdt_build.proofs.HeaderProperties.{first_item, last_item}
@@ -12,7 +13,8 @@ returns-in-empty c =
     let full : cut ≡ length rest =
     omega (arith, c.item_end-cut.ensures.within, c.split_at.ensures.back_len, c.in-empty.len_below) in
     let put : c.put_item.new.out.items ≡ c.items.made.items ++ item_with_length n (take cut rest) =
-    c.in_ok-put_item.ensures ∙ ap (λ (t : List ℕ). c.items.made.items ++ item_with_length n t) c.split_at.ensures.front in
+    c.in_ok-put_item.ensures ∙ ap (λ (t : List ℕ). c.items.made.items ++ item_with_length n t)
+    c.split_at.ensures.front in
     put ∙ ap (λ (t : List ℕ). c.items.made.items ++ t) (sym (last_item n rest cut c.item_end-cut.ensures.index full))
     ∙ c.items.invariant
 

@@ -10,7 +10,8 @@ returns-then-tight-clause-err c = rw c.if-tight.true c.verify_tight_terms.ensure
 
 pub returns-clause-tight : goal.returns-clause-tight
 returns-clause-tight c =
-    IfOk-weaker c.verify_terms.result _ _ (λ found h t. let f = c.if-tight.false in absurd cc) c.verify_terms.ensures.found
+    IfOk-weaker c.verify_terms.result _ _ (λ found h t. let f = c.if-tight.false in absurd cc)
+    c.verify_terms.ensures.found
 
 pub returns-clause-err : goal.returns-clause-err
 returns-clause-err c = rw c.if-tight.false c.verify_terms.ensures.err

@@ -22,6 +22,7 @@ returns-clause-ok c =
       is = c.in_ok-found.ensures.found;
       tight_is = c.in_ok-found.ensures.tight;
       printed =
-          subst (λ (x : List NonTerm). text ≡ term_verdict_lines found.counts x) c.deref.ensures.value c.in_ok-text.ensures;
+          subst (λ (x : List NonTerm). text ≡ term_verdict_lines found.counts x) c.deref.ensures.value
+          c.in_ok-text.ensures;
       counted = counted;
     }

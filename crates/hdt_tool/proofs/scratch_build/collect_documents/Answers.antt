@@ -3,7 +3,7 @@ use Rattle.std.specs.Vec.Iter.{into_iter_items}
 use Rattle.std.proofs.lemmas.Result.{err_from_is_err_and}
 use Rattle.hdt_wire.specs.Counted.{inner}
 use Rattle.hdt_build.specs.Documents.{AddsDocument, IsDocumentWith}
-use Rattle.hdt_build.specs.Reading.{IfBuild, IsBuildFaultOf}
+use Rattle.hdt_build.specs.Reading.{IfBuildFault, IsBuildFaultOf}
 use Rattle.hdt_tool.specs.BuildInputs.{AddsInTurn, IfInput, ReadsInTurn, StopsReading}
 use Rattle.hdt_tool.specs.Changes.{update}
 use Rattle.hdt_tool.specs.SplitInputs.{Turn, first_turn, input_prefix}
@@ -29,7 +29,8 @@ returns-in-Err-clause-stopped g c =
     subst (λ stop. IfInput stops stop) (sym c.collect_fault.ensures)
     (fault_at turn (g.R.Read.remaining c.in-Some.input) (g.R.Read.remaining (inner c.with_document.new.input))
     c.in-Err.fault stops
-    (subst (λ i. IfBuild (IsBuildFaultOf i (g.R.Read.remaining (inner c.with_document.new.input))) c.in-Err.fault) read
+    (subst (λ i. IfBuildFault (IsBuildFaultOf i (g.R.Read.remaining (inner c.with_document.new.input)))
+    c.in-Err.fault) read
     c.in-Err.ensures.fault)
     (λ fault is.
     subst (λ items. StopsReading (first_turn mode) (map (λ input. g.R.Read.remaining input) items) fault) all
@@ -68,12 +69,14 @@ inputs-preserved g c =
     let first = c.in_ok-first.ensures.ok.0 in
     let apart = c.in_ok-first.ensures.ok.1 in (
       λ known after rest. c.inputs.invariant.0 known after
-          (subst (λ items. AddsInTurn turn (map (λ input. g.R.Read.remaining input) items) (update c.inputs.builder after))
+          (subst (λ items. AddsInTurn turn (map (λ input. g.R.Read.remaining input) items)
+          (update c.inputs.builder after))
           (sym here) (
             c.in-Ok.made.0,
             has,
             (subst (λ i. AddsDocument (input_prefix mode c.inputs.number) i c.inputs.builder c.in-Ok.made.0 has) read
-                (subst (λ p. AddsDocument p (g.R.Read.remaining (inner c.new-input.result)) c.inputs.builder c.in-Ok.made.0 has)
+                (subst (λ p. AddsDocument p (g.R.Read.remaining (inner c.new-input.result)) c.inputs.builder
+                c.in-Ok.made.0 has)
                 (search rules) (c.in-Ok.ensures.added known))),
             apart,
             subst (λ f. AddsInTurn (next f) left (update c.in-Ok.made.0 after)) first rest,

@@ -7,7 +7,8 @@ invariant_of-self-2 g c _ =
     let b = c.self.inside in
     let made = rw (c.in-Some.is, c.replace-collector.ensures.value) at c.in_ok-records.ensures in
     rw (c.in_ok-push_item.ensures, c.in_ok-push_item-2.ensures, c.replace-collector.ensures.after)
-    (batch_had g.S.Scratch.IsKnown b.records.items b.triples.items b.collector (c.self.invariant c.in_ok-fail_if.ensures)
+    (batch_had g.S.Scratch.IsKnown b.records.items b.triples.items b.collector
+    (c.self.invariant c.in_ok-fail_if.ensures)
     c.in-Some.records c.in-Some.triples made c.in_ok-next.next c.in_ok-next.ensures.graph c.in_ok-next.ensures.sound
     (λ e. let t = c.is_empty.ensures.1 e in let f = c.if-is_empty.false in absurd cc))
 

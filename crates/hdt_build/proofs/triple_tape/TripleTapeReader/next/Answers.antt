@@ -1,10 +1,10 @@
 use Rattle.std.proofs.Common.{arith, refl}
-use Rattle.hdt_build.specs.Inside.TripleTapes.{triples_of}
+use Rattle.hdt_build.specs.Inside.TripleTapes.{decoded_triples}
 use Rattle.hdt_build.proofs.TripleTapes.{fewer_triples}
 use Rattle.hdt_build.proofs.triple_tape.TripleTapeReader.next.Goals as goal
 
 pub returns-clause-some : goal.returns-clause-some
-unfolding triples_of
+unfolding decoded_triples
 returns-clause-some g c = λ known.
     let a = rw c.in-Some.is at c.in_ok-step.ensures.some in
     let b = rw c.in-Some-2.is at c.in_ok-predicate.ensures.some in
