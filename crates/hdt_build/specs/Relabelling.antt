@@ -1,7 +1,12 @@
 -- Prefixes before the labels of blank nodes, in dictionary strings.
-use Rattle.std.specs.Prelude.{ℕ, ◌==◌, ◌&&◌, if◌then◌else◌, Bool, false, List, [], ◌∷◌, map}
+use Rattle.std.specs.Prelude.{ℕ, ◌==◌, ◌&&◌, ◌++◌, if◌then◌else◌, Bool, false, List, [], ◌∷◌, codes, map}
+use Rattle.std.specs.Fmt.{decimal}
 use Rattle.hdt_terms.specs.Split.{prefix_label}
 use Rattle.hdt_file.specs.Denoted.{StringTriple}
+
+-- the prefix for the document or graph with this number, from 0, of several whose nodes are kept apart
+abbrev pub label_prefix : ℕ → List ℕ
+label_prefix n = codes "f" ++ decimal n ++ codes "_"
 
 -- Whether the string begins with U+005F and U+003A, as those of blank nodes do, and those of no other terms.
 abbrev pub has_label : List ℕ → Bool

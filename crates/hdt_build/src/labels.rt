@@ -1,7 +1,8 @@
 //! The labels of blank nodes, in dictionary strings.
 ghost use Rattle.std.specs.Prelude.{◌≡◌, ◌||◌, IfOk};
+ghost use Rattle.hdt_dict.specs.Strings.{IsDictionaryString};
 ghost use Rattle.hdt_terms.specs.Split.{is_blank_string, prefix_label};
-ghost use Rattle.hdt_build.specs.Relabelling.{has_label};
+ghost use Rattle.hdt_build.specs.Relabelling.{has_label, label_prefix};
 
 use std::alloc::{AllocError, Global};
 
@@ -51,4 +52,17 @@ pub(crate) fn with_prefix(
         _ => made.extend_from_slice(string)?,
     }
     Ok(made)
+}
+
+/// What goes before the labels of the blank nodes of the document or graph with this number, from 0, if the nodes of
+/// several are kept apart: `f`, the number and `_`. It is UTF-8 without zero bytes.
+///
+/// # Errors
+///
+/// Out of memory.
+pub fn label_prefix(alloc: Global, number: u64) -> Result<Vec<u8>, AllocError>
+    ensures is { IfOk result (λ prefix. prefix.items ≡ label_prefix number) }
+    ensures text { IfOk result (λ prefix. IsDictionaryString prefix.items) }
+{
+    Ok(format!(in alloc; "f{number}_")?.into_bytes())
 }

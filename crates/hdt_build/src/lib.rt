@@ -17,7 +17,8 @@
 //! [`rewrite`] writes the canonical file of the triples of a graph, with its header body. [`is_canonical`] says whether
 //! a file is the one that `rewrite` makes of it. [`DocumentBuilder`] builds one file of several documents. [`merge`]
 //! writes the canonical file of all triples of several graphs; [`Merger`] takes them one after another.
-//! [`with_header`] replaces the header of a file and nothing else.
+//! [`label_prefix`] is what keeps the blank nodes of several inputs apart. [`with_header`] replaces the header of a file
+//! and nothing else.
 //!
 //! Modules, in reading order. Building: `options` and `fault`; `interner`, the list of strings; `queue` and
 //! `collector`, triples as indices of strings; `labels`, blank nodes; `reading`, the lines of the input;
@@ -104,6 +105,7 @@ pub use building::{build, build_bytes};
 pub use canonical::{is_canonical, layout_is_canonical};
 pub use documents::DocumentBuilder;
 pub use fault::{BuildFault, HeaderFault, MergeFault, RewriteFault, ScratchFault};
+pub use labels::label_prefix;
 pub use laws::{
     canonical_files_are_layouts, equal_graphs_equal_files, merging_is_a_union, merging_is_building,
     no_triples_is_reported, one_canonical_file, one_document, relabelling_keeps_the_order,

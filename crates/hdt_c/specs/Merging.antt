@@ -1,13 +1,12 @@
 -- The report of merging graphs into one file.
-use Rattle.std.specs.Prelude.{◌≡◌, ◌⊎◌, ◌+◌, ℕ, Bool, true, false, List, [], ◌∷◌, ◌++◌, map, Option, Some, None, codes}
-use Rattle.std.specs.Fmt.{decimal}
+use Rattle.std.specs.Prelude.{◌≡◌, ◌⊎◌, ◌+◌, ℕ, Bool, true, false, List, [], ◌∷◌, ◌++◌, map, Option, Some, None}
 use Rattle.std.specs.List.{Contains, flat_map}
 use Rattle.hdt_file.specs.Denoted.{StringTriple}
 use Rattle.hdt_file.specs.Graph.{graph_view}
 use Rattle.hdt_file.specs.declared.graph.Graph.{Graph}
 use Rattle.hdt_build.specs.Built.{IsBuilt}
 use Rattle.hdt_build.specs.Layouts.{denoted_by}
-use Rattle.hdt_build.specs.Relabelling.{relabelled_triples}
+use Rattle.hdt_build.specs.Relabelling.{label_prefix, relabelled_triples}
 use Rattle.hdt_build.specs.declared.options.Options.{Options}
 use Rattle.hdt_build.specs.declared.options.Report.{Report}
 use Rattle.hdt_c.specs.Building.{AreGivenOptions, AreInvalidOptions, built_report, report_for}
@@ -36,9 +35,9 @@ triples_of_graph (Some g) = denoted_by (graph_view g)
 abbrev pub triples_in : List HdtGraph → List StringTriple
 triples_in hs = flat_map (λ h. triples_of_graph (graph_of h.resource.value)) hs
 
--- What goes before the labels of the graph with this number, from 0: with `apart` the letter f, the number and _.
+-- What goes before the labels of the graph with this number, from 0.
 abbrev pub graph_prefix : Bool → ℕ → List ℕ
-graph_prefix true n = codes "f" ++ decimal n ++ codes "_"
+graph_prefix true n = label_prefix n
 graph_prefix false n = []
 
 -- the triples of the graph of a handle, with the prefix of this number before its labels

@@ -1,13 +1,5 @@
--- Reading several documents: prefixes, and errors.
-use Rattle.std.proofs.Common.{◌≡◌, ◌≢◌, ◌<◌, ◌^◌, ◌++◌, ◌∷◌, ℕ, List, [], Bool, true}
-use Rattle.std.proofs.Common.{Option, None, Some, codes, refl, arith, inl, suc, zero, ◌%◌, ◌+◌, rules}
-use Rattle.std.proofs.Common.{subst}
-use Rattle.std.specs.Fmt.{decimal}
-use Rattle.std.proofs.lemmas.Fmt.{IsAscii-decimal, decimal_by_steps}
-use Rattle.std.proofs.lemmas.List.Elements.{All-append}
-use Rattle.std.proofs.lemmas.Str.{IsUtf8-append, IsUtf8-from_ascii, IsUtf8-nil}
-use Rattle.hdt_dict.specs.Strings.{IsDictionaryString}
-use Rattle.hdt_wire.specs.Control.{HasNoZero}
+-- Reading several documents: errors.
+use Rattle.std.proofs.Common.{◌≡◌, ◌∷◌, ℕ, List, [], Bool, true, Option, refl, inl, subst}
 use Rattle.hdt_build.specs.Documents.{AddsDocument}
 use Rattle.hdt_build.specs.Reading.{IsBuildFaultOf}
 use Rattle.hdt_build.specs.declared.fault.BuildFault.{BuildFault}
@@ -15,38 +7,8 @@ use Rattle.hdt_build.specs.declared.fault.BuildFault.TheVariants as building
 use Rattle.hdt_file.specs.Denoted.{StringTriple}
 use Rattle.hdt_tool.specs.BuildInputs.{IsFaultOfDocumentAt, StopsAdding, document_fault}
 use Rattle.hdt_tool.specs.SplitInputs.{Contents, IsBlankNodesFault, Turn}
-use Rattle.hdt_tool.specs.SplitInputs.{input_prefix}
-use Rattle.hdt_tool.specs.declared.request.BlankNodes.{BlankNodes}
-use Rattle.hdt_tool.specs.declared.request.BlankNodes.TheVariants as blank
 use Rattle.hdt_tool.specs.declared.splitting.SplitInputsFault.{SplitInputsFault}
 use Rattle.hdt_tool.specs.declared.splitting.SplitInputsFault.TheVariants as stop
-
--- ---- prefixes
-
-digit : (n : ℕ) → HasNoZero ((48 + n) ∷ [])
-digit n zero d lt is = absurd (omega (arith, is))
-digit n (suc k) d lt is = absurd (omega (arith, lt))
-
-no_zero_digits : (n : ℕ) → n < 2 ^ 64 → HasNoZero (decimal n)
-no_zero_digits = decimal_by_steps (λ n ds. HasNoZero ds) (λ n small. digit n)
-    (λ n ds large h. All-append (λ b. b ≢ 0) ds ((48 + n % 10) ∷ []) h (digit (n % 10)))
-
-no_text : IsDictionaryString []
-no_text = record { utf8 = IsUtf8-nil; no_zero = λ k d lt. absurd (omega (arith, lt)) }
-
--- The prefix of an input is UTF-8 without zero bytes.
-pub prefix_text : (mode : Option BlankNodes) (n : ℕ) → n < 2 ^ 64 → IsDictionaryString (input_prefix mode n)
-prefix_text (Some blank.Apart) n small = record {
-  utf8 = IsUtf8-append (codes "f" ++ decimal n) (codes "_") (IsUtf8-append (codes "f") (decimal n)
-      (IsUtf8-from_ascii (codes "f") (search rules)) (IsUtf8-from_ascii (decimal n) (IsAscii-decimal n small)))
-      (IsUtf8-from_ascii (codes "_") (search rules));
-  no_zero = All-append (λ b. b ≢ 0) (codes "f" ++ decimal n) (codes "_")
-      (All-append (λ b. b ≢ 0) (codes "f") (decimal n) (search rules) (no_zero_digits n small)) (search rules);
-}
-prefix_text (Some blank.One) n small = no_text
-prefix_text None n small = no_text
-
--- ---- errors
 
 -- The error of reading the input.
 pub fault_of_document : (turn : Turn) (input left : Option (List ℕ)) (fault : BuildFault)

@@ -1,8 +1,8 @@
 use Rattle.std.proofs.Common.{◌≡◌, ◌++◌, ◌<◌, ◌^◌, codes, rules, subst, sym}
 use Rattle.std.specs.Fmt.{decimal}
 use Rattle.hdt_dict.specs.Strings.{IsDictionaryString}
-use Rattle.hdt_c.proofs.GraphPrefixes.{prefix_text}
-use Rattle.hdt_c.proofs.merging.graph_prefix.Goals as goal
+use Rattle.hdt_build.proofs.LabelPrefixes.{prefix_text}
+use Rattle.hdt_build.proofs.labels.label_prefix.Goals as goal
 
 pub returns-in_ok-format-clause-text : goal.returns-in_ok-format-clause-text
 returns-in_ok-format-clause-text c =
