@@ -355,8 +355,8 @@ def is_compiled(block: list[str]) -> bool:
     return any(wanted in tokens(path.read_text()) for path in TOP.glob("crates/example/src/*.rt"))
 
 
-# The files with an example that is not in crates/example yet.
-NOT_COMPILED = {"crc32c.rt", "documents.rt", "merging.rt", "new_header.rt", "sequence_writer.rt"}
+# The files with an example that is not in crates/example yet: their calls need a proof that a literal is UTF-8.
+NOT_COMPILED = {"documents.rt", "merging.rt"}
 
 
 def test_examples_in_comments() -> None:

@@ -301,6 +301,8 @@ def is_out_of_memory(request: Request, answer: list[str], ample: list[str]) -> b
         return answer[-3:-2] == ["OutOfMemory"] and answer[:-3] == ample[:len(answer) - 3]
     if word == "line_calls":
         return ends_with_fault(request, answer, ample)
+    if word == "scratch_build":  # the writer is a vector: without memory for more, writing fails after so many bytes
+        return answer[:-1] == ["written"] and ample[0] == "ok" and 2 * int(answer[1]) < len(ample[1])
     if word == "handed_back":
         return answer[:2] in (["ok", "triples"], ["ok", "indexed"]) and answer[2:] == ample[3:]
     if word in ("table", "usage_line"):
@@ -502,7 +504,7 @@ def abridged(calls: Calls, result: Result) -> tuple[int, bytes, list[tuple[str, 
 
 
 def test_each_word_is_requested(probe: Probe) -> None:
-    """The requests use each word of each probe, but for one whose writer is a vector, which can fail."""
+    """The requests use each word of each probe."""
     words = {word for name in probe.paths for word in probe.words(name)}
     used = {str(request[0]) for group in GROUPS for request in group()}
-    assert words - used - {"help", "reads", "writes", "scratch_build"} == set()
+    assert words - used - {"help", "reads", "writes"} == set()

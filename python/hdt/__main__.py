@@ -31,7 +31,8 @@ _METADATA = {
 _DESCRIPTION = f"""\
 Build an HDT file from RDF: files, folders, or - for standard input. Names end with {' '.join(SUFFIXES)},
 and then perhaps .gz .bz2 .xz .zst; any other name is N-Triples. Turtle and TriG are converted by serdi, RDF/XML by
-rapper, if they are installed, all else by rdflib. OUT is replaced only if all inputs could be read to their end.
+rapper, if they are installed, all else by rdflib; HDT files by the program, but those in folders are passed over.
+OUT is replaced only if all inputs could be read to their end.
 
 With --title and the options after it, each of which may be given again, the header describes the graph by properties of
 Dublin Core and numbers of VoID. IRI may be a text, too. DATE is as 2026-11-29.

@@ -23,10 +23,11 @@ from ._library import Made
 from ._low_memory import LowMemory
 from ._mapped import Mapped
 from ._metadata import Header
+from ._program import dumped
 from ._progress import Meter, Progress
 from ._quads import Graphs
-from ._sources import Input, Source, sources_of
-from ._syntaxes import NQUADS, NTRIPLES, syntax_named, syntax_of
+from ._sources import Input, Source, source_of, sources_of
+from ._syntaxes import HDT, NQUADS, NTRIPLES, syntax_named, syntax_of
 from ._triples import is_statement
 
 _BASE = "http://example.org/dataset"
@@ -38,7 +39,7 @@ class _Options(NamedTuple):
     base: Optional[str]
     longest_line: Optional[int]
     largest_text: Optional[int]
-    blank_nodes: Optional[str]
+    blank_nodes: Optional[str]  # or "all": apart, also those of a single input
     graphs: Optional[str]
     converter: Optional[str]
 
@@ -67,16 +68,16 @@ def build(
     triples, as those of `Graph.find` or of an rdflib graph: tuples of dictionary strings, `Term`s, terms of rdflib or,
     if the predicate is in brackets, terms of N-Triples, or lines of N-Triples; or an iterable of such.
 
-    The suffix of a name, else `syntax`, says the syntax: `"ntriples"` (.nt, and any other name), `"turtle"` (.ttl),
-    `"trig"`, `"nquads"` (.nq), `"rdfxml"` (.rdf, .owl, .xml), `"jsonld"`, `"n3"`. After it may be .gz, .bz2, .xz or
-    .zst. serdi converts Turtle and TriG, rapper RDF/XML, if they are installed; else, and for the other syntaxes,
-    rdflib does. `converter` is the one to use. What a document refers to is not fetched.
+    `syntax`, else the suffix of a name, says the syntax: `"ntriples"` (.nt, and any other name), `"turtle"` (.ttl),
+    `"trig"`, `"nquads"` (.nq), `"rdfxml"` (.rdf, .owl, .xml), `"jsonld"`, `"n3"`, and, but not in a folder, `"hdt"`.
+    After it may be .gz, .bz2, .xz or .zst. serdi converts Turtle and TriG, rapper RDF/XML, if they are installed; else,
+    and for others, rdflib does. `converter` is the one to use. What a document refers to is not fetched.
 
     `base`, an absolute IRI without brackets, names the file in its header (None: http://example.org/dataset), and
     resolves relative IRIs, as the file: IRI of the input does without it. A block has `block_size` strings, 1 to 65535.
     A blank node label in several inputs is several nodes (`blank_nodes="apart"`: labels get the prefix `f0_`, `f1_` and
-    so on) or, by `"one"`, for N-Triples and N-Quads, one. A single input's labels stay, unless it is converted. Named
-    graphs are an error, unless `graphs="merge"` takes the union of all graphs.
+    so on) or, by `"one"`, for N-Triples, N-Quads and HDT, one. A single input's labels stay, unless it is converted.
+    Named graphs are an error, unless `graphs="merge"` takes the union of all graphs.
 
     Limit untrusted documents: a line of more than `longest_line` bytes, without its end, is an error (`TooLong`, in the
     column after them), as is N-Triples of more than `largest_text` bytes; at most 1 MiB after these is looked at.
@@ -86,11 +87,11 @@ def build(
     more), the program `hdt` builds the same file in about so much, without `metadata` or `header`: more slowly, with
     scratch files beside the output or in the folder `scratch`.
 
-    Errors: `LineFault` for N-Triples and N-Quads, with path and line, and for a header, `ConversionFault` for other
-    syntaxes, `NoTriples`, ValueError for options, named graphs, or an input that is the output, `NoConverter`,
-    TypeError, MemoryError, OSError, also for damaged archives, and what iterables, files and `progress` raise. The time
-    is that of sorting, and of the converter. One N-Triples file is in memory, or mapped, with what is built. Others are
-    read in pieces (by rdflib whole), and written as N-Triples to a scratch file without a name beside the output.
+    Errors: `LineFault` for N-Triples and N-Quads, with path and line, and for a header, `Fault` and `NotATerm` for HDT,
+    `ConversionFault` for other syntaxes, `NoTriples`, ValueError for options, named graphs, or an input that is the
+    output, `NoConverter`, TypeError, MemoryError, OSError, also for damaged archives, and what iterables, files and
+    `progress` raise. The time is that of sorting, and of the converter. One N-Triples file is in memory, or mapped,
+    with what is built. Others are read in pieces (HDT and by rdflib whole), and written to a scratch file as N-Triples.
 
     >>> hdt.build("graph.nt", "graph.hdt", base="http://example.org/graph")
     Counts(triples=3, shared=2, subjects=0, predicates=2, objects=1)
@@ -114,7 +115,26 @@ def build(
         return _of_ntriples(cast(Path, nt_path), output, longest_line)
     longest_of(longest_line, "")
     options = _Options(base, longest_line, largest_text, blank_nodes, graphs, converter)
-    return _of_sources(sources_of(nt_path, syntax), output, options, progress)
+    sources = sources_of(nt_path, syntax)
+    for it in sources:
+        _check_output(it.path, out_path)
+    return _of_sources(sources, output, options, progress)
+
+
+def build_of_files(
+    paths: Iterable[Path],
+    out_path: Path,
+    base: str,
+    block_size: int,
+    blank_nodes: Optional[str],
+    progress: Progress,
+    low: LowMemory,
+) -> Counts:
+    """Build the file of the triples of HDT files, of which the output may be one: what `merge` does with memory."""
+    sources = [source_of(os.fsdecode(it), HDT) for it in paths]
+    output = _Output(out_path, base, block_size, Header(None, None), low)
+    labels = "all" if blank_nodes == "apart" else "one"
+    return _of_sources(sources, output, _Options(base, None, None, labels, None, None), progress)
 
 
 class _Output(NamedTuple):
@@ -182,8 +202,6 @@ def _of_ntriples(path: Path, output: _Output, longest_line: Optional[int]) -> Co
 
 def _of_sources(sources: list[Source], output: _Output, options: _Options, progress: Progress) -> Counts:
     """Build the file of any inputs."""
-    for it in sources:
-        _check_output(it.path, output.path)
     sizes = [it.size for it in sources]
     meter = Meter(progress, None if None in sizes else sum(map(int, filter(None, sizes))))
     with closing(meter), output.scratch() as text:
@@ -211,7 +229,7 @@ class _Writer:
     def write(self, sources: list[Source]) -> int:
         """Write all inputs, and return the bytes."""
         having: list[tuple[Source, bool]] = []  # the inputs that have blank nodes, and whether they were converted
-        is_apart = len(sources) > 1 and self._options.blank_nodes != "one"
+        is_apart = len(sources) > 1 and self._options.blank_nodes != "one" or self._options.blank_nodes == "all"
         for number, source in enumerate(sources):
             conversion = self._conversion(source)
             prefix = b"f%d_" % number if is_apart else b""
@@ -227,7 +245,7 @@ class _Writer:
 
     def _conversion(self, source: Source) -> Optional[Conversion]:
         """How an input is converted, or None if it needs no converter."""
-        if source.syntax in (NTRIPLES, NQUADS):
+        if source.syntax in (NTRIPLES, NQUADS, HDT):
             return None
         converter = converter_of(source.syntax, self._options.converter, source.title())
         base = self._options.base or source.base()
@@ -284,6 +302,9 @@ def _blocks(
     """The N-Triples of an input, in blocks of whole lines."""
     if conversion is not None:
         yield from conversion.blocks(pieces, graphs, longest)
+    elif source.syntax == HDT:
+        with closing(dumped(pieces, source.name)) as lines:
+            yield from blocks_of(lines, longest)
     elif source.syntax == NQUADS:
         yield from graphs.triples(blocks_of(pieces, longest))
     else:

@@ -50,7 +50,7 @@ class LineFault(ValueError, metaclass=Documented):
     `reason` is the number of its first error in docs/NTRIPLES.md, `name` that reason's name; `line` and `column` say
     where it is, both from 1. Columns count bytes. `path` is that of the text, None for bytes.
 
-    >>> hdt.build("graph.hdt", "other.hdt")
+    >>> hdt.build("graph.hdt", "other.hdt", syntax="nt")
     Traceback (most recent call last):
     hdt.LineFault: graph.hdt: line 1 column 1: 1 Syntax
     """
@@ -83,17 +83,20 @@ class NoTriples(ValueError, metaclass=Documented):
 class NotATerm(ValueError, metaclass=Documented):
     """A string of a graph that has no form in N-Triples: the one with this `number`, its ID, in this `role`.
 
+    `path` is that of the file, if a call was given several.
+
     >>> print(hdt.NotATerm("object", 3))
     object 3 is not a term
     """
 
-    def __init__(self, role: str, number: int) -> None:
+    def __init__(self, role: str, number: int, path: Optional[str] = None) -> None:
         self.role = role
         self.number = number
-        super().__init__(f"{role} {number} is not a term")
+        self.path = path
+        super().__init__(_of(path, f"{role} {number} is not a term"))
 
-    def __reduce__(self) -> tuple[type, tuple[str, int]]:
-        return type(self), (self.role, self.number)
+    def __reduce__(self) -> tuple[type, tuple[Any, ...]]:
+        return type(self), (self.role, self.number, self.path)
 
 
 class ConversionFault(ValueError, metaclass=Documented):

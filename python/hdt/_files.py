@@ -227,10 +227,9 @@ def rewrite(
 
     `block_size` is 16 if it is None. With `header`, N-Triples about the graph as those of `metadata`, only the header
     is replaced, by this text as it is, which may be empty: there can be no block size, and all other bytes stay, but
-    for the header's length and the CRC over it. The output is replaced atomically; both paths may be the same.
-
-    Errors: `Fault`; `LineFault`, without a path, if the header is not N-Triples; ValueError, TypeError for the block
-    size; MemoryError; OSError. The time is linear in the file, but for sorting the triples if the order of IDs changes.
+    for the header's length and the CRC over it. The output is replaced atomically; both paths may be the same. Errors:
+    `Fault`; `LineFault`, without a path, if the header is not N-Triples; ValueError, TypeError for the block size;
+    MemoryError; OSError. The time is linear in the file, but for sorting the triples if the order of IDs changes.
 
     >>> hdt.rewrite("graph.hdt", "other.hdt", block_size=4) == hdt.verify("other.hdt")
     True

@@ -6,15 +6,16 @@ import ctypes
 import os
 from collections.abc import Iterable, Iterator, Sequence
 from contextlib import ExitStack, closing, contextmanager
-from typing import Any, Optional, Union
+from typing import Any, Optional, Union, cast
 
 from . import _library
-from ._build import check_header
+from ._build import build_of_files, check_header
 from ._calls import Counts, Path, closed, counts_of, encoded
 from ._faults import NoTriples
 from ._files import _checked, replace
 from ._graph import Graph
 from ._library import Handle, Made, PlainHandle, Report, library
+from ._low_memory import LowMemory
 from ._progress import Meter, Progress
 
 
@@ -91,6 +92,8 @@ def merge(
     progress: Progress = False,
     *,
     blank_nodes: Optional[str] = None,
+    memory: Union[int, str, None] = None,
+    scratch: Optional[Path] = None,
 ) -> Counts:
     """Merge files, by their paths, and open graphs into one file of all their triples, and return its counts.
 
@@ -98,6 +101,9 @@ def merge(
     (`blank_nodes="one"`) or, by `"apart"`, several: labels get the prefix `f0_`, `f1_` and so on, also a single
     input's. `base` and `block_size` are those of `build`. The output is replaced atomically, and may be one of the
     inputs. Graphs stay open. `progress` is that of `build`, of the bytes of opened files; the merge comes after it.
+    With `memory` and `scratch`, as of `build`, inputs are paths, and the merge takes about so much, and one input at a
+    time with up to 60 MB, but more time and scratch files. It builds N-Triples: literals lose the datatype xsd:string,
+    and a string without a form there is an error, `NotATerm` or, with the line of `hdt dump`, `LineFault`.
 
     Errors: `Fault` with an input's path; ValueError for options and a closed graph; `NoTriples` without an input;
     TypeError; MemoryError; OSError; what `progress` raises. The time is linear in the inputs, with their strings
@@ -111,10 +117,12 @@ def merge(
         raise TypeError("inputs are paths and graphs, not one of them")
     if blank_nodes not in (None, "one", "apart"):
         raise ValueError('blank_nodes is "one", "apart" or None')
-    given = list(inputs)
+    given, low = list(inputs), LowMemory.of(memory, scratch)
     check_header(base, block_size)
     if not given:
         raise NoTriples("there are no inputs")
+    if low is not None:
+        return build_of_files(cast("list[Path]", given), out_path, base, block_size, blank_nodes, progress, low)
     with ExitStack() as kept, Made() as made:
         counts = merged(_opened(given, kept, progress), made, base, block_size, blank_nodes)
         replace(out_path, made.view())

@@ -14,11 +14,9 @@ def open(path: Path, copy: Optional[bool] = None) -> Graph:
     The whole file is validated first. A file under 64 MiB is read into memory, a larger one is mapped, which processes
     share; `copy=True` reads any, `copy=False` maps any. A mapped file must not change while the graph is open: one that
     is cut or overwritten in place ends the process by a signal (SIGBUS). Rename a new file over it, as `build` does.
-
     Errors: `Fault`, MemoryError, OSError. Time and memory, for the indexes, are linear in the file.
 
-    >>> with hdt.open("graph.hdt") as graph:
-    ...     print(len(graph), graph.count("subject"))
+    >>> with hdt.open("graph.hdt") as graph: print(len(graph), graph.count("subject"))
     3 2
     """
     return Graph._of_file(path, copy)

@@ -3,11 +3,18 @@
 from __future__ import annotations
 
 import os
+import re
 import shutil
-from typing import NoReturn
+from collections.abc import Generator, Iterator
+from contextlib import closing
+from typing import NoReturn, Optional
 
+from ._faults import Fault, NotATerm
 from ._library import library
+from ._process import ProgramFailed, piped
 
+_FAULT = re.compile(r"hdt: fault (\d+) \w+ at (\d+)$", re.M)
+_NOT_A_TERM = re.compile(r"hdt: (\w+) (\d+) is not a term$", re.M)
 _MAGIC = b"\x7fELF"  # of a program that is no script, as that of an installed package, which would run this again
 
 
@@ -34,3 +41,24 @@ def run(words: list[str]) -> NoReturn:
     """Go on as the program, with these arguments. Raises OSError."""
     there = path()
     os.execv(there, [there, *words])
+
+
+def dumped(pieces: Iterator[bytes], name: Optional[str]) -> Generator[bytes, None, None]:
+    """The triples of an HDT file as N-Triples, in pieces: none if it has an error. The program keeps the whole file.
+
+    Raises Fault and NotATerm with the name, MemoryError, OSError, and what `pieces` raise.
+    """
+    try:
+        with closing(piped([path(), "dump", "-"], pieces)) as found:
+            yield from found
+    except ProgramFailed as error:
+        raise _error(error, name) from None
+
+
+def _error(error: ProgramFailed, name: Optional[str]) -> Exception:
+    """The exception for a dump that failed."""
+    if fault := _FAULT.match(error.said):
+        return Fault(int(fault[1]), int(fault[2]), name)
+    if string := _NOT_A_TERM.match(error.said):
+        return NotATerm(string[1], int(string[2]), name)
+    return MemoryError() if error.status == 4 else ChildProcessError(f"{error}: {error.first_line()}")

@@ -13,12 +13,13 @@ from ._calls import Path
 from ._compressed import PIECE, decompressed, pieces_of, suffix_by, suffix_of
 from ._progress import Meter
 from ._quads import Graphs
-from ._syntaxes import NTRIPLES, SUFFIXES, syntax_of, without_compression
+from ._syntaxes import HDT, NTRIPLES, SUFFIXES, syntax_of, without_compression
 from ._triples import first_of, is_statement, is_triple, text_of
 
 # One input: a path of a file or a folder, a binary file that is open, or triples. Or several of these.
 Input = Union[Path, BinaryIO, Iterable[Any]]
 _MOST = 100_000  # inputs
+_IN_FOLDERS = [suffix for suffix, syntax in SUFFIXES.items() if syntax != HDT]  # (that may be what was built of it)
 
 
 class Source(NamedTuple):
@@ -97,6 +98,12 @@ def _each(given: Any) -> Iterator[Any]:
         yield from items
 
 
+def source_of(name: str, syntax: str) -> Source:
+    """The source of a file. Raises OSError."""
+    there = os.stat(name)
+    return Source(name, syntax, there.st_size if stat.S_ISREG(there.st_mode) else None, path=name)
+
+
 def _sources(it: Any, syntax: Optional[str]) -> Iterator[Source]:
     """The sources of one input."""
     if _is_path(it) and not is_statement(it):
@@ -104,9 +111,7 @@ def _sources(it: Any, syntax: Optional[str]) -> Iterator[Source]:
         if os.path.isdir(name):
             yield from _of_folder(name, syntax)
             return
-        there = os.stat(name)
-        size = there.st_size if stat.S_ISREG(there.st_mode) else None
-        yield Source(name, syntax or syntax_of(name) or NTRIPLES, size, path=name)
+        yield source_of(name, syntax or syntax_of(name) or NTRIPLES)
     elif hasattr(it, "read"):
         given = getattr(it, "name", None)
         named = given if isinstance(given, str) and not given.startswith("<") else None
@@ -126,10 +131,10 @@ def _of_folder(name: str, syntax: Optional[str]) -> Iterator[Source]:
         os.path.join(folder, each)
         for folder, _, names in os.walk(name, onerror=_raise)
         for each in names
-        if syntax_of(each) and not each.startswith(".")
+        if syntax_of(each) not in (None, HDT) and not each.startswith(".")
     )
     if not found:
-        raise ValueError(f"{name}: no file in this folder has a name that ends with {', '.join(SUFFIXES)}")
+        raise ValueError(f"{name}: no file in this folder has a name that ends with {', '.join(_IN_FOLDERS)}")
     for path in found:
         for source in _sources(path, syntax):
             if source.size is None:  # (a pipe could hold this up for ever)

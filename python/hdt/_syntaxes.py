@@ -8,14 +8,15 @@ from typing import Optional
 from ._compressed import suffix_of
 
 NTRIPLES, TURTLE, TRIG, NQUADS, RDFXML, JSONLD, N3 = "ntriples", "turtle", "trig", "nquads", "rdfxml", "jsonld", "n3"
+HDT = "hdt"
 
 TITLES = {
     NTRIPLES: "N-Triples", TURTLE: "Turtle", TRIG: "TriG", NQUADS: "N-Quads", RDFXML: "RDF/XML", JSONLD: "JSON-LD",
-    N3: "Notation3",
+    N3: "Notation3", HDT: "HDT",
 }  # fmt: skip
 SUFFIXES = {
     ".nt": NTRIPLES, ".ttl": TURTLE, ".trig": TRIG, ".nq": NQUADS, ".rdf": RDFXML, ".owl": RDFXML, ".xml": RDFXML,
-    ".jsonld": JSONLD, ".n3": N3,
+    ".jsonld": JSONLD, ".n3": N3, ".hdt": HDT,
 }  # fmt: skip
 
 

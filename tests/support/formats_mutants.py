@@ -9,12 +9,14 @@ from support.package_mutants import judge
 FORMATS, HOSTILE, TRIPLES = "tests/test_formats.py", "tests/test_formats_hostile.py", "tests/test_formats_triples.py"
 COMMAND, COMPAT, INSTALL = "tests/test_formats_command.py", "tests/test_compat.py", "tests/test_install.py"
 HEADER, MEMORY = "tests/test_header_python.py", "tests/test_python_build_memory.py"
+MERGE = "tests/test_python_merge_memory.py"
 ORDERS = {
     "_triples": [TRIPLES, FORMATS], "_process": [HOSTILE, FORMATS], "_compressed": [HOSTILE, FORMATS],
-    "__main__": [COMMAND], "_program": [COMMAND], "compat": [COMPAT],
+    "__main__": [COMMAND], "_program": [MERGE, COMMAND], "compat": [COMPAT],
     "_blocks": [FORMATS, HOSTILE, "tests/test_parts.py", "tests/test_parts_hostile.py"],
-    "_mapped": ["tests/test_parts.py", FORMATS], "_build": [HEADER, FORMATS, HOSTILE, TRIPLES], "_metadata": [HEADER],
-    "_about": [HEADER], "_low_memory": [MEMORY], "_files": [MEMORY],
+    "_mapped": ["tests/test_parts.py", FORMATS], "_build": [HEADER, FORMATS, HOSTILE, TRIPLES, MERGE],
+    "_metadata": [HEADER], "_about": [HEADER], "_low_memory": [MEMORY], "_files": [MEMORY], "_merging": [MERGE],
+    "_sources": [FORMATS, HOSTILE, TRIPLES, MERGE],
 }  # fmt: skip
 
 WRONG = {
@@ -82,6 +84,7 @@ WRONG = {
         ("blank nodes of the last block alone", "has_blank_nodes or found.has_blank_nodes", "found.has_blank_nodes"),
         ("no triples are a file", "        if not size:\n", "        if False:\n"),
         ("the header is that of the library", "self.header.put(made, other).view()", "made.view()"),
+        ("labels of a single input of a merge stay", ' or self._options.blank_nodes == "all"', ""),
         ("the header isn't looked at first",
          "        if header is not None:\n            header.put(made, other)\n", ""),
     ],
@@ -148,6 +151,7 @@ WRONG = {
     ],
     "_sources": [
         ("a folder has hidden files", ' and not each.startswith(".")', ""),
+        ("a folder has HDT files", "not in (None, HDT) and", "is not None and"),
         ("a folder has pipes", "if source.size is None:  #", "if False:  #"),
         ("a folder's files are in any order", "    found = sorted(\n", "    found = list(\n"),
         ("the name of GzipFile says what it gives",
@@ -185,8 +189,14 @@ WRONG = {
         ("a title of one document is lost", 'more = (*_MORE, *_METADATA, "header")', "more = _MORE"),
         ("OUT may be the header", '(*options.inputs, options.header or "-")', "options.inputs"),
     ],
+    "_merging": [
+        ("memory means nothing", "    if low is not None:\n", "    if False:\n"),
+    ],
     "_program": [
         ("a script is the program", "return file.read(len(_MAGIC)) == _MAGIC", "return True"),
+        ("a fault of an HDT file has no name", "int(fault[2]), name)", "int(fault[2]))"),
+        ("a string that is no term has no name", "int(string[2]), name)", "int(string[2]))"),
+        ("any failure of a dump is one of memory", "MemoryError() if error.status == 4 else ", "MemoryError() or "),
     ],
     "compat": [
         ("0 is an ID", "s, p, o = (it or None for it in asked)\n        found = self._graph.find_ids",

@@ -504,6 +504,10 @@ def building() -> Iterator[Request]:
         yield "build", 16, b"http://a/", 7, fails, *WRITER
     for fails in ("0", "1", "2:interrupted", "3:zero", "@170"):
         yield "build", 16, b"http://a/", *READER, 50, fails
+    for memory in (0, 300, 1 << 20):
+        yield "scratch_build", memory, 16, b"http://a/", *READER
+    yield "scratch_build", 0, 0, b"u:b", *READER
+    yield "scratch_build", 0, 16, b"u:b", 7, 50
     yield "build_fault_text", "line", 2, 13, 4
     yield "build_fault_text", "no_triples"
     yield "build_fault_text", "bad_options"
@@ -516,8 +520,10 @@ def building() -> Iterator[Request]:
     yield "file", b"<u:a> <u:p> <u:b> .\n<u:a>"
     yield "build_bytes", 16, b"http://a/", *READER
     yield "build", 16, b"http://a/", *READER, *WRITER
+    yield "scratch_build", 0, 16, b"http://a/", *READER
     yield "file", b"# nothing"
     yield "build_bytes", 16, b"http://a/", *READER
+    yield "scratch_build", 0, 16, b"http://a/", *READER
 
 
 def large_building() -> Iterator[Request]:
@@ -526,6 +532,7 @@ def large_building() -> Iterator[Request]:
     yield "build_bytes", 16, b"http://a/", 4_096, "-"
     yield "build", 65_535, b"http://a/", 4_096, "-", 1_000, "-"
     yield "build_bytes", 16, b"u:" + LARGE, 4_096, "-"
+    yield "scratch_build", 300_000, 16, b"http://a/", 4_096, "-"
 
 
 def rewriting() -> Iterator[Request]:

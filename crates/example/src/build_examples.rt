@@ -1,7 +1,7 @@
 //! The examples in the documentation of hdt_build.
 
 use crate::example_fault::ExampleFault;
-use hdt_build::{Merger, Options, build_bytes, merge_bytes, rewrite_bytes};
+use hdt_build::{Merger, Options, build_bytes, merge_bytes, rewrite_bytes, with_header};
 use hdt_file::{Graph, open};
 use hdt_wire::Counted;
 use std::alloc::Global;
@@ -73,4 +73,17 @@ pub(crate) fn merger_example(
     let merger = merger.with(alloc, &new)?;
     let (merged, report) = merger.finish(alloc, &options)?;
     Ok((merged, report.triples))
+}
+
+/// Of `with_header`.
+pub(crate) fn with_header_example(
+    alloc: Global,
+    bytes: &[u8],
+) -> Result<(Vec<u8>, u64), ExampleFault> {
+    let (described, report) = with_header(
+        alloc,
+        bytes,
+        b"<http://a/> <http://purl.org/dc/terms/title> \"A\" .\n",
+    )?;
+    Ok((described, report.bytes))
 }

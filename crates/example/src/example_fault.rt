@@ -1,6 +1,6 @@
 //! The errors of the examples.
 
-use hdt_build::{BuildFault, MergeFault, RewriteFault};
+use hdt_build::{BuildFault, HeaderFault, MergeFault, RewriteFault};
 use hdt_file::{DumpFault, OpenFault};
 use hdt_front::ReadFault;
 use hdt_terms::{LineFault, StringFault, TermFault};
@@ -29,6 +29,8 @@ pub(crate) enum ExampleFault {
     Rewrite(#[from] RewriteFault),
     #[error("{0}")]
     Merge(#[from] MergeFault),
+    #[error("{0}")]
+    Header(#[from] HeaderFault),
     #[error("{0}")]
     Term(#[from] TermFault),
     #[error("{0}")]

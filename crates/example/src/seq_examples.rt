@@ -1,7 +1,7 @@
 //! The examples in the documentation of hdt_seq.
 
 use crate::example_fault::ExampleFault;
-use hdt_seq::{Bits, Directory, Numbers, Steps};
+use hdt_seq::{Bits, Directory, Numbers, SequenceWriter, Steps};
 use std::alloc::Global;
 
 /// Of the crate.
@@ -51,4 +51,14 @@ pub(crate) fn directory_example(
         positions.push(last)?;
     }
     Ok(next)
+}
+
+/// Of `SequenceWriter`.
+pub(crate) fn sequence_writer_example(alloc: Global) -> Result<Vec<u8>, ExampleFault> {
+    let mut out = Vec::new(alloc);
+    let mut writer = SequenceWriter::numbers(2, 7, &mut out)?;
+    writer.push(5, &mut out)?;
+    writer.push(100, &mut out)?;
+    writer.finish(&mut out)?;
+    Ok(out)
 }

@@ -6,7 +6,7 @@ use Rattle.std.proofs.lemmas.List.Elements.{All-append}
 use Rattle.std.proofs.lemmas.Str.{IsUtf8-append, IsUtf8-from_ascii}
 use Rattle.hdt_dict.specs.Strings.{IsDictionaryString}
 use Rattle.hdt_wire.specs.Control.{HasNoZero}
-use Rattle.hdt_build.specs.Relabelling.{label_prefix}
+use Rattle.hdt_build.specs.Relabelling.{apart_prefix}
 
 digit : (n : ℕ) → HasNoZero ((48 + n) ∷ [])
 digit n zero d lt is = absurd (omega (arith, is))
@@ -17,7 +17,7 @@ no_zero_digits = decimal_by_steps (λ n ds. HasNoZero ds) (λ n small. digit n)
     (λ n ds large h. All-append (λ b. b ≢ 0) ds ((48 + n % 10) ∷ []) h (digit (n % 10)))
 
 -- the prefix is UTF-8 without zero bytes
-pub prefix_text : (n : ℕ) → n < 2 ^ 64 → IsDictionaryString (label_prefix n)
+pub prefix_text : (n : ℕ) → n < 2 ^ 64 → IsDictionaryString (apart_prefix n)
 prefix_text n small = record {
   utf8 = IsUtf8-append (codes "f" ++ decimal n) (codes "_") (IsUtf8-append (codes "f") (decimal n)
       (IsUtf8-from_ascii (codes "f") (search rules)) (IsUtf8-from_ascii (decimal n) (IsAscii-decimal n small)))

@@ -4,6 +4,7 @@ pub mod Denoting
 pub mod Distinct
 pub mod Equal
 pub mod Heads
+pub mod LabelPrefixes
 pub mod Layouts
 pub mod NoTriples
 pub mod OneDocument

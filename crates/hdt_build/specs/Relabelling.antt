@@ -5,8 +5,8 @@ use Rattle.hdt_terms.specs.Split.{prefix_label}
 use Rattle.hdt_file.specs.Denoted.{StringTriple}
 
 -- the prefix for the document or graph with this number, from 0, of several whose nodes are kept apart
-abbrev pub label_prefix : ℕ → List ℕ
-label_prefix n = codes "f" ++ decimal n ++ codes "_"
+abbrev pub apart_prefix : ℕ → List ℕ
+apart_prefix n = codes "f" ++ decimal n ++ codes "_"
 
 -- Whether the string begins with U+005F and U+003A, as those of blank nodes do, and those of no other terms.
 abbrev pub has_label : List ℕ → Bool

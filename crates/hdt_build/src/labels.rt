@@ -2,7 +2,7 @@
 ghost use Rattle.std.specs.Prelude.{◌≡◌, ◌||◌, IfOk};
 ghost use Rattle.hdt_dict.specs.Strings.{IsDictionaryString};
 ghost use Rattle.hdt_terms.specs.Split.{is_blank_string, prefix_label};
-ghost use Rattle.hdt_build.specs.Relabelling.{has_label, label_prefix};
+ghost use Rattle.hdt_build.specs.Relabelling.{has_label, apart_prefix};
 
 use std::alloc::{AllocError, Global};
 
@@ -60,8 +60,8 @@ pub(crate) fn with_prefix(
 /// # Errors
 ///
 /// Out of memory.
-pub fn label_prefix(alloc: Global, number: u64) -> Result<Vec<u8>, AllocError>
-    ensures is { IfOk result (λ prefix. prefix.items ≡ label_prefix number) }
+pub fn apart_prefix(alloc: Global, number: u64) -> Result<Vec<u8>, AllocError>
+    ensures is { IfOk result (λ prefix. prefix.items ≡ apart_prefix number) }
     ensures text { IfOk result (λ prefix. IsDictionaryString prefix.items) }
 {
     Ok(format!(in alloc; "f{number}_")?.into_bytes())

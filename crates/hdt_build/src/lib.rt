@@ -17,8 +17,8 @@
 //! [`rewrite`] writes the canonical file of the triples of a graph, with its header body. [`is_canonical`] says whether
 //! a file is the one that `rewrite` makes of it. [`DocumentBuilder`] builds one file of several documents. [`merge`]
 //! writes the canonical file of all triples of several graphs; [`Merger`] takes them one after another.
-//! [`label_prefix`] is what keeps the blank nodes of several inputs apart. [`with_header`] replaces the header of a file
-//! and nothing else.
+//! [`apart_prefix`] keeps the blank nodes of several inputs apart. [`with_header`] replaces the header of a file and
+//! nothing else.
 //!
 //! Modules, in reading order. Building: `options` and `fault`; `interner`, the list of strings; `queue` and
 //! `collector`, triples as indices of strings; `labels`, blank nodes; `reading`, the lines of the input;
@@ -31,11 +31,11 @@
 //! `tournament`, the strings of all runs in order, each once; `packed_triples`, triples as bytes; `merged_triples`,
 //! those of graphs, with new IDs; `sorted_runs` and `triple_merging`, the triples in order, each once; `merging`.
 //! `new_header`: replacing a header. Building with scratch: `scratch`; `chunks`, `byte_tape`, `number_tape`,
-//! `string_tape` and `triple_tape`, lists on it; `batches`, the strings and triples of the lines, as runs; `section_tape`
-//! (with `ghost_strings`), `four_sections` and `grouped_sections`, the sections; `record_merging`, the strings of all
-//! runs; `distribution`, their IDs; `triple_runs`, `tape_merging` and `batch_encoding`, the triples; `triple_cursor`,
-//! `triple_entries`, `entry_writer` and `scratch_sequences`, their sequences; `output` and `batch_file`, the file;
-//! `scratch_building`. `laws`: properties of all this.
+//! `string_tape` and `triple_tape`, lists on it; `batches`, the strings and triples of the lines, as runs;
+//! `section_tape` (with `ghost_strings`), `four_sections` and `grouped_sections`, the sections; `record_merging`, the
+//! strings of all runs; `distribution`, their IDs; `triple_runs`, `tape_merging` and `batch_encoding`, the triples;
+//! `triple_cursor`, `triple_entries`, `entry_writer` and `scratch_sequences`, their sequences; `output` and
+//! `batch_file`, the file; `scratch_building`. `laws`: properties of all this.
 #![tactic(auto)]
 
 mod batch_encoding;
@@ -105,7 +105,7 @@ pub use building::{build, build_bytes};
 pub use canonical::{is_canonical, layout_is_canonical};
 pub use documents::DocumentBuilder;
 pub use fault::{BuildFault, HeaderFault, MergeFault, RewriteFault, ScratchFault};
-pub use labels::label_prefix;
+pub use labels::apart_prefix;
 pub use laws::{
     canonical_files_are_layouts, equal_graphs_equal_files, merging_is_a_union, merging_is_building,
     no_triples_is_reported, one_canonical_file, one_document, relabelling_keeps_the_order,

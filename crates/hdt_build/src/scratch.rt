@@ -39,7 +39,7 @@ pub struct MemoryScratch {
 impl MemoryScratch {
     /// Scratch without chunks.
     pub fn new(alloc: Global) -> MemoryScratch
-        ensures { MemoryScratch.chunks result ≡ [] }
+        ensures { result.chunks.items ≡ [] }
     {
         MemoryScratch {
             alloc,

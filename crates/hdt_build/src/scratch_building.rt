@@ -65,9 +65,10 @@ impl<S: Scratch + Drop> Collector for LimitedBatches<S> {
     }
 }
 
-/// The length of a chunk of scratch in bytes, given the memory.
+/// The length of a chunk of scratch in bytes, given the memory. Each chunk has an entry in a table in memory, and each
+/// batch that is read has a chunk there: with these lengths both take little.
 fn chunk_len(memory: usize) -> usize {
-    (memory / 4096).clamp(16, 1_048_576)
+    (memory / 1024).clamp(16, 16_384)
 }
 
 /// Builds the file of N-Triples documents that are added one after another, as

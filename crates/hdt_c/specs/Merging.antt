@@ -6,7 +6,7 @@ use Rattle.hdt_file.specs.Graph.{graph_view}
 use Rattle.hdt_file.specs.declared.graph.Graph.{Graph}
 use Rattle.hdt_build.specs.Built.{IsBuilt}
 use Rattle.hdt_build.specs.Layouts.{denoted_by}
-use Rattle.hdt_build.specs.Relabelling.{label_prefix, relabelled_triples}
+use Rattle.hdt_build.specs.Relabelling.{apart_prefix, relabelled_triples}
 use Rattle.hdt_build.specs.declared.options.Options.{Options}
 use Rattle.hdt_build.specs.declared.options.Report.{Report}
 use Rattle.hdt_c.specs.Building.{AreGivenOptions, AreInvalidOptions, built_report, report_for}
@@ -37,7 +37,7 @@ triples_in hs = flat_map (λ h. triples_of_graph (graph_of h.resource.value)) hs
 
 -- What goes before the labels of the graph with this number, from 0.
 abbrev pub graph_prefix : Bool → ℕ → List ℕ
-graph_prefix true n = label_prefix n
+graph_prefix true n = apart_prefix n
 graph_prefix false n = []
 
 -- the triples of the graph of a handle, with the prefix of this number before its labels

@@ -17,7 +17,7 @@ use crate::handle::{HdtGraph, graph_ref};
 use crate::report::HdtReport;
 use crate::text::IS_CLOSED;
 use crate::verdict::{BAD_OPTIONS, OUT_OF_MEMORY};
-use hdt_build::{MergeFault, Merger, Options, Report, label_prefix};
+use hdt_build::{MergeFault, Merger, Options, Report, apart_prefix};
 use std::alloc::{AllocError, Global};
 
 /// Whether all handles are open.
@@ -39,7 +39,7 @@ fn graph_prefix(alloc: Global, apart: bool, number: u64) -> Result<Vec<u8>, Allo
     ensures text { IfOk result (λ prefix. IsDictionaryString prefix.items) }
 {
     if apart {
-        label_prefix(alloc, number)
+        apart_prefix(alloc, number)
     } else {
         Ok(Vec::new(alloc))
     }

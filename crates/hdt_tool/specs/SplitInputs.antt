@@ -1,6 +1,6 @@
 -- Splitting several documents: what the writers of the parts have gained.
 use Rattle.std.specs.Prelude.{◌≡◌, ◌+◌, ◌⊎◌, ℕ, Bool, true, false, List, [], ◌∷◌, Option, None, Some}
-use Rattle.hdt_build.specs.Relabelling.{label_prefix}
+use Rattle.hdt_build.specs.Relabelling.{apart_prefix}
 use Rattle.hdt_terms.specs.Split.{SplitsInput, SplitsUntilFault}
 use Rattle.hdt_terms.specs.declared.split.SplitReport.{SplitReport}
 use Rattle.hdt_tool.specs.Changes.{Update, update}
@@ -11,7 +11,7 @@ use Rattle.hdt_tool.specs.declared.splitting.SplitInputsFault.TheVariants as sto
 
 -- What goes before the labels of the input with this number, from 0.
 abbrev pub input_prefix : Option BlankNodes → ℕ → List ℕ
-input_prefix (Some blank.Apart) n = label_prefix n
+input_prefix (Some blank.Apart) n = apart_prefix n
 input_prefix (Some blank.One) n = []
 input_prefix None n = []
 

@@ -266,8 +266,8 @@ fn scratch_parent(
 }
 
 /// Runs `build` with `--memory`, and returns the status. It makes scratch files in a new folder, which is gone at the
-/// end. All documents are read before OUT is opened. (Contracts cannot describe the file system; tests/test_build_memory.py
-/// checks this.)
+/// end. All documents are read before OUT is opened. (Contracts cannot describe the file system;
+/// tests/test_build_memory_outputs.py and tests/test_build_memory_failures.py check this.)
 pub(crate) fn run_scratch_build(
     rt: &HostRuntime,
     source: ErrorSource<'_>,

@@ -1,5 +1,5 @@
 //! Scratch files: what a build with little memory keeps on disk. (Contracts cannot describe the file system;
-//! tests/test_scratch.py checks this.)
+//! tests/test_build_memory_failures.py checks this.)
 ghost use Rattle.std.specs.Prelude.{◌≡◌, ◌⊎◌};
 ghost use Rattle.hdt_tool.specs.declared.scratch_files.FileFault.TheVariants.{OutOfMemory};
 

@@ -10,7 +10,7 @@ ghost use Rattle.hdt_tool.specs.SplitInputs.{MixesBlankNodes, first_with_blank_n
 ghost use Rattle.hdt_tool.specs.declared.splitting.SplitInputsFault.TheVariants as SplitInputsFault;
 
 use crate::request::BlankNodes;
-use hdt_build::label_prefix;
+use hdt_build::apart_prefix;
 use hdt_terms::{SplitFault, split_document};
 use hdt_wire::Counted;
 use std::alloc::{AllocError, Global};
@@ -45,7 +45,7 @@ pub(crate) fn input_prefix(
     ensures text { IfOk result (λ prefix. IsDictionaryString prefix.items) }
 {
     match blank_nodes {
-        Some(BlankNodes::Apart) => label_prefix(alloc, number),
+        Some(BlankNodes::Apart) => apart_prefix(alloc, number),
         Some(BlankNodes::One) => Ok(Vec::new(alloc)),
         None => Ok(Vec::new(alloc)),
     }

@@ -257,13 +257,16 @@ of the line in it.
 With --longest-line N a line of more than N bytes, without its end, is an error, TooLong. It is
 found in the memory of a line of N bytes, however long it is.
 
-With --memory SIZE the build takes about SIZE of memory, whatever the size of the documents, and
-writes the same file, more slowly. What does not fit goes to scratch files, of some 4 times the
-size of OUT. SIZE is a number of bytes, or of KiB, MiB or GiB if K, M or G follows it: 4M or more.
-On top of SIZE come some 8 MB for the program, and several times the longest line.
-The scratch files are in a new folder, hdt-unfinished- and 16 digits, which only its owner can
-open. It is made beside OUT, or in FOLDER with --scratch FOLDER, and removed at the end, also
-after an error. If OUT is not a regular file, --scratch is needed.
+With --memory SIZE the build takes about SIZE of memory, and writes the same file, more slowly.
+SIZE is a number of bytes, or of KiB, MiB or GiB if K, M or G follows it: 4M or more. 4M is enough
+for documents of 500 MB, 64M for 30 GB, 256M for 250 GB. On top of SIZE come some 8 MB for the
+program, several times the longest line, and a string for each half SIZE of the documents.
+
+What does not fit goes to scratch files. They take some 4 times the size of OUT, or more if lines
+are repeated, but no more than twice that of the documents. They are in a new folder,
+hdt-unfinished- and 16 digits, which only its owner can open. It is made beside OUT, or in FOLDER
+with --scratch FOLDER, and removed at the end, also after an error, unless a signal ends the
+program. If OUT is not a regular file, --scratch is needed.
 
 OUT must not be an IN. OUT is replaced atomically: a temporary file in the same directory, which
 only its owner can open, is written and synced, gets OUT's permissions and group, and is renamed.

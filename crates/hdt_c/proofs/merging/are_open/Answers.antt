@@ -21,4 +21,5 @@ loop-graph-preserved c =
 
 pub returns-clause-all : goal.returns-clause-all
 returns-clause-all c = λ _. subst (λ (hs : List HdtGraph). All IsOpen hs)
-    (take_all c.loop-graph.graph-index c.args.graphs.now (omega (arith, c.loop-graph-test.false))) c.loop-graph.invariant
+    (take_all c.loop-graph.graph-index c.args.graphs.now (omega (arith, c.loop-graph-test.false)))
+    c.loop-graph.invariant
