@@ -401,3 +401,14 @@ def test_faulty_document(tmp_path: Path) -> None:
     (tmp_path / "bad.nt").write_text("<u:a> <u:p>\n")
     wanted = program.hdt("build", "bad.nt", "out.hdt", cwd=tmp_path)
     assert command(tmp_path, "bad.nt", "out.hdt", "--memory", "4M") == wanted and wanted.status == 1
+
+
+@pytest.mark.parametrize("is_scratch", [False, True])
+def test_paths_that_are_not_utf8(tmp_path: Path, is_scratch: bool) -> None:
+    """A path that the program can't be told is an error that names it; nothing is left."""
+    folder = os.fsencode(tmp_path) + b"/\xff"
+    os.mkdir(folder)
+    out, scratch = (tmp_path / "out.hdt", folder) if is_scratch else (folder + b"/out.hdt", None)
+    with pytest.raises(ValueError, match="takes paths in UTF-8"):
+        hdt.build(THREE, out, memory=LEAST, scratch=scratch)
+    assert (os.listdir(folder), os.listdir(tmp_path)) == ([], ["\udcff"])

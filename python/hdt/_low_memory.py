@@ -68,6 +68,7 @@ class LowMemory(NamedTuple):
         with ExitStack() as kept:
             folder = kept.enter_context(unfinished(self._beside(out_path), out_path))
             scratch = folder if self.scratch is None else kept.enter_context(unfinished(self.scratch, self.scratch))
+            _check_text(folder, scratch)
             made = os.path.join(folder, "out.hdt")
             words = [self.program, "build", f"--memory={self.size}", f"--scratch={scratch}", *options, "-", made]
             status, counts, said = _run(words, text)
@@ -80,6 +81,15 @@ class LowMemory(NamedTuple):
         """The folder of the output; if that is a device, the one for scratch files."""
         target, is_replaced = target_of(out_path)
         return os.path.dirname(target) if is_replaced else self.scratch or tempfile.gettempdir()
+
+
+def _check_text(*paths: str) -> None:
+    """Raises ValueError for a path that is not UTF-8, which the program takes as no argument."""
+    for path in paths:
+        try:
+            os.fsencode(path).decode()
+        except UnicodeDecodeError:
+            raise ValueError(f"a build with memory takes paths in UTF-8, not {path!r}") from None
 
 
 def _run(words: list[str], text: IO[bytes]) -> tuple[int, bytes, bytes]:
