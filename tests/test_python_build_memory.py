@@ -408,7 +408,8 @@ def test_paths_that_are_not_utf8(tmp_path: Path, is_scratch: bool) -> None:
     """A path that the program can't be told is an error that names it; nothing is left."""
     folder = os.fsencode(tmp_path) + b"/\xff"
     os.mkdir(folder)
-    out, scratch = (tmp_path / "out.hdt", folder) if is_scratch else (folder + b"/out.hdt", None)
+    out = os.fsencode(tmp_path) + b"/out.hdt" if is_scratch else folder + b"/out.hdt"
+    scratch = folder if is_scratch else None
     with pytest.raises(ValueError, match="takes paths in UTF-8"):
         hdt.build(THREE, out, memory=LEAST, scratch=scratch)
     assert (os.listdir(folder), os.listdir(tmp_path)) == ([], ["\udcff"])
