@@ -9,7 +9,8 @@ then pairs of lines 'old: TEXT' and 'new: TEXT'; the old TEXT is in that file ex
 
 A function is proved from its own body and from the contracts of those that it calls, never from their bodies. So
 mutants that change nothing but bodies, of different functions, share one copy of the crate (a tree), which is checked
-once over the work that a check of the unchanged crate left. The rules:
+once over the work that a check of the unchanged crate left. A tree of 60 mutants of hdt_tool takes 7 GB of memory,
+which is why a tree has 30 at most. The rules:
 
 - A mutant is refused by a goal of its own function: one that the prover leaves open, or whose written answer no longer
   proves it. That the function calls another one that is not proved does not count.
@@ -438,7 +439,7 @@ def words_given() -> argparse.Namespace:
     words.add_argument("--only", default="", metavar="WORD", help="the mutants whose name the regular expression finds")
     words.add_argument("--folder", default="wrong", metavar="NAME", help="the mutants of crates/CRATE/NAME (wrong)")
     words.add_argument("--jobs", type=int, default=lanes(), metavar="N", help="N checks at a time")
-    words.add_argument("--most", type=int, default=60, metavar="N", help="at most N mutants in a tree (60)")
+    words.add_argument("--most", type=int, default=30, metavar="N", help="at most N mutants in a tree (30)")
     words.add_argument("--top", type=Path, default=TOP, metavar="DIR", help="the repository (this one)")
     return words.parse_args()
 
