@@ -120,8 +120,8 @@ impl<'a> Layout<'a> {
         self.dictionary.strings(alloc, role)
     }
 
-    /// A cursor with random access to the strings of a role.
-    pub(crate) fn seeker(&self, alloc: Global, role: Role) -> RoleSeeker<'a>
+    /// Returns a cursor with random access to the strings of a role, which decodes each block once if the IDs ascend.
+    pub fn seeker(&self, alloc: Global, role: Role) -> RoleSeeker<'a>
         ensures { result ≡ role_strings (layout_view self.now).dictionary role }
     {
         self.dictionary.seeker(alloc, role)
