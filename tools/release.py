@@ -4,8 +4,8 @@
 
 It needs a clean checkout whose dist/ belongs to its sources, git, and what `make wheel` and `make deb` need. The SBOM
 is a document of SPDX 2.3 in JSON: the files of dist/, the crates that each is made of, and the libraries of the kit and
-of the system that these use. Source archive and SBOM depend on the commit alone. Nothing is signed: SHA256SUMS is what
-to sign, as SHA256SUMS.asc beside it.
+of the system that these use. All files depend on the commit alone, and packages on the versions of the tools that make
+them. Nothing is signed: SHA256SUMS is what to sign, as SHA256SUMS.asc beside it.
 """
 
 from __future__ import annotations
