@@ -10,7 +10,7 @@ pub triples-init : goal.triples-init
 triples-init g c =
     let graph = layout_view c.args.layout.now in
     record {
-      kept = record { subject = rw c.new-subject.ensures tt; predicate = rw c.new-predicate.ensures tt; object = rw c.new-object.ensures tt };
+      kept = c.new-last.ensures c.args.prefix.now graph;
       sound = c.requires;
       added = λ _. ap (λ (ts : List Triple). g.C.Collector.triples c.args.collector.now
           ++ relabelled_triples c.args.prefix.now (denoted graph ts))
