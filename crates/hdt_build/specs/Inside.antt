@@ -22,4 +22,4 @@ pub mod ScratchSequences
 pub mod ByteTapes
 pub mod SectionTapes
 pub mod TripleEntries
-pub mod CachedStrings
+pub mod WindowStrings

@@ -101,6 +101,7 @@ mod triple_runs;
 mod triple_sequences;
 mod triple_tape;
 mod triples;
+mod window_strings;
 
 pub use building::{build, build_bytes};
 pub use canonical::{is_canonical, layout_is_canonical};

@@ -176,7 +176,7 @@ impl<S: Scratch + Drop> ScratchBuilder<S> {
             batches,
             limit: memory / 2,
         };
-        collect_layout(alloc, prefix, layout, &mut limited)?;
+        collect_layout(alloc, prefix, layout, memory, &mut limited)?;
         let LimitedBatches { batches, limit: _ } = limited;
         Ok(ScratchBuilder { batches, memory })
     }
