@@ -44,6 +44,16 @@ impl<'a> RoleCursor<'a> {
         }
     }
 
+    /// Begins again if string n is before the current one.
+    fn rewind_to(&mut self, alloc: Global, layout: &Layout<'a>, role: Role, n: u64)
+        requires { IsCursorOf (layout_view layout.now) role self.old }
+        ensures { IsCursorOf (layout_view layout.now) role self.new }
+    {
+        if n < self.id {
+            *self = RoleCursor::new(alloc, layout, role);
+        }
+    }
+
     /// Goes to string n. Returns whether there is one. It decodes the strings up to it: those after the current one, or
     /// all if string n is before that.
     fn seek(
@@ -61,14 +71,12 @@ impl<'a> RoleCursor<'a> {
         if n > layout.count(role) {
             return Ok(false);
         }
-        if n < self.id {
-            *self = RoleCursor::new(alloc, layout, role);
-        }
+        self.rewind_to(alloc, layout, role, n);
         if self.id < n {
             advance_to(&mut self.strings, n)?;
             self.id = n;
         }
-        Ok(true)
+        Ok(self.id == n)
     }
 }
 
@@ -251,16 +259,20 @@ impl<'a> WindowStrings<'a> {
         ensures { OnOk result (HasWindowStrings prefix.now (layout_view layout.now) self.new) }
     {
         let mut room = max_bytes;
-        Ok(
-            self.subjects
-                .fill(alloc, prefix, layout, Role::Subject, triples, &mut room)?
-                && self
-                    .predicates
-                    .fill(alloc, prefix, layout, Role::Predicate, triples, &mut room)?
-                && self
-                    .objects
-                    .fill(alloc, prefix, layout, Role::Object, triples, &mut room)?,
-        )
+        if !self
+            .subjects
+            .fill(alloc, prefix, layout, Role::Subject, triples, &mut room)?
+        {
+            return Ok(false);
+        }
+        if !self
+            .predicates
+            .fill(alloc, prefix, layout, Role::Predicate, triples, &mut room)?
+        {
+            return Ok(false);
+        }
+        self.objects
+            .fill(alloc, prefix, layout, Role::Object, triples, &mut room)
     }
 
     /// The strings of a triple, if all of them are here. They are sought at `places` first, which become their indices.
