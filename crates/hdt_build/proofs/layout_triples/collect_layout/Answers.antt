@@ -1,0 +1,17 @@
+use Rattle.std.proofs.Common.{◌∙◌, ◌++◌, List, ap, refl}
+use Rattle.hdt_triples.specs.TripleSequences.{Triple}
+use Rattle.hdt_file.specs.Graph.{layout_view}
+use Rattle.hdt_build.specs.Inside.WindowStrings.{strings_of_triples}
+use Rattle.hdt_build.proofs.DenotedStrings.{matches_all}
+use Rattle.hdt_build.proofs.layout_triples.collect_layout.Goals as goal
+
+pub windows-init : goal.windows-init
+windows-init g c =
+    let graph = layout_view c.args.layout.now in
+    record {
+      window = c.in_ok-window.ensures c.args.prefix.now;
+      sound = c.requires;
+      added = λ _. ap (λ (ts : List Triple). g.C.Collector.triples c.args.collector.now
+          ++ strings_of_triples c.args.prefix.now graph ts)
+          (c.search-matches.ensures.items ∙ matches_all _ graph.triples refl refl refl);
+    }
