@@ -1,29 +1,11 @@
--- The strings of a window: one more; and the string triples of the windows of a list.
-use Rattle.std.proofs.Common.{◌≡◌, ℕ, ◌<◌, List, [], ◌∷◌, ◌++◌, length, length-append, get_or, map, sym, ap, ◌∙◌, subst}
-use Rattle.std.proofs.Common.{append_assoc, inl, inr, arith}
-use Rattle.std.proofs.Math.Seq.{get_or-append_seam}
-use Rattle.std.proofs.lemmas.Bool.{cases_lt}
-use Rattle.std.proofs.lemmas.List.{get_or_append_left, map-append}
+-- The string triples of a window.
+use Rattle.std.proofs.Common.{◌≡◌, ◌∙◌, ◌++◌, ℕ, List, append_assoc, ap, map, sym}
+use Rattle.std.proofs.lemmas.List.{map-append}
 use Rattle.hdt_triples.specs.TripleSequences.{Triple}
 use Rattle.hdt_file.specs.Denoted.{StringTriple, denoted, denoted_triple}
 use Rattle.hdt_file.specs.File.{GraphParts}
 use Rattle.hdt_build.specs.Inside.WindowStrings.{strings_of_triples}
 use Rattle.hdt_build.specs.Relabelling.{relabelled_triple}
-
--- what holds for each element, and for one more, holds for all
-pub each_and_one : (P : ℕ → List ℕ → Type 0) (xs ys : List (List ℕ)) (x : List ℕ) → ys ≡ xs ++ x ∷ []
-    → ((i : ℕ) → i < length xs → P i (get_or xs i [])) → P (length xs) x
-    → (i : ℕ) → i < length ys → P i (get_or ys i [])
-each_and_one P xs ys x e h one i below = elim (cases_lt i (length xs)) [
-  | inl lt ↦ subst (P i) (sym (ap (λ (l : List (List ℕ)). get_or l i []) e ∙ get_or_append_left xs (x ∷ []) [] i lt))
-      (h i lt)
-  | inr le ↦
-      let here : i ≡ length xs = omega (arith, le, below, ap length e, length-append xs (x ∷ [])) in
-      let last : get_or ys i [] ≡ x =
-      ap (λ (l : List (List ℕ)). get_or l i []) e ∙ ap (λ n. get_or (xs ++ x ∷ []) n []) here
-      ∙ get_or-append_seam xs x [] [] in
-      subst (P i) (sym last) (subst (λ n. P n x) (sym here) one)
-]
 
 -- the string triples of two lists
 both : (prefix : List ℕ) (g : GraphParts) (xs ys : List Triple)

@@ -18,14 +18,14 @@ use hdt_seq::Steps;
 use hdt_triples::Matches;
 use std::alloc::{AllocError, Global};
 
-/// The number of triples in a window, given the memory in bytes.
+/// The number of triples in a window, given the memory in bytes. Each takes at most some 100 bytes, its strings aside.
 fn window_len(memory: usize) -> usize {
-    (memory / 256).max(256)
+    (memory / 512).max(256)
 }
 
 /// The greatest number of bytes of the strings of a window, the last one aside, given the memory in bytes.
 fn max_string_bytes(memory: usize) -> usize {
-    (memory / 8).max(4096)
+    (memory / 16).max(4096)
 }
 
 /// String n of a role, with the prefix before its label. It decodes the block of the string up to the string.
@@ -156,7 +156,7 @@ fn collect_window<'a, C: Collector>(
         let (part, later) = rest.split_at(count);
         collect_part(alloc, prefix, layout, part, window, collector)?;
         rest = later;
-        most = count;
+        most = count.saturating_mul(2);
     }
     Ok(())
 }
@@ -183,9 +183,11 @@ fn take_matches(
     Ok(())
 }
 
-/// Adds the triples of a file, with the prefix before the labels of their strings, window by window. What it allocates
-/// is a part of the memory in bytes, or at most some 100 KB. After an error, drop the collector. For each window it
-/// decodes the strings of the predicates and the objects, each once; those of the subjects once in all.
+/// Adds the triples of a file, with the prefix before the labels of their strings. After an error, drop the collector.
+///
+/// It does so in windows of as many triples as fit into a third of the memory, which is in bytes. Time: for each window
+/// it decodes the predicates and the objects up to the last one that the window has, whatever the blocks are; it
+/// decodes the subjects once in all. A look-up for each string would take quadratic time in a file of large blocks.
 pub(crate) fn collect_layout<C: Collector>(
     alloc: Global,
     prefix: &[u8],

@@ -35,7 +35,8 @@
 //! `section_tape` (with `ghost_strings`), `four_sections` and `grouped_sections`, the sections; `record_merging`, the
 //! strings of all runs; `distribution`, their IDs; `triple_runs`, `tape_merging` and `batch_encoding`, the triples;
 //! `triple_cursor`, `triple_entries`, `entry_writer` and `scratch_sequences`, their sequences; `output` and
-//! `batch_file`, the file; `scratch_building`. `laws`: properties of all this.
+//! `batch_file`, the file; `window_strings` and `layout_triples`, the triples of an HDT file; `scratch_building`.
+//! `laws`: properties of all this.
 #![tactic(auto)]
 
 mod batch_encoding;

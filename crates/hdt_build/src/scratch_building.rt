@@ -150,8 +150,8 @@ impl<S: Scratch + Drop> ScratchBuilder<S> {
     /// [`Merger::with_prefix`](crate::Merger::with_prefix) does. The prefix is UTF-8 without zero bytes. With an empty
     /// one a label is the same node as in what was added before; a prefix of its own keeps the file's nodes apart. The
     /// layout is one that `Layout::read` returned (`layouts_are_graphs` of hdt_file); it is not needed after the call.
-    /// After an error the builder is dropped. Time: decoding the strings of each triple, and sorting each batch of
-    /// triples.
+    /// After an error the builder is dropped. Time: one pass over the strings of the file for each window of triples,
+    /// which has memory / 512 of them, or fewer if their strings are long; and sorting each batch of triples.
     ///
     /// # Errors
     ///
