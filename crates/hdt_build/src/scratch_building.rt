@@ -151,9 +151,9 @@ impl<S: Scratch + Drop> ScratchBuilder<S> {
     /// returned: `layouts_are_graphs` says that it is a graph. It is not needed after the call. The prefix is UTF-8
     /// without zero bytes. After an error the builder is dropped.
     ///
-    /// Time: for each triple, decoding the block of its object up to the object, and likewise the subject and the
-    /// predicate if the triple before has another one; and sorting each batch of triples. Blocks usually have 16
-    /// strings; a file whose blocks are much longer takes accordingly more time.
+    /// Time: for each triple, decoding its object, and its subject and its predicate if the triple before has others;
+    /// and sorting each batch of triples. A string is decoded with those before it in its block. Blocks usually have 16
+    /// strings; a file with much longer ones takes accordingly more time.
     ///
     /// # Errors
     ///
@@ -192,8 +192,8 @@ impl<S: Scratch + Drop> ScratchBuilder<S> {
     }
 
     /// Writes the canonical file of all triples in pieces: the one that [`DocumentBuilder`](crate::DocumentBuilder)
-    /// makes of the same documents, and [`Merger`](crate::Merger) of the same files. There must be a triple. Returns the writer and the counts of the file. After an
-    /// error what was written is no file, and the writer is dropped.
+    /// makes of the same documents, and [`Merger`](crate::Merger) of the same files. There must be a triple. Returns
+    /// the writer and the counts of the file. After an error what was written is no file, and the writer is dropped.
     ///
     /// # Errors
     ///
