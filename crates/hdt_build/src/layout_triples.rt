@@ -186,8 +186,8 @@ fn take_matches(
 /// Adds the triples of a file, with the prefix before the labels of their strings. After an error, drop the collector.
 ///
 /// It does so in windows of as many triples as fit into a third of the memory, which is in bytes. Time: for each window
-/// it decodes the predicates and the objects up to the last one that the window has, whatever the blocks are; it
-/// decodes the subjects once in all. A look-up for each string would take quadratic time in a file of large blocks.
+/// it decodes the predicates and the objects up to the last one that the window has; it decodes the subjects once in
+/// all, unless windows are halved. Look-ups of each string would take quadratic time in a file with a large block.
 pub(crate) fn collect_layout<C: Collector>(
     alloc: Global,
     prefix: &[u8],

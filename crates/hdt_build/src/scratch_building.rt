@@ -152,8 +152,8 @@ impl<S: Scratch + Drop> ScratchBuilder<S> {
     /// without zero bytes. After an error the builder is dropped.
     ///
     /// Time: the triples are read in windows of memory / 512 triples, or fewer if their strings are long. For each
-    /// window the strings of the predicates and of the objects are decoded up to the last one that it has, each once;
-    /// those of the subjects once in all. Each batch of triples is sorted.
+    /// window the predicates and the objects are decoded, each once, up to the last one that it has; the subjects are
+    /// decoded once in all, unless strings are long. Each batch of triples is sorted.
     ///
     /// # Errors
     ///

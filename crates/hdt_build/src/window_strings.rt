@@ -224,8 +224,8 @@ impl Places {
 }
 
 /// The strings of the triples of a window, with a prefix before their labels, each decoded once. Between windows it
-/// keeps its memory, and its place in the strings of each role: the subjects of a file ascend, so those of all windows
-/// are one pass.
+/// keeps its memory, and its place in the strings of each role: the subjects of a file ascend, so windows that follow
+/// one another take one pass over them.
 #[derive(Drop)]
 pub(crate) struct WindowStrings<'a> {
     subjects: RoleStrings<'a>,
