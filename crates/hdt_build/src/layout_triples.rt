@@ -18,9 +18,12 @@ use hdt_seq::Steps;
 use hdt_triples::Matches;
 use std::alloc::{AllocError, Global};
 
+/// The greatest number of triples in a window.
+const MAX_WINDOW_LEN: usize = 1_048_576;
+
 /// The number of triples in a window, given the memory in bytes. Each takes at most some 100 bytes, its strings aside.
 fn window_len(memory: usize) -> usize {
-    (memory / 512).max(256)
+    (memory / 512).clamp(256, MAX_WINDOW_LEN)
 }
 
 /// The greatest number of bytes of the strings of a window, the last one aside, given the memory in bytes.
@@ -50,7 +53,7 @@ fn collect_triple<C: Collector>(
     prefix: &[u8],
     layout: &Layout<'_>,
     triple: (u64, u64, u64),
-    window: &WindowStrings<'_>,
+    window: &WindowStrings,
     places: &mut Places,
     collector: &mut C,
 ) -> Result<(), ScratchFault<C::Error>>
@@ -77,7 +80,7 @@ fn collect_part<C: Collector>(
     prefix: &[u8],
     layout: &Layout<'_>,
     triples: &[(u64, u64, u64)],
-    window: &WindowStrings<'_>,
+    window: &WindowStrings,
     collector: &mut C,
 ) -> Result<(), ScratchFault<C::Error>>
     requires window { HasWindowStrings prefix.now (layout_view layout.now) window.now }
@@ -106,14 +109,14 @@ fn collect_part<C: Collector>(
 
 /// Fills a window with the strings of the first `most` triples, or of all of them, or of half as many until they fit.
 /// Returns how many triples these are: if only one is left, without its strings.
-fn fill_first<'a>(
+fn fill_first(
     alloc: Global,
     prefix: &[u8],
-    layout: &Layout<'a>,
+    layout: &Layout<'_>,
     triples: &[(u64, u64, u64)],
     most: usize,
     max_bytes: usize,
-    window: &mut WindowStrings<'a>,
+    window: &mut WindowStrings,
 ) -> Result<usize, AllocError>
     requires some { 0 < length triples.now }
     requires window { HasWindowStrings prefix.now (layout_view layout.now) window.old }
@@ -132,13 +135,13 @@ fn fill_first<'a>(
 }
 
 /// Adds the triples of a window, in parts if their strings take too much memory. After an error, drop the collector.
-fn collect_window<'a, C: Collector>(
+fn collect_window<C: Collector>(
     alloc: Global,
     prefix: &[u8],
-    layout: &Layout<'a>,
+    layout: &Layout<'_>,
     triples: &[(u64, u64, u64)],
     max_bytes: usize,
-    window: &mut WindowStrings<'a>,
+    window: &mut WindowStrings,
     collector: &mut C,
 ) -> Result<(), ScratchFault<C::Error>>
     requires window { HasWindowStrings prefix.now (layout_view layout.now) window.old }
@@ -186,8 +189,8 @@ fn take_matches(
 /// Adds the triples of a file, with the prefix before the labels of their strings. After an error, drop the collector.
 ///
 /// It does so in windows of as many triples as fit into a third of the memory, which is in bytes. Time: for each window
-/// it decodes the predicates and the objects up to the last one that the window has; it decodes the subjects once in
-/// all, unless windows are halved. Look-ups of each string would take quadratic time in a file with a large block.
+/// it decodes the blocks that its strings are in, each once. Look-ups of each string would take quadratic time in a file
+/// with a large block.
 pub(crate) fn collect_layout<C: Collector>(
     alloc: Global,
     prefix: &[u8],
@@ -203,7 +206,7 @@ pub(crate) fn collect_layout<C: Collector>(
 {
     let most = window_len(memory);
     let max_bytes = max_string_bytes(memory);
-    let mut window = WindowStrings::new(alloc, layout)?;
+    let mut window = WindowStrings::new(alloc)?;
     let mut triples = Vec::new(alloc);
     let mut matches = layout.search(ANY);
     'windows: while let Some(first) = matches.next() {

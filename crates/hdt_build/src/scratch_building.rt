@@ -151,9 +151,9 @@ impl<S: Scratch + Drop> ScratchBuilder<S> {
     /// returned: `layouts_are_graphs` says that it is a graph. It is not needed after the call. The prefix is UTF-8
     /// without zero bytes. After an error the builder is dropped.
     ///
-    /// Time: the triples are read in windows of memory / 512 triples, or fewer if their strings are long. For each
-    /// window the predicates and the objects are decoded, each once, up to the last one that it has; the subjects are
-    /// decoded once in all, unless strings are long. Each batch of triples is sorted.
+    /// Time: the triples are read in windows of at most memory / 512 triples, or fewer if their strings are long. For
+    /// each window the blocks that its strings are in are decoded, each once, and its IDs are sorted; so a window takes
+    /// at most the time of decoding all strings. Each batch of triples is sorted.
     ///
     /// # Errors
     ///

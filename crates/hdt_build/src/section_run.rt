@@ -26,7 +26,7 @@ pub(crate) struct SectionRun<'a> {
 }
 
 /// Advances to the string with a greater ID; returns a lower bound of its common prefix with the previous one.
-pub(crate) fn advance_to(strings: &mut RoleIter<'_>, id: u64) -> Result<usize, AllocError>
+fn advance_to(strings: &mut RoleIter<'_>, id: u64) -> Result<usize, AllocError>
     requires { strings.old.given < id }
     ensures progress { OnOk result ((all : List (List ℕ)) → IsProgressOf all strings.old → id ≤ length all
         → IsAfterString all id strings.new) }

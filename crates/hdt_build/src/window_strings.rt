@@ -1,16 +1,17 @@
 //! The strings of a window of a file's triples.
-ghost use Rattle.std.specs.Prelude.{◌≡◌, [], List, ℕ, IfOk, IfSome, IsTrue, OnOk};
+ghost use Rattle.std.specs.Prelude.{◌≡◌, [], List, ℕ, IfOk, IfSome, OnOk};
+ghost use Rattle.std.specs.Option.{unwrap_or};
+ghost use Rattle.hdt_dict.specs.Ids.{string_at_id};
 ghost use Rattle.hdt_file.specs.Denoted.{string_of};
 ghost use Rattle.hdt_file.specs.File.{GraphParts};
 ghost use Rattle.hdt_file.specs.Graph.{layout_view};
 ghost use Rattle.hdt_wire.specs.declared.Role.{Role};
 ghost use Rattle.hdt_build.specs.Inside.WindowStrings.{AreStringsOfIds, AreStringsOfTriple, HasRoleStrings};
-ghost use Rattle.hdt_build.specs.Inside.WindowStrings.{HasWindowStrings, IsCursorOf};
+ghost use Rattle.hdt_build.specs.Inside.WindowStrings.{HasWindowStrings};
 ghost use Rattle.hdt_build.specs.Relabelling.{relabelled};
 
 use crate::labels::{has_label, with_prefix};
-use crate::section_run::advance_to;
-use hdt_dict::{Arena, Role, RoleIter};
+use hdt_dict::{Arena, Role, RoleSeeker};
 use hdt_file::Layout;
 use std::alloc::{AllocError, Global};
 
@@ -26,58 +27,14 @@ pub(crate) fn relabel(alloc: Global, prefix: &[u8], string: &mut Vec<u8>) -> Res
     Ok(())
 }
 
-/// A cursor over the strings of a role.
-#[derive(Drop)]
-struct RoleCursor<'a> {
-    strings: RoleIter<'a>,
-    /// The ID of the current string; 0 before the first one.
-    id: u64,
-}
-
-impl<'a> RoleCursor<'a> {
-    fn new(alloc: Global, layout: &Layout<'a>, role: Role) -> RoleCursor<'a>
-        ensures { IsCursorOf (layout_view layout.now) role result }
-    {
-        RoleCursor {
-            strings: layout.strings(alloc, role),
-            id: 0,
-        }
-    }
-
-    /// Begins again if string n is before the current one.
-    fn rewind_to(&mut self, alloc: Global, layout: &Layout<'a>, role: Role, n: u64)
-        requires { IsCursorOf (layout_view layout.now) role self.old }
-        ensures { IsCursorOf (layout_view layout.now) role self.new }
-    {
-        if n < self.id {
-            *self = RoleCursor::new(alloc, layout, role);
-        }
-    }
-
-    /// Goes to string n. Returns whether there is one. It decodes the strings up to it: those after the current one, or
-    /// all if string n is before that.
-    fn seek(
-        &mut self,
-        alloc: Global,
-        layout: &Layout<'a>,
-        role: Role,
-        n: u64,
-    ) -> Result<bool, AllocError>
-        requires { IsCursorOf (layout_view layout.now) role self.old }
-        ensures kept { OnOk result (IsCursorOf (layout_view layout.now) role self.new) }
-        ensures found { IfOk result (λ found. IsTrue found
-            → self.new.strings.last ≡ string_of (layout_view layout.now) role n) }
-    {
-        if n > layout.count(role) {
-            return Ok(false);
-        }
-        self.rewind_to(alloc, layout, role, n);
-        if self.id < n {
-            advance_to(&mut self.strings, n)?;
-            self.id = n;
-        }
-        Ok(self.id == n)
-    }
+/// Replaces `out` by string n of a role, or by nothing if there is none.
+fn put_string(strings: &mut RoleSeeker<'_>, n: u64, out: &mut Vec<u8>) -> Result<(), AllocError>
+    ensures same { strings.new ≡ strings.old }
+    ensures ok { OnOk result (out.new.items ≡ unwrap_or (string_at_id strings.old n) []) }
+{
+    out.clear();
+    strings.append_string(n, out)?;
+    Ok(())
 }
 
 /// The ID of a triple in a role.
@@ -107,20 +64,19 @@ fn put_ids(role: Role, triples: &[(u64, u64, u64)], ids: &mut Vec<u64>) -> Resul
 
 /// The strings of a role that the triples of a window have.
 #[derive(Drop)]
-struct RoleStrings<'a> {
-    cursor: RoleCursor<'a>,
+struct RoleStrings {
     /// Their IDs, in ascending order.
     ids: Vec<u64>,
     /// The string of each ID, with the prefix before its label.
     strings: Arena,
 }
 
-impl<'a> RoleStrings<'a> {
-    fn new(alloc: Global, layout: &Layout<'a>, role: Role) -> Result<RoleStrings<'a>, AllocError>
-        ensures { IfOk result (λ made. (prefix : List ℕ) → HasRoleStrings prefix (layout_view layout.now) role made) }
+impl RoleStrings {
+    fn new(alloc: Global) -> Result<RoleStrings, AllocError>
+        ensures { IfOk result (λ made. (prefix : List ℕ) (g : GraphParts) (role : Role)
+            → HasRoleStrings prefix g role made) }
     {
         Ok(RoleStrings {
-            cursor: RoleCursor::new(alloc, layout, role),
             ids: Vec::new(alloc),
             strings: Arena::new(alloc)?,
         })
@@ -132,12 +88,11 @@ impl<'a> RoleStrings<'a> {
         &mut self,
         alloc: Global,
         prefix: &[u8],
-        layout: &Layout<'a>,
+        layout: &Layout<'_>,
         role: Role,
         triples: &[(u64, u64, u64)],
         room: &mut usize,
     ) -> Result<bool, AllocError>
-        requires { HasRoleStrings prefix.now (layout_view layout.now) role self.old }
         ensures { OnOk result (HasRoleStrings prefix.now (layout_view layout.now) role self.new) }
     {
         put_ids(role, triples, &mut self.ids)?;
@@ -149,7 +104,6 @@ impl<'a> RoleStrings<'a> {
             role,
             &self.ids,
             room,
-            &mut self.cursor,
             &mut self.strings,
         )
     }
@@ -170,33 +124,26 @@ impl<'a> RoleStrings<'a> {
 }
 
 /// Puts the strings of a role with these ascending IDs into an empty list, with the prefix before their labels. Returns
-/// whether all of them fit into `room` bytes, the last one aside. It ends at an ID that has no string.
-fn put_strings<'a>(
+/// whether all of them fit into `room` bytes, the last one aside.
+fn put_strings(
     alloc: Global,
     prefix: &[u8],
-    layout: &Layout<'a>,
+    layout: &Layout<'_>,
     role: Role,
     ids: &[u64],
     room: &mut usize,
-    cursor: &mut RoleCursor<'a>,
     strings: &mut Arena,
 ) -> Result<bool, AllocError>
-    requires cursor { IsCursorOf (layout_view layout.now) role cursor.old }
-    requires none { strings.old ≡ [] }
-    ensures cursor { OnOk result (IsCursorOf (layout_view layout.now) role cursor.new) }
-    ensures strings { OnOk result
-        (AreStringsOfIds prefix.now (layout_view layout.now) role ids.now strings.new) }
+    requires { strings.old ≡ [] }
+    ensures { OnOk result (AreStringsOfIds prefix.now (layout_view layout.now) role ids.now strings.new) }
 {
+    let mut all = layout.seeker(alloc, role);
     let mut string = Vec::new(alloc);
     'ids: for at in 0..ids.len() {
         if *room == 0 {
             return Ok(false);
         }
-        if !cursor.seek(alloc, layout, role, ids[at])? {
-            return Ok(true);
-        }
-        string.clear();
-        string.extend_from_slice(cursor.strings.string())?;
+        put_string(&mut all, ids[at], &mut string)?;
         relabel(alloc, prefix, &mut string)?;
         *room = room.saturating_sub(string.len());
         strings.push(&string)?;
@@ -227,21 +174,21 @@ impl Places {
 /// keeps its memory, and its place in the strings of each role: the subjects of a file ascend, so windows that follow
 /// one another take one pass over them.
 #[derive(Drop)]
-pub(crate) struct WindowStrings<'a> {
-    subjects: RoleStrings<'a>,
-    predicates: RoleStrings<'a>,
-    objects: RoleStrings<'a>,
+pub(crate) struct WindowStrings {
+    subjects: RoleStrings,
+    predicates: RoleStrings,
+    objects: RoleStrings,
 }
 
-impl<'a> WindowStrings<'a> {
+impl WindowStrings {
     /// Those of no triple.
-    pub(crate) fn new(alloc: Global, layout: &Layout<'a>) -> Result<WindowStrings<'a>, AllocError>
-        ensures { IfOk result (λ made. (prefix : List ℕ) → HasWindowStrings prefix (layout_view layout.now) made) }
+    pub(crate) fn new(alloc: Global) -> Result<WindowStrings, AllocError>
+        ensures { IfOk result (λ made. (prefix : List ℕ) (g : GraphParts) → HasWindowStrings prefix g made) }
     {
         Ok(WindowStrings {
-            subjects: RoleStrings::new(alloc, layout, Role::Subject)?,
-            predicates: RoleStrings::new(alloc, layout, Role::Predicate)?,
-            objects: RoleStrings::new(alloc, layout, Role::Object)?,
+            subjects: RoleStrings::new(alloc)?,
+            predicates: RoleStrings::new(alloc)?,
+            objects: RoleStrings::new(alloc)?,
         })
     }
 
@@ -251,7 +198,7 @@ impl<'a> WindowStrings<'a> {
         &mut self,
         alloc: Global,
         prefix: &[u8],
-        layout: &Layout<'a>,
+        layout: &Layout<'_>,
         triples: &[(u64, u64, u64)],
         max_bytes: usize,
     ) -> Result<bool, AllocError>

@@ -2,30 +2,22 @@
 use Rattle.std.specs.Prelude.{◌≡◌, ℕ, ◌<◌, List, [], length, slice_index, slice_index_or}
 use Rattle.hdt_wire.specs.declared.Role.{Role}
 use Rattle.hdt_wire.specs.declared.Role.TheVariants.{Subject, Predicate, Object}
-use Rattle.hdt_dict.specs.Dictionary.{role_strings}
 use Rattle.hdt_dict.specs.Strings.{BorrowedString}
 use Rattle.hdt_triples.specs.TripleSequences.{Triple}
 use Rattle.hdt_file.specs.Denoted.{StringTriple, denoted, string_of}
 use Rattle.hdt_file.specs.File.{GraphParts}
-use Rattle.hdt_build.specs.Inside.Rewriting.{IsAfterString}
 use Rattle.hdt_build.specs.Relabelling.{relabelled, relabelled_triples}
-use Rattle.hdt_build.specs.declared.window_strings.RoleCursor.{RoleCursor}
 use Rattle.hdt_build.specs.declared.window_strings.RoleStrings.{RoleStrings}
 use Rattle.hdt_build.specs.declared.window_strings.WindowStrings.{WindowStrings}
-
--- the string with the ID of the cursor was decoded last
-abbrev pub IsCursorOf : GraphParts → Role → RoleCursor → Type 0
-IsCursorOf g role cursor = IsAfterString (role_strings g.dictionary role) cursor.id cursor.strings
 
 -- each string is that of the ID with the same index, with the prefix before its label
 abbrev pub AreStringsOfIds : List ℕ → GraphParts → Role → List ℕ → List (List ℕ) → Type 0
 AreStringsOfIds prefix g role ids strings = (i : ℕ) → i < length strings
     → slice_index_or strings i [] ≡ relabelled prefix (string_of g role (slice_index ids i))
 
--- the cursor is one of the role, and the strings are those of the IDs
-pub record HasRoleStrings (prefix : List ℕ) (g : GraphParts) (role : Role) (made : RoleStrings) : Type 0 where
-  pub cursor : IsCursorOf g role made.cursor
-  pub strings : AreStringsOfIds prefix g role made.ids.items made.strings
+-- `AreStringsOfIds` of what is kept of a role
+abbrev pub HasRoleStrings : List ℕ → GraphParts → Role → RoleStrings → Type 0
+HasRoleStrings prefix g role made = AreStringsOfIds prefix g role made.ids.items made.strings
 
 -- `HasRoleStrings` of each role
 pub record HasWindowStrings (prefix : List ℕ) (g : GraphParts) (w : WindowStrings) : Type 0 where
