@@ -1,7 +1,6 @@
 //! The strings of a window of a file's triples.
 ghost use Rattle.std.specs.Prelude.{◌≡◌, [], List, ℕ, IfOk, IfSome, OnOk};
-ghost use Rattle.std.specs.Option.{unwrap_or};
-ghost use Rattle.hdt_dict.specs.Ids.{string_at_id};
+ghost use Rattle.hdt_dict.specs.Dictionary.{role_strings};
 ghost use Rattle.hdt_file.specs.Denoted.{string_of};
 ghost use Rattle.hdt_file.specs.File.{GraphParts};
 ghost use Rattle.hdt_file.specs.Graph.{layout_view};
@@ -30,7 +29,8 @@ pub(crate) fn relabel(alloc: Global, prefix: &[u8], string: &mut Vec<u8>) -> Res
 /// Replaces `out` by string n of a role, or by nothing if there is none.
 fn put_string(strings: &mut RoleSeeker<'_>, n: u64, out: &mut Vec<u8>) -> Result<(), AllocError>
     ensures same { strings.new ≡ strings.old }
-    ensures ok { OnOk result (out.new.items ≡ unwrap_or (string_at_id strings.old n) []) }
+    ensures ok { OnOk result ((g : GraphParts) (role : Role) → strings.old ≡ role_strings g.dictionary role
+        → out.new.items ≡ string_of g role n) }
 {
     out.clear();
     strings.append_string(n, out)?;

@@ -7,7 +7,7 @@ use Rattle.hdt_build.proofs.window_strings.put_strings.Given as goal
 abbrev pub invariant-ids : goal.invariant-ids
 invariant-ids l =
     record {
-      strings : AreStringsOfIds l.prefix (layout_view l.layout) l.role l.ids l.strings;
-      all : l.all ≡ role_strings (layout_view l.layout).dictionary l.role;
+      strings : AreStringsOfIds l.prefix (layout_view l.layout) l.fn.role l.ids l.strings;
+      all : l.all ≡ role_strings (layout_view l.layout).dictionary l.fn.role;
       count : length l.strings ≡ l.at;
     }
