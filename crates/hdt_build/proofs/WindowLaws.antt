@@ -1,6 +1,6 @@
 -- The string triples of a window.
-use Rattle.std.proofs.Common.{◌≡◌, ◌∙◌, ◌++◌, ◌∷◌, ◌<◌, [], ℕ, List, append_assoc, ap, map, sym, length, length-append}
-use Rattle.std.proofs.Common.{get_or, subst, inl, inr, arith}
+use Rattle.std.proofs.Common.{◌≡◌, ◌∙◌, ◌++◌, ◌∷◌, [], ℕ, List, append_assoc, ap, map, sym, length, length-append}
+use Rattle.std.proofs.Common.{get_or, inl, inr, arith}
 use Rattle.std.proofs.Math.Seq.{get_or-append_seam}
 use Rattle.std.proofs.lemmas.Bool.{cases_lt}
 use Rattle.std.proofs.lemmas.List.{get_or_append_left, map-append}

@@ -11,7 +11,7 @@ pub windows-init : goal.windows-init
 windows-init g c =
     let graph = layout_view c.args.layout.now in
     record {
-      window = c.in_ok-window.ensures c.args.prefix.now;
+      window = c.in_ok-window.ensures c.args.prefix.now graph;
       sound = c.requires;
       added = λ _. ap (λ (ts : List Triple). g.C.Collector.triples c.args.collector.now
           ++ strings_of_triples c.args.prefix.now graph ts)

@@ -1,6 +1,5 @@
-use Rattle.std.proofs.Common.{◌≡◌, ◌∙◌, ◌∷◌, [], List, ℕ, length, ap, arith, rules}
+use Rattle.std.proofs.Common.{◌∙◌, ◌∷◌, [], length, ap, arith}
 use Rattle.std.proofs.lemmas.List.{length-append}
-use Rattle.hdt_file.specs.Denoted.{string_of}
 use Rattle.hdt_file.specs.Graph.{layout_view}
 use Rattle.hdt_build.specs.Relabelling.{relabelled}
 use Rattle.hdt_build.proofs.WindowLaws.{one_more}
