@@ -68,3 +68,4 @@ pub mod SectionTapes
 pub mod AscendingTriples
 pub mod TripleEntries
 pub mod ScratchSequences
+pub mod WindowLaws

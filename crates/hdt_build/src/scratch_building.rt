@@ -1,21 +1,26 @@
-//! Building one file of several documents, with scratch for what does not fit into memory.
+//! Building one file of several documents or files, with scratch for what does not fit into memory.
 ghost use Rattle.std.specs.Prelude.{◌≡◌, ◌≢◌, ◌<◌, ◌+◌, ◌++◌, ◌∷◌, [], List, IfOk, IfErr, IsFalse, IsTrue, OnOk};
 ghost use Rattle.std.specs.Prelude.{length};
 ghost use Rattle.std.specs.Io.KnownBytes.{IsAtEnd};
 ghost use Rattle.hdt_wire.specs.Counted.{inner, failures};
 ghost use Rattle.hdt_dict.specs.Strings.{IsDictionaryString};
 ghost use Rattle.hdt_file.specs.Denoted.{StringTriple};
+ghost use Rattle.hdt_file.specs.Graph.{IsGraph, layout_view};
 ghost use Rattle.hdt_build.specs.Built.{WritesTriples};
 ghost use Rattle.hdt_build.specs.Documents.{AddsDocument, IsDocumentWith};
+ghost use Rattle.hdt_build.specs.Layouts.{denoted_by};
 ghost use Rattle.hdt_build.specs.Options.{AreValidOptions};
 ghost use Rattle.hdt_build.specs.Reading.{IfBuildFault, IsBuild, IsBuildFaultOf, ReadFailed};
+ghost use Rattle.hdt_build.specs.Relabelling.{relabelled_triples};
 
 use crate::batch_file::write_batches;
 use crate::batches::Batches;
 use crate::fault::{BuildFault, ScratchFault};
+use crate::layout_triples::collect_layout;
 use crate::options::{Options, Report, are_valid_options};
 use crate::reading::{Collector, collect_triples};
 use crate::scratch::Scratch;
+use hdt_file::Layout;
 use hdt_wire::Counted;
 use std::alloc::{AllocError, Global};
 use std::io::{Read, Write};
@@ -71,9 +76,9 @@ fn chunk_len(memory: usize) -> usize {
     (memory / 1024).clamp(16, 16_384)
 }
 
-/// Builds the file of N-Triples documents that are added one after another, as
-/// [`DocumentBuilder`](crate::DocumentBuilder) does, but with scratch for what does not fit into memory. In contracts
-/// it is the list of the triples.
+/// Builds the file of N-Triples documents and HDT files that are added one after another, as
+/// [`DocumentBuilder`](crate::DocumentBuilder) and [`Merger`](crate::Merger) do, but with scratch for what does not fit
+/// into memory. In contracts it is the list of the triples.
 #[derive(Drop)]
 pub struct ScratchBuilder<S: Scratch> {
     batches: Batches<S>,
@@ -141,6 +146,43 @@ impl<S: Scratch + Drop> ScratchBuilder<S> {
         Ok((ScratchBuilder { batches, memory }, has_blank_nodes))
     }
 
+    /// Adds the triples of a file, with `prefix` before the label of each blank node, as
+    /// [`Merger::with_prefix`](crate::Merger::with_prefix) does. The layout is one that `Layout::read` of hdt_file
+    /// returned: `layouts_are_graphs` says that it is a graph. It is not needed after the call. The prefix is UTF-8
+    /// without zero bytes. After an error the builder is dropped.
+    ///
+    /// Time: the triples are read in windows of at most memory / 512 triples, or fewer if their strings are long. For
+    /// each window the blocks that its strings are in are decoded, each once, and its IDs are sorted; so a window takes
+    /// at most the time of decoding all strings. Each batch of triples is sorted.
+    ///
+    /// # Errors
+    ///
+    /// [`BuildFault::OutOfMemory`], as [`ScratchFault::Build`]; those of the scratch.
+    pub fn with_layout(
+        self,
+        alloc: Global,
+        prefix: &[u8],
+        layout: &Layout<'_>,
+    ) -> Result<ScratchBuilder<S>, ScratchFault<S::Error>>
+        requires prefix { IsDictionaryString prefix.now }
+        requires graph { IsGraph (layout_view layout.now) }
+        // If the contents of scratch are known, the triples of the file were added, and there is at least one.
+        ensures added { IfOk result (λ made. S.IsKnown
+            → made ≡ self ++ relabelled_triples prefix.now (denoted_by (layout_view layout.now))) }
+        ensures some { IfOk result (λ made. S.IsKnown → 0 < length made) }
+        // The only error of building is that memory ran out.
+        ensures fault { IfErr result (IfBuildFault (λ e. e ≡ BuildFault.OutOfMemory)) }
+    {
+        let ScratchBuilder { batches, memory } = self;
+        let mut limited = LimitedBatches {
+            batches,
+            limit: memory / 2,
+        };
+        collect_layout(alloc, prefix, layout, memory, &mut limited)?;
+        let LimitedBatches { batches, limit: _ } = limited;
+        Ok(ScratchBuilder { batches, memory })
+    }
+
     /// Returns whether there are no triples.
     pub fn is_empty(&self) -> bool
         ensures none { IsTrue result → self.now ≡ [] }
@@ -150,8 +192,8 @@ impl<S: Scratch + Drop> ScratchBuilder<S> {
     }
 
     /// Writes the canonical file of all triples in pieces: the one that [`DocumentBuilder`](crate::DocumentBuilder)
-    /// makes of the same documents. There must be a triple. Returns the writer and the counts of the file. After an
-    /// error what was written is no file, and the writer is dropped.
+    /// makes of the same documents, and [`Merger`](crate::Merger) of the same files. There must be a triple. Returns
+    /// the writer and the counts of the file. After an error what was written is no file, and the writer is dropped.
     ///
     /// # Errors
     ///

@@ -1,0 +1,17 @@
+use Rattle.std.proofs.Common.{◌≡◌, ◌++◌, length}
+use Rattle.hdt_file.specs.Graph.{layout_view}
+use Rattle.hdt_build.specs.Inside.WindowStrings.{HasWindowStrings, strings_of_triples}
+use Rattle.hdt_build.proofs.layout_triples.collect_window.Given as goal
+
+abbrev pub invariant-parts : goal.invariant-parts
+invariant-parts g l =
+    record {
+      window : HasWindowStrings l.prefix (layout_view l.layout) l.window;
+      sound : g.C.Collector.IsSound l.collector;
+      added : g.C.Collector.IsKnown
+          → g.C.Collector.triples l.collector ++ strings_of_triples l.prefix (layout_view l.layout) l.rest
+          ≡ g.C.Collector.triples l.fn.collector ++ strings_of_triples l.prefix (layout_view l.layout) l.triples;
+    }
+
+abbrev pub decreases-parts : goal.decreases-parts
+decreases-parts g l = length l.rest
