@@ -8,7 +8,7 @@ import random
 import shutil
 import sys
 import threading
-from collections.abc import Sequence
+from collections.abc import Callable, Sequence
 from concurrent.futures import ThreadPoolExecutor
 from contextlib import ExitStack
 from pathlib import Path
@@ -22,7 +22,8 @@ from hypothesis import strategies as st
 from reference import hdt as reference
 from support.built import PROGRAM, SAMPLES
 from support.c_files import loose_files
-from support.parts import files, graph_of, inputs, parts, text_of
+from support import parts as of_parts
+from support.parts import graph_of, inputs, parts, text_of
 from support.program import run
 from support.properties import examples
 from support.python_package import hdt
@@ -349,7 +350,7 @@ def test_memory_of_a_folder(tmp_path: Path) -> None:
 
     def opened(*row: Any) -> hdt.Graph:
         assert all(graph._is_closed for graph in found)
-        found.append(files.opened(*row))
+        found.append(of_parts.files.opened(*row))
         return found[-1]
 
     with mock.patch.multiple("hdt.parts._merging", opened=opened, merged=None):
@@ -373,11 +374,12 @@ def test_errors_of_a_folder(tmp_path: Path) -> None:
         parts.merge(tmp_path / "parts", tmp_path / "parts")
     part = tmp_path / "parts/part-00001.hdt"
     good = part.read_bytes()
-    for spoil, told in (
+    spoilt: list[tuple[Callable[[], Any], str]] = [
         (lambda: part.write_bytes(good[:-1] + b"\0"), "is damaged"),
         (lambda: shutil.copy(tmp_path / "parts/part-00000.hdt", part), "has .* bytes"),
         (part.unlink, "is missing"),
-    ):
+    ]
+    for spoil, told in spoilt:
         spoil()
         for memory in (None, "4M"):
             with pytest.raises(parts.PartFault, match=f"part-00001.hdt {told}"):

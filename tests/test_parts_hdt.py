@@ -5,7 +5,7 @@ from __future__ import annotations
 import gzip
 import os
 import tracemalloc
-from collections.abc import Sequence
+from collections.abc import Callable, Sequence
 from concurrent.futures import ThreadPoolExecutor
 from pathlib import Path
 from typing import Any
@@ -37,7 +37,7 @@ def loose(triples: Sequence[Strings]) -> bytes:
 
 
 # How triples become an input, by the suffix of its name.
-KINDS = {
+KINDS: dict[str, Callable[[Sequence[Strings]], bytes]] = {
     ".nt": document, ".nt.gz": lambda triples: gzip.compress(document(triples)), ".hdt": canonical_file,
     ".HDT": loose, ".hdt.gz": lambda triples: gzip.compress(canonical_file(triples, b"u:some", 2)),
 }
@@ -52,7 +52,7 @@ def put(folder: Path, *given_inputs: tuple[str, Sequence[Strings]]) -> list[Path
     return paths
 
 
-def refused(folder: Path, given_inputs: Sequence[Path], **options: Any) -> tuple[object, ...]:
+def refused(folder: Path, given_inputs: Sequence[Path], **options: Any) -> tuple[Any, str, dict[str, Any]]:
     """The error of a build, which leaves nothing: no file and no process."""
     before, names = children(), set(os.listdir(folder))
     with pytest.raises(Exception) as raised:
@@ -111,8 +111,8 @@ def test_blank_nodes(tmp_path: Path) -> None:
     some, others = [(b"_:b", b"u:p", b"_:c")], [(b"_:b", b"u:p", b"_:b"), (b"u:a", b"u:p", b'"_:b"')]
     paths = put(tmp_path, (".nt", some), (".hdt", THREE), (".hdt", others), (".hdt.gz", some))
     assert refused(tmp_path, [paths[1], *paths[2:]])[:2] == (
-        ValueError, f"{paths[2]} and {paths[3]} have blank nodes: say by blank_nodes whether a label is one node in all "
-        'inputs ("one"), or not ("apart")')
+        ValueError, f"{paths[2]} and {paths[3]} have blank nodes: say by blank_nodes whether a label is one node in "
+        'all inputs ("one"), or not ("apart")')
     parts.build(paths[:2], tmp_path / "some", 2)  # (one of them has some)
     for how, pairs in (
         ("one", {("_:b", "_:c"), ("_:b", "_:b")}),
