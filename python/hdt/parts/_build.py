@@ -54,7 +54,7 @@ def build(
 ) -> Manifest:
     """Build a graph in parts from N-Triples and HDT files, by their paths, and return its manifest.
 
-    A file is HDT if its name ends with `.hdt`, and compressed if `.gz` is behind that or behind any other name.
+    The names of HDT files end with `.hdt`, those of compressed files with `.gz`, also after `.hdt`.
 
     The folder gets `manifest.json` and a file for each part that has triples, `part-00000.hdt` and so on, of which a
     subject has one (`part_of`). Equal graphs give equal files, whatever the inputs, their order and the executor. The
