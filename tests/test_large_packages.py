@@ -42,8 +42,9 @@ def by_parts(it: Large, rows: list[Row]) -> list[Row]:
 
 @pytest.fixture
 def folder(it: Large, large_files: Files, tmp_path: Path) -> Path:
-    """The graph in parts, built of a first input without triples and a large one, compressed or with limited lines."""
-    document, empty, out = large_files.document(it), tmp_path / "empty.nt", tmp_path / "graph.parts"
+    """The graph in parts, built of an input without triples and a large one: compressed, HDT, or with limited lines."""
+    document = large_files.file(it) if it.name == "shared" else large_files.document(it)
+    empty, out = tmp_path / "empty.nt", tmp_path / "graph.parts"
     empty.write_bytes(b"# nothing\n")
     if it.name == "objects":
         packed = tmp_path / "graph.nt.gz"

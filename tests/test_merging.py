@@ -8,7 +8,7 @@ import random
 import shutil
 import sys
 import threading
-from collections.abc import Sequence
+from collections.abc import Callable, Sequence
 from concurrent.futures import ThreadPoolExecutor
 from contextlib import ExitStack
 from pathlib import Path
@@ -22,6 +22,7 @@ from hypothesis import strategies as st
 from reference import hdt as reference
 from support.built import PROGRAM, SAMPLES
 from support.c_files import loose_files
+from support import parts as of_parts
 from support.parts import graph_of, inputs, parts, text_of
 from support.program import run
 from support.properties import examples
@@ -321,12 +322,14 @@ def test_threads(tmp_path: Path) -> None:
 
 @pytest.mark.parametrize("count", [1, 3, 200])
 def test_folder_of_parts(count: int, tmp_path: Path) -> None:
-    """The file of a folder is the one that is built of its inputs as one text, under its options or others."""
+    """The file of a folder is the one built of its inputs as one text, by its options or others, in any memory."""
     triples = graph_of(300)
     texts = inputs(tmp_path, text_of(triples).splitlines(), 3)
     parts.build(texts, tmp_path / "parts", count, blank_nodes="one", base="u:base", block_size=7)
     cases: list[tuple[dict[str, Any], tuple[str, int]]] = [
         ({}, ("u:base", 7)), ({"base": "u:b"}, ("u:b", 7)), ({"block_size": 2}, ("u:base", 2)),
+        ({"memory": "4M", "base": "u:m"}, ("u:m", 7)),
+        ({"memory": 4 * 2**20, "scratch": tmp_path, "block_size": 3}, ("u:base", 3)),
     ]
     for options, wanted in cases:
         one = built(tmp_path, "wanted", triples, base=wanted[0], block_size=wanted[1]).read_bytes()
@@ -337,30 +340,55 @@ def test_folder_of_parts(count: int, tmp_path: Path) -> None:
         assert link.read_bytes() == THREE.read_bytes()  # (another file has the name)
         assert out.read_bytes() == one
         assert counts == hdt.verify(out) and counts.triples == len(triples)
+        assert [it for it in os.listdir(tmp_path) if "unfinished" in it] == []
+
+
+def test_memory_of_a_folder(tmp_path: Path) -> None:
+    """With `memory`, parts are open one at a time, and the library merges nothing."""
+    parts.build(inputs(tmp_path, text_of(graph_of(50)).splitlines(), 1), tmp_path / "parts", 3)
+    found: list[hdt.Graph] = []
+
+    def opened(*row: Any) -> hdt.Graph:
+        assert all(graph._is_closed for graph in found)
+        found.append(of_parts.files.opened(*row))
+        return found[-1]
+
+    with mock.patch.multiple("hdt.parts._merging", opened=opened, merged=None):
+        parts.merge(tmp_path / "parts", tmp_path / "out", memory="4M")
+    assert len(found) == 3 and all(graph._is_closed for graph in found)
 
 
 def test_errors_of_a_folder(tmp_path: Path) -> None:
-    """A damaged part is named, and neither the output nor the folder is changed."""
+    """A damaged part is named, in any memory, and neither the output nor the folder is changed."""
     texts = inputs(tmp_path, text_of(graph_of(50)).splitlines(), 1)
     parts.build(texts, tmp_path / "parts", 2)
     names = sorted(os.listdir(tmp_path / "parts"))
     for name in ("part-00000.hdt", "new.hdt"):
-        with pytest.raises(ValueError, match="the output is in the folder"):
-            parts.merge(tmp_path / "parts", tmp_path / "parts" / name)
+        for memory in (None, "4M"):
+            with pytest.raises(ValueError, match="the output is in the folder"):
+                parts.merge(tmp_path / "parts", tmp_path / "parts" / name, memory=memory)
     (tmp_path / "link").symlink_to("parts/manifest.json")
     with pytest.raises(ValueError, match="the output is in the folder"):
         parts.merge(tmp_path / "parts", tmp_path / "link")
     with pytest.raises(OSError):
         parts.merge(tmp_path / "parts", tmp_path / "parts")
     part = tmp_path / "parts/part-00001.hdt"
-    part.write_bytes(part.read_bytes()[:-1] + b"\0")
-    with pytest.raises(parts.PartFault, match="part-00001.hdt is damaged"):
-        parts.merge(tmp_path / "parts", tmp_path / "out")
-    part.unlink()
-    with pytest.raises(parts.PartFault, match="part-00001.hdt is missing"):
-        parts.merge(tmp_path / "parts", tmp_path / "out")
-    wrong: list[dict[str, Any]] = [{"base": "b"}, {"base": ""}, {"block_size": 0}]
+    good = part.read_bytes()
+    spoilt: list[tuple[Callable[[], Any], str]] = [
+        (lambda: part.write_bytes(good[:-1] + b"\0"), "is damaged"),
+        (lambda: shutil.copy(tmp_path / "parts/part-00000.hdt", part), "has .* bytes"),
+        (part.unlink, "is missing"),
+    ]
+    for spoil, told in spoilt:
+        spoil()
+        for memory in (None, "4M"):
+            with pytest.raises(parts.PartFault, match=f"part-00001.hdt {told}"):
+                parts.merge(tmp_path / "parts", tmp_path / "out", memory=memory)
+    wrong: list[dict[str, Any]] = [{"base": "b"}, {"base": ""}, {"block_size": 0}, {"memory": "3M"}, {"scratch": "."},
+                                   {"memory": "4M", "base": "b"}, {"memory": "4M", "block_size": 0}]
     for options in wrong:  # these come first
-        with pytest.raises(ValueError, match="the base is|the block size is"):
+        with pytest.raises(ValueError, match="the base is|the block size is|memory"):
             parts.merge(tmp_path / "parts", tmp_path / "out", **options)
+    with pytest.raises(FileNotFoundError):
+        parts.merge(tmp_path / "parts", tmp_path / "out", memory="4M", scratch=tmp_path / "none")
     assert not (tmp_path / "out").exists() and names == sorted([*os.listdir(tmp_path / "parts"), "part-00001.hdt"])

@@ -18,7 +18,7 @@ from unittest import mock
 
 import pytest
 
-from support.parts import (check_same, go_on, graph_of, inputs, interrupt, named, of_one, parts, patterns, ranges,
+from support.parts import (check_same, go_on, graph_of, hdt, inputs, interrupt, named, of_one, parts, patterns, ranges,
                            small, splits, text_of)
 from support.python_package import ENVIRONMENT, PACKAGE
 
@@ -85,6 +85,24 @@ def test_errors(tmp_path: Path) -> None:
             parts.build(inputs(tmp_path, lines, 1), tmp_path / "out", 4, executor)
         assert (fault.value.line, fault.value.column) == (201, 7)
     assert left(tmp_path) == set()
+
+
+def test_hdt_files(tmp_path: Path, expected: parts.Manifest) -> None:
+    """Processes build the same files of HDT inputs; an error of one comes back, with the path as it was given."""
+    lines = TEXT.splitlines()
+    for number in range(2):
+        (tmp_path / "lines").write_text("\n".join(lines[number::2]))
+        hdt.build(tmp_path / "lines", tmp_path / f"in{number + 1}.hdt")
+    (tmp_path / "lines").unlink()
+    paths = [tmp_path / "in0.nt", tmp_path / "in1.hdt", tmp_path / "in2.hdt"]
+    with pool() as executor:
+        for some in (paths, paths[1:]):
+            assert named(parts.build(some, tmp_path / str(len(some)), 4, executor, "one")) == named(expected)
+        paths[2].write_bytes(paths[2].read_bytes()[:-1])
+        with pytest.raises(hdt.Fault) as fault:
+            parts.build(paths, tmp_path / "out", 4, executor, "one")
+    assert (fault.value.path, fault.value.name) == (str(paths[2]), "Truncated")
+    assert left(tmp_path) == {"in1.hdt", "in2.hdt", "2", "3"}
 
 
 class Reversed(Executor):

@@ -56,7 +56,7 @@ class _Damaged(Exception):
     """A file that is damaged."""
 
 
-class _Pieces(io.RawIOBase):
+class Pieces(io.RawIOBase):
     """Pieces as a file."""
 
     def __init__(self, pieces: Iterator[bytes]) -> None:
@@ -74,7 +74,7 @@ class _Pieces(io.RawIOBase):
 
 
 def _gzip(pieces: Iterator[bytes], _: str) -> Iterator[bytes]:
-    with gzip.GzipFile(fileobj=io.BufferedReader(_Pieces(_not_empty(pieces)), PIECE)) as file:
+    with gzip.GzipFile(fileobj=io.BufferedReader(Pieces(_not_empty(pieces)), PIECE)) as file:
         yield from iter(lambda: file.read(PIECE), b"")
 
 

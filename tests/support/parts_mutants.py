@@ -8,11 +8,11 @@ from support.package_mutants import judge
 
 # (the tests that need Dask are left out)
 BUILD, SEARCH, WORKERS = "tests/test_parts.py", "tests/test_parts_search.py", "tests/test_parts_workers.py"
-HOSTILE = "tests/test_parts_hostile.py"
+HOSTILE, FILES, MERGING = "tests/test_parts_hostile.py", "tests/test_parts_hdt.py", "tests/test_merging.py"
 ORDERS = {
     "_executor": [WORKERS, BUILD, SEARCH], "_folder": [SEARCH, BUILD, WORKERS], "_graph": [SEARCH, BUILD, WORKERS],
     "_files": [SEARCH, BUILD, WORKERS], "_manifest": [HOSTILE, SEARCH, BUILD, WORKERS],
-    "../_regular": [HOSTILE],
+    "_inputs": [BUILD, FILES, HOSTILE, WORKERS], "_merging": [MERGING], "../_regular": [HOSTILE],
 }
 
 WRONG = {
@@ -53,16 +53,24 @@ WRONG = {
         ("a range loses its first line if it begins after a line feed", "max(start - 1, 0)", "start"),
         ("a range's last line is cut", 'while not piece.endswith(b"\\n") and (piece :=', "while False and (piece :="),
         ("pipes are read", "if not stat.S_ISREG(there.st_mode):", "if False:"),
+        ("an HDT file is a text", "return syntax_of(path) == HDT", "return False"),
+        ("an HDT file's name has small letters", "return syntax_of(path) == HDT", 'return path.endswith(".hdt")'),
+        ("an HDT file is several ranges", "if is_gzip(path) or is_hdt(path) or", "if is_gzip(path) or"),
+        ("an HDT file's blocks are those of a pipe",
+         "yield from _read(io.BufferedReader(Pieces(lines)), 0, None)", "yield from lines"),
         ("a gzip file that is cut is whole",
          '        raise OSError(f"{it.path}: not a whole gzip file: {error}") from error\n', "        return\n"),
     ],
     "_build": [
-        ("a fault's line is counted from its range", "line = lines[it.number] + fault.line", "line = fault.line"),
+        ("a fault's line is counted from its range", "lines[it.number] + fault.line", "fault.line"),
         ("a fault's line is counted from its block",
          "raise hdt.LineFault(fault.reason, lines + fault.line, fault.column)",
          "raise hdt.LineFault(fault.reason, fault.line, fault.column)"),
         ("lines are counted over inputs", "lines = [0] * len(self._paths)",
          "lines = [0] * len(self._paths)\n        ranges = [it._replace(number=0) for it in ranges]"),
+        ("a faulty HDT file isn't named", "raise hdt.Fault(fault.reason, fault.place, name) from None", "raise"),
+        ("a string that is no term isn't named",
+         "raise hdt.NotATerm(error.role, error.number, name) from None", "raise"),
         ("blank nodes of an input's last block alone",
          "has_blank_nodes = has_blank_nodes or found.has_blank_nodes", "has_blank_nodes = found.has_blank_nodes"),
         ("two inputs with blank nodes are one document",
@@ -96,6 +104,14 @@ WRONG = {
         ("no triples are a graph", "if not any(row.triples for row in rows):", "if False:"),
         ("a base is looked at late", "        self._check_base()\n", ""),
         ("a folder that is missing isn't named", "    os.stat(os.path.dirname(target))", "    pass"),
+    ],
+    "_merging": [
+        ("memory is that of all parts", "    if low is not None:\n", "    if False:\n"),
+        ("parts aren't looked at", "            opened(name, part).close()\n", "            pass\n"),
+        ("memory is looked at late", "LowMemory.of(memory, scratch), Manifest.read(name)",
+         "LowMemory.of(memory, scratch) if memory else None, Manifest.read(name)"),
+        ("a merge in little memory has another base", "build_of_files(paths, out_path, base,",
+         "build_of_files(paths, out_path, manifest.base,"),
     ],
     "_executor": [
         ("what is no executor is taken", "if not (executor is None or isinstance(executor, Executor)):", "if False:"),
@@ -148,4 +164,4 @@ WRONG = {
 }
 
 if __name__ == "__main__":
-    sys.exit(judge("python/hdt/parts", WRONG, lambda it: ORDERS.get(it, [BUILD, SEARCH, HOSTILE, WORKERS])))
+    sys.exit(judge("python/hdt/parts", WRONG, lambda it: ORDERS.get(it, [BUILD, FILES, SEARCH, HOSTILE, WORKERS])))

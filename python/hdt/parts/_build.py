@@ -16,6 +16,7 @@ import shutil
 import time
 from collections.abc import Iterable, Sequence
 from concurrent.futures import Executor
+from contextlib import closing
 from dataclasses import replace
 from typing import NamedTuple, Optional
 
@@ -51,7 +52,9 @@ def build(
     block_size: int = 16,
     longest_line: Optional[int] = None,
 ) -> Manifest:
-    """Build a graph in parts from N-Triples files, plain or with names that end with `.gz`, and return its manifest.
+    """Build a graph in parts from N-Triples and HDT files, by their paths, and return its manifest.
+
+    The names of HDT files end with `.hdt`, those of compressed files with `.gz`, also after `.hdt`.
 
     The folder gets `manifest.json` and a file for each part that has triples, `part-00000.hdt` and so on, of which a
     subject has one (`part_of`). Equal graphs give equal files, whatever the inputs, their order and the executor. The
@@ -66,12 +69,15 @@ def build(
     end, is an error, and no more of it is in memory: set it for documents of strangers.
 
     Errors: `InputFault` with the first error of the inputs, in their order (`TooLong`, in column `longest_line` + 1,
-    for a line that is too long, whatever else is wrong with it); `hdt.NoTriples`; FileExistsError, also if the folder
-    was made meanwhile; ValueError for the options, and for an input that is no regular file; `WorkerDied`; MemoryError;
-    OSError; TypeError. A task has 1 MiB of an input in memory, or a longer line, several times over, or the build of a
-    part. The folder needs room for the text of the inputs meanwhile, and for that of each part that is being built.
+    for a line that is too long, whatever else is wrong with it); for an HDT file `hdt.Fault`, `hdt.NotATerm` for a
+    string without a form in N-Triples, and `InputFault` with the line of `hdt dump`; `hdt.NoTriples`; FileExistsError,
+    also if the folder was made meanwhile; ValueError for the options, and for an input that is no regular file;
+    `WorkerDied`; MemoryError; OSError; TypeError. A task has 1 MiB of an input in memory, or a longer line, several
+    times over, or the build of a part. One task splits a compressed file, or an HDT file, which a program of its own
+    has in memory with up to 60 MB. The folder needs room for the inputs as N-Triples meanwhile, and for those of each
+    part that is being built.
 
-    >>> hdt.parts.build(["graph.nt"], "other.parts", 2).triples
+    >>> hdt.parts.build(["graph.nt", "graph.hdt"], "other.parts", 2).triples
     3
     """
     if isinstance(inputs, (str, bytes, os.PathLike)):
@@ -162,7 +168,7 @@ class _Job:
         hdt.build(text, made, base_of(self._base, 0, self._parts))
 
     def _split(self, ranges: Sequence[Range]) -> list[Pieces]:
-        """Split all ranges. Raises InputFault."""
+        """Split all ranges. Raises InputFault, and Fault and NotATerm with the name of their input."""
         tasks = []
         for number, it in enumerate(ranges):
             prefix = f"f{it.number}_" if self._blank_nodes == "apart" else ""
@@ -173,11 +179,15 @@ class _Job:
         lines = [0] * len(self._paths)
         split_results = results(tasks)
         for it in ranges:
+            name = self._names[it.number]
             try:
                 found.append(next(split_results))
             except hdt.LineFault as fault:
-                line = lines[it.number] + fault.line
-                raise InputFault(self._names[it.number], fault.reason, line, fault.column) from None
+                raise InputFault(name, fault.reason, lines[it.number] + fault.line, fault.column) from None
+            except hdt.Fault as fault:
+                raise hdt.Fault(fault.reason, fault.place, name) from None
+            except hdt.NotATerm as error:
+                raise hdt.NotATerm(error.role, error.number, name) from None
             lines[it.number] += found[-1].lines
         self._check_blank_nodes({it.number for it, pieces in zip(ranges, found) if pieces.has_blank_nodes})
         return found
@@ -212,17 +222,18 @@ def split_range(
 ) -> Pieces:
     """A task: split a range of an input, block by block, into one file.
 
-    Raises LineFault, whose line is counted from the range on, OSError and MemoryError.
+    Raises LineFault, whose line is counted from the range on, Fault and NotATerm without a path, OSError, MemoryError.
     """
     file, sizes = _attempt(folder, f"split-{number:05}"), [0] * parts
     lines, has_blank_nodes = 0, False
     with io.open(file, "xb") as out:
         try:
-            for block in _inputs.blocks(it, longest):
-                found = split(block, parts, out, prefix.encode())
-                lines += found.lines
-                has_blank_nodes = has_blank_nodes or found.has_blank_nodes
-                sizes = list(map(operator.add, sizes, found.sizes))
+            with closing(_inputs.blocks(it, longest)) as blocks:
+                for block in blocks:
+                    found = split(block, parts, out, prefix.encode())
+                    lines += found.lines
+                    has_blank_nodes = has_blank_nodes or found.has_blank_nodes
+                    sizes = list(map(operator.add, sizes, found.sizes))
         except hdt.LineFault as fault:
             raise hdt.LineFault(fault.reason, lines + fault.line, fault.column) from None
     return Pieces(file, sizes, lines, has_blank_nodes)

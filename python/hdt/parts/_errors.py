@@ -8,15 +8,15 @@ from hdt._faults import LineFault
 
 
 class InputFault(LineFault):
-    """An input is not valid N-Triples.
+    """An input is not valid N-Triples, or an HDT file has a string that isn't; the line is then that of its dump.
 
     `path` names the input; `reason`, `name`, `line` and `column` are those of `hdt.LineFault`.
 
     >>> try:
-    ...     hdt.parts.build(["graph.hdt"], "other.parts", 2)
+    ...     hdt.parts.build(["graph.nt"], "other.parts", 2, longest_line=9)
     ... except hdt.parts.InputFault as fault:
     ...     print(fault)
-    graph.hdt: line 1 column 1: 1 Syntax
+    graph.nt: line 1 column 10: 9 TooLong
     """
 
     def __init__(self, path: str, reason: int, line: int, column: int) -> None:

@@ -3,14 +3,19 @@
 from __future__ import annotations
 
 import gzip
+import io
 import os
 import stat
 import zlib
-from collections.abc import Iterable, Iterator
+from collections.abc import Generator, Iterable, Iterator
+from contextlib import closing
 from typing import Any, NamedTuple, Optional
 
 from hdt import _regular as regular
 from hdt._blocks import Block, blocks_of
+from hdt._compressed import Pieces
+from hdt._program import dumped
+from hdt._syntaxes import HDT, syntax_of
 
 RANGE = 64 * 1024 * 1024  # bytes of a plain input that a task splits
 BLOCK = 1024 * 1024  # bytes of it that are in memory at once
@@ -30,8 +35,13 @@ def is_gzip(path: str) -> bool:
     return path.endswith(".gz")
 
 
+def is_hdt(path: str) -> bool:
+    """Whether an input is an HDT file, perhaps compressed, which its name says."""
+    return syntax_of(path) == HDT
+
+
 def ranges(paths: Iterable[str]) -> Iterator[Range]:
-    """The ranges of inputs, in order. A compressed input is one range.
+    """The ranges of inputs, in order. A compressed input and an HDT file are one range.
 
     Raises OSError, and ValueError for what is no regular file: a task that is repeated reads its range again.
     """
@@ -39,29 +49,36 @@ def ranges(paths: Iterable[str]) -> Iterator[Range]:
         there = os.stat(path)
         if not stat.S_ISREG(there.st_mode):
             raise ValueError(f"{path} is no regular file")
-        if is_gzip(path) or there.st_size <= RANGE:
+        if is_gzip(path) or is_hdt(path) or there.st_size <= RANGE:
             yield Range(number, path, 0, None)
             continue
         for start in range(0, there.st_size, RANGE):
             yield Range(number, path, start, min(start + RANGE, there.st_size))
 
 
-def blocks(it: Range, longest: Optional[int] = None) -> Iterator[Block]:
-    """The lines of a range, in blocks of whole lines.
+def blocks(it: Range, longest: Optional[int] = None) -> Generator[Block, None, None]:
+    """The lines of a range, in blocks of whole lines. Those of an HDT file are what the program `hdt` dumps it to.
 
     A range begins after a line feed, so it never parts a carriage return from the line feed after it. Raises OSError,
     also for a compressed input that is damaged; and LineFault if a line has more than `longest` bytes without its end,
-    counted from the lines that came before, with no more of it in memory.
+    counted from the lines that came before, with no more of it in memory. For an HDT file it raises what `dumped` does.
     """
     try:
         with regular.opened(it.path) as file:
-            pieces = _read(gzip.GzipFile(fileobj=file) if is_gzip(it.path) else file, it.start, it.stop)
-            yield from blocks_of(pieces, longest)
+            read = _read(gzip.GzipFile(fileobj=file) if is_gzip(it.path) else file, it.start, it.stop)
+            with closing(_dumped(read) if is_hdt(it.path) else read) as pieces:
+                yield from blocks_of(pieces, longest)
     except (EOFError, zlib.error, gzip.BadGzipFile) as error:
         raise OSError(f"{it.path}: not a whole gzip file: {error}") from error
 
 
-def _read(file: Any, start: int, stop: Optional[int]) -> Iterator[bytes]:
+def _dumped(pieces: Iterator[bytes]) -> Generator[bytes, None, None]:
+    """The lines of an HDT file, in pieces as large as those of other inputs."""
+    with closing(dumped(pieces, None)) as lines:
+        yield from _read(io.BufferedReader(Pieces(lines)), 0, None)
+
+
+def _read(file: Any, start: int, stop: Optional[int]) -> Generator[bytes, None, None]:
     """The bytes of the lines that begin in a range, in pieces."""
     if stop is None:
         while piece := file.read(BLOCK):

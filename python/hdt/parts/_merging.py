@@ -4,18 +4,27 @@ from __future__ import annotations
 
 import os
 from contextlib import ExitStack
-from typing import Optional
+from typing import Optional, Union
 
-from hdt._build import check_header
+from hdt._build import build_of_files, check_header
 from hdt._calls import Counts, Path
 from hdt._files import replace
 from hdt._library import Made
+from hdt._low_memory import LowMemory
 from hdt._merging import merged
 from hdt.parts._files import opened
 from hdt.parts._manifest import Manifest
 
 
-def merge(folder: Path, out_path: Path, base: Optional[str] = None, block_size: Optional[int] = None) -> Counts:
+def merge(
+    folder: Path,
+    out_path: Path,
+    base: Optional[str] = None,
+    block_size: Optional[int] = None,
+    *,
+    memory: Union[int, str, None] = None,
+    scratch: Optional[Path] = None,
+) -> Counts:
     """Merge the parts of a folder into one file, and return its counts.
 
     `base` and `block_size` are those that the folder was built with, unless they are given. The file is the one that
@@ -24,7 +33,7 @@ def merge(folder: Path, out_path: Path, base: Optional[str] = None, block_size: 
 
     Errors: `PartFault` for a file of the folder that is missing, damaged or another one; ValueError for the options and
     for an output in the folder; TypeError; MemoryError; OSError. Time and memory are those of `hdt.merge`: all parts
-    are open at once.
+    are open at once. With `memory` and `scratch`, which are those of `hdt.merge`, too, they are opened one by one.
 
     >>> hdt.parts.merge("graph.parts", "merged.hdt").triples
     3
@@ -33,12 +42,18 @@ def merge(folder: Path, out_path: Path, base: Optional[str] = None, block_size: 
     target = os.path.realpath(os.fsdecode(out_path))
     if os.path.dirname(target) == os.path.realpath(name):
         raise ValueError("the output is in the folder")
-    manifest = Manifest.read(name)
+    low, manifest = LowMemory.of(memory, scratch), Manifest.read(name)
     base = manifest.base if base is None else base
     size = manifest.block_size if block_size is None else block_size
     check_header(base, size)
+    rows = [part for part in manifest.parts if part.file]
+    if low is not None:
+        for part in rows:
+            opened(name, part).close()
+        paths = [os.path.join(name, part.file) for part in rows]
+        return build_of_files(paths, out_path, base, size, None, False, low)
     with ExitStack() as kept, Made() as made:
-        graphs = [kept.enter_context(opened(name, part)) for part in manifest.parts if part.file]
+        graphs = [kept.enter_context(opened(name, part)) for part in rows]
         counts = merged(graphs, made, base, size)
         replace(out_path, made.view())
     return counts
