@@ -22,3 +22,4 @@ pub mod ScratchSequences
 pub mod ByteTapes
 pub mod SectionTapes
 pub mod TripleEntries
+pub mod CachedStrings

@@ -63,6 +63,7 @@ mod id_map;
 mod interner;
 mod labels;
 mod laws;
+mod layout_triples;
 mod merged_triples;
 mod merging;
 mod new_header;

@@ -11,7 +11,7 @@ use hdt_triples::Pattern;
 use std::alloc::{AllocError, Global};
 
 /// The pattern that matches all triples.
-const ANY: Pattern = Pattern {
+pub(crate) const ANY: Pattern = Pattern {
     s: None,
     p: None,
     o: None,

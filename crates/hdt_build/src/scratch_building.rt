@@ -5,17 +5,22 @@ ghost use Rattle.std.specs.Io.KnownBytes.{IsAtEnd};
 ghost use Rattle.hdt_wire.specs.Counted.{inner, failures};
 ghost use Rattle.hdt_dict.specs.Strings.{IsDictionaryString};
 ghost use Rattle.hdt_file.specs.Denoted.{StringTriple};
+ghost use Rattle.hdt_file.specs.Graph.{IsGraph, layout_view};
 ghost use Rattle.hdt_build.specs.Built.{WritesTriples};
 ghost use Rattle.hdt_build.specs.Documents.{AddsDocument, IsDocumentWith};
+ghost use Rattle.hdt_build.specs.Layouts.{denoted_by};
 ghost use Rattle.hdt_build.specs.Options.{AreValidOptions};
 ghost use Rattle.hdt_build.specs.Reading.{IfBuildFault, IsBuild, IsBuildFaultOf, ReadFailed};
+ghost use Rattle.hdt_build.specs.Relabelling.{relabelled_triples};
 
 use crate::batch_file::write_batches;
 use crate::batches::Batches;
 use crate::fault::{BuildFault, ScratchFault};
+use crate::layout_triples::collect_layout;
 use crate::options::{Options, Report, are_valid_options};
 use crate::reading::{Collector, collect_triples};
 use crate::scratch::Scratch;
+use hdt_file::Layout;
 use hdt_wire::Counted;
 use std::alloc::{AllocError, Global};
 use std::io::{Read, Write};
@@ -139,6 +144,41 @@ impl<S: Scratch + Drop> ScratchBuilder<S> {
         let (limited, has_blank_nodes) = collect_triples(alloc, prefix, input, limited)?;
         let LimitedBatches { batches, limit: _ } = limited;
         Ok((ScratchBuilder { batches, memory }, has_blank_nodes))
+    }
+
+    /// Adds the triples of a file, with `prefix` before the label of each blank node, as
+    /// [`Merger::with_prefix`](crate::Merger::with_prefix) does. The prefix is UTF-8 without zero bytes. With an empty
+    /// one a label is the same node as in what was added before; a prefix of its own keeps the file's nodes apart. The
+    /// layout is one that `Layout::read` returned (`layouts_are_graphs` of hdt_file); it is not needed after the call.
+    /// After an error the builder is dropped. Time: decoding the strings of each triple, and sorting each batch of
+    /// triples.
+    ///
+    /// # Errors
+    ///
+    /// [`BuildFault::OutOfMemory`], as [`ScratchFault::Build`]; those of the scratch.
+    pub fn with_layout(
+        self,
+        alloc: Global,
+        prefix: &[u8],
+        layout: &Layout<'_>,
+    ) -> Result<ScratchBuilder<S>, ScratchFault<S::Error>>
+        requires prefix { IsDictionaryString prefix.now }
+        requires graph { IsGraph (layout_view layout.now) }
+        // If the contents of scratch are known, the triples of the file were added, and there is at least one.
+        ensures added { IfOk result (λ made. S.IsKnown
+            → made ≡ self ++ relabelled_triples prefix.now (denoted_by (layout_view layout.now))) }
+        ensures some { IfOk result (λ made. S.IsKnown → 0 < length made) }
+        // The only error of building is that memory ran out.
+        ensures fault { IfErr result (IfBuildFault (λ e. e ≡ BuildFault.OutOfMemory)) }
+    {
+        let ScratchBuilder { batches, memory } = self;
+        let mut limited = LimitedBatches {
+            batches,
+            limit: memory / 2,
+        };
+        collect_layout(alloc, prefix, layout, &mut limited)?;
+        let LimitedBatches { batches, limit: _ } = limited;
+        Ok(ScratchBuilder { batches, memory })
     }
 
     /// Returns whether there are no triples.
