@@ -30,7 +30,7 @@ use std::alloc::{AllocError, Global};
 use std::io::Read;
 
 /// Why files were not collected.
-#[derive(Clone, Copy, Debug, Drop)]
+#[derive(Debug, Drop)]
 pub(crate) enum FilesFault<E> {
     /// The file with this number, from 0, is not valid or could not be read, or memory ran out.
     File(u64, ToolFault),
