@@ -1,6 +1,7 @@
 //! The triples of a file, string by string.
-ghost use Rattle.std.specs.Prelude.{◌≡◌, ◌++◌, ◌∷◌, [], None, Some, IfErr, OnOk};
+ghost use Rattle.std.specs.Prelude.{◌≡◌, ◌++◌, ◌∷◌, [], ℕ, List, None, Some, IfErr, OnOk};
 ghost use Rattle.hdt_file.specs.Denoted.{denoted_triple, string_of};
+ghost use Rattle.hdt_file.specs.File.{GraphParts};
 ghost use Rattle.hdt_file.specs.Graph.{layout_view};
 ghost use Rattle.hdt_build.specs.Inside.CachedStrings.{CachesString, CachesStrings};
 ghost use Rattle.hdt_build.specs.Layouts.{denoted_by};
@@ -87,6 +88,19 @@ struct LastStrings {
     object: CachedString,
 }
 
+impl LastStrings {
+    /// No strings.
+    fn new(alloc: Global) -> LastStrings
+        ensures { (prefix : List ℕ) (g : GraphParts) → CachesStrings prefix g result }
+    {
+        LastStrings {
+            subject: CachedString::new(alloc),
+            predicate: CachedString::new(alloc),
+            object: CachedString::new(alloc),
+        }
+    }
+}
+
 /// Adds a triple, with the prefix before the labels of its strings. After an error, drop the collector.
 fn collect_triple<C: Collector>(
     alloc: Global,
@@ -130,11 +144,7 @@ pub(crate) fn collect_layout<C: Collector>(
     ensures sound { OnOk result (C.IsSound collector.new) }
     ensures memory { IfErr result (IfBuildFault (λ e. e ≡ BuildFault.OutOfMemory)) }
 {
-    let mut last = LastStrings {
-        subject: CachedString::new(alloc),
-        predicate: CachedString::new(alloc),
-        object: CachedString::new(alloc),
-    };
+    let mut last = LastStrings::new(alloc);
     let mut triples = layout.search(ANY);
     'triples: while let Some(triple) = triples.next() {
         collect_triple(alloc, prefix, layout, triple, &mut last, collector)?;

@@ -5,20 +5,13 @@ ghost use Rattle.hdt_triples.specs.TripleSequences.{Triple};
 ghost use Rattle.hdt_triples.specs.Writing.{canonical_sequences, pair_eq};
 ghost use Rattle.hdt_build.specs.Inside.Sequences.{AreSequencesOf, sequences_in, with_bit};
 
+use crate::merged_triples::ANY;
 use crate::packed_numbers::PackedNumbers;
 use crate::packed_triples::PackedTriples;
 use hdt_file::Layout;
 use hdt_seq::put_bits;
-use hdt_triples::Pattern;
 use hdt_wire::{Kind, put_control};
 use std::alloc::{AllocError, Global};
-
-/// The pattern that matches all triples.
-const ANY: Pattern = Pattern {
-    s: None,
-    p: None,
-    o: None,
-};
 
 /// The sequences of the triples so far. For each triple they take the VByte of its object and a byte, and for each pair
 /// of a subject and a predicate the VByte of its predicate and a byte.
