@@ -1,6 +1,5 @@
-use Rattle.std.proofs.Common.{◌∙◌, ◌++◌, List, ap, arith, length, subst, sym}
+use Rattle.std.proofs.Common.{ap, arith, length, subst, sym}
 use Rattle.std.proofs.lemmas.List.{length-append, length-map}
-use Rattle.hdt_file.specs.Denoted.{StringTriple}
 use Rattle.hdt_file.specs.Graph.{layout_view}
 use Rattle.hdt_build.specs.Layouts.{denoted_by}
 use Rattle.hdt_build.specs.Reading.{HasDictionaryStrings}
