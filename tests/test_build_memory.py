@@ -188,9 +188,9 @@ def test_bad_options(tmp_path: Path) -> None:
 
 
 def test_other_commands(tmp_path: Path) -> None:
-    """Only `build` has these options."""
-    for command in ("rewrite", "merge"):
-        assert hdt(command, SAMPLES / "three.hdt", tmp_path / "out.hdt", "--memory", "4M").status == 2
+    """Only `build` and `merge` have these options."""
+    for options in ("--memory 4M", "--memory 4M --scratch ."):
+        assert hdt("rewrite", SAMPLES / "three.hdt", tmp_path / "out.hdt", *options.split()).status == 2
     assert names(tmp_path) == []
 
 

@@ -24,7 +24,7 @@ use crate::scratch_runs::{ScratchRun, stop_status, write_collected};
 use crate::split_files::{input_path, late_inputs};
 use crate::splitting::input_prefix;
 use hdt_build::{Scratch, ScratchBuilder, ScratchFault};
-use hdt_file::Layout;
+use hdt_file::{Layout, layouts_are_graphs};
 use hdt_wire::Counted;
 use std::alloc::{AllocError, Global};
 use std::io::Read;
@@ -67,8 +67,9 @@ fn collect_file<R: Read, S: Scratch + Drop>(
 {
     let bytes = read_all(alloc, input, capacity)?;
     let layout = Layout::read(alloc, &bytes)?;
+    layouts_are_graphs();
     let prefix = input_prefix(alloc, blank_nodes, number)?;
-    Ok(builder.with_layout(alloc, &prefix, &layout))
+    Ok(builder.with_layout(alloc, prefix.as_slice(), &layout))
 }
 
 /// Reads files, one after another, and collects their triples in about so many bytes of memory. With `Apart` the labels
