@@ -1,4 +1,4 @@
-//! The triples of documents, in batches on scratch.
+//! Triples in batches on scratch.
 ghost use Rattle.std.specs.Prelude.{◌≡◌, ◌<◌, ◌++◌, ◌∷◌, [], ℕ, List, length, IfOk, IfSome, IsFalse, IsTrue, OnOk};
 ghost use Rattle.hdt_triples.specs.TripleSequences.{Triple};
 ghost use Rattle.hdt_build.specs.Inside.Batches.{AreBatches, IsBatchOf, IsUsedIndex};
@@ -129,7 +129,7 @@ fn written_batch<S: Scratch + Drop>(
     Ok(Some((records, triples)))
 }
 
-/// The triples of documents so far. In contracts it is the list of them; after an error it is empty.
+/// The triples so far. In contracts it is the list of them; after an error it is empty.
 #[derive(Drop)]
 pub(crate) struct Batches<S: Scratch> {
     alloc: Global,

@@ -17,8 +17,8 @@
 //! [`rewrite`] writes the canonical file of the triples of a graph, with its header body. [`is_canonical`] says whether
 //! a file is the one that `rewrite` makes of it. [`DocumentBuilder`] builds one file of several documents. [`merge`]
 //! writes the canonical file of all triples of several graphs; [`Merger`] takes them one after another.
-//! [`apart_prefix`] keeps the blank nodes of several inputs apart. [`with_header`] replaces the header of a file and
-//! nothing else.
+//! [`ScratchBuilder`] does both with scratch for what does not fit into memory. [`apart_prefix`] keeps the blank nodes
+//! of several inputs apart. [`with_header`] replaces the header of a file and nothing else.
 //!
 //! Modules, in reading order. Building: `options` and `fault`; `interner`, the list of strings; `queue` and
 //! `collector`, triples as indices of strings; `labels`, blank nodes; `reading`, the lines of the input;
@@ -31,11 +31,12 @@
 //! `tournament`, the strings of all runs in order, each once; `packed_triples`, triples as bytes; `merged_triples`,
 //! those of graphs, with new IDs; `sorted_runs` and `triple_merging`, the triples in order, each once; `merging`.
 //! `new_header`: replacing a header. Building with scratch: `scratch`; `chunks`, `byte_tape`, `number_tape`,
-//! `string_tape` and `triple_tape`, lists on it; `batches`, the strings and triples of the lines, as runs;
-//! `section_tape` (with `ghost_strings`), `four_sections` and `grouped_sections`, the sections; `record_merging`, the
-//! strings of all runs; `distribution`, their IDs; `triple_runs`, `tape_merging` and `batch_encoding`, the triples;
-//! `triple_cursor`, `triple_entries`, `entry_writer` and `scratch_sequences`, their sequences; `output` and
-//! `batch_file`, the file; `scratch_building`. `laws`: properties of all this.
+//! `string_tape` and `triple_tape`, lists on it; `batches`, the strings and triples of the inputs, as runs;
+//! `layout_triples`, the triples of a file; `section_tape` (with `ghost_strings`), `four_sections` and
+//! `grouped_sections`, the sections; `record_merging`, the strings of all runs; `distribution`, their IDs;
+//! `triple_runs`, `tape_merging` and `batch_encoding`, the triples; `triple_cursor`, `triple_entries`, `entry_writer`
+//! and `scratch_sequences`, their sequences; `output` and `batch_file`, the file; `scratch_building`. `laws`:
+//! properties of all this.
 #![tactic(auto)]
 
 mod batch_encoding;

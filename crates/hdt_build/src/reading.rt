@@ -34,7 +34,7 @@ fn build_fault(fault: LineFault) -> BuildFault
     }
 }
 
-/// What takes the triples of documents. After an error it is dropped.
+/// What takes triples one after another. After an error it is dropped.
 pub(crate) trait Collector {
     /// An error of its scratch, if it has any.
     type Error;

@@ -1,4 +1,4 @@
-//! Building one file of several documents, with scratch for what does not fit into memory.
+//! Building one file of several documents or files, with scratch for what does not fit into memory.
 ghost use Rattle.std.specs.Prelude.{◌≡◌, ◌≢◌, ◌<◌, ◌+◌, ◌++◌, ◌∷◌, [], List, IfOk, IfErr, IsFalse, IsTrue, OnOk};
 ghost use Rattle.std.specs.Prelude.{length};
 ghost use Rattle.std.specs.Io.KnownBytes.{IsAtEnd};
@@ -76,9 +76,9 @@ fn chunk_len(memory: usize) -> usize {
     (memory / 1024).clamp(16, 16_384)
 }
 
-/// Builds the file of N-Triples documents that are added one after another, as
-/// [`DocumentBuilder`](crate::DocumentBuilder) does, but with scratch for what does not fit into memory. In contracts
-/// it is the list of the triples.
+/// Builds the file of N-Triples documents and HDT files that are added one after another, as
+/// [`DocumentBuilder`](crate::DocumentBuilder) and [`Merger`](crate::Merger) do, but with scratch for what does not fit
+/// into memory. In contracts it is the list of the triples.
 #[derive(Drop)]
 pub struct ScratchBuilder<S: Scratch> {
     batches: Batches<S>,
@@ -147,11 +147,13 @@ impl<S: Scratch + Drop> ScratchBuilder<S> {
     }
 
     /// Adds the triples of a file, with `prefix` before the label of each blank node, as
-    /// [`Merger::with_prefix`](crate::Merger::with_prefix) does. The prefix is UTF-8 without zero bytes. With an empty
-    /// one a label is the same node as in what was added before; a prefix of its own keeps the file's nodes apart. The
-    /// layout is one that `Layout::read` returned (`layouts_are_graphs` of hdt_file); it is not needed after the call.
-    /// After an error the builder is dropped. Time: decoding the strings of each triple, and sorting each batch of
-    /// triples.
+    /// [`Merger::with_prefix`](crate::Merger::with_prefix) does. The layout is one that `Layout::read` of hdt_file
+    /// returned: `layouts_are_graphs` says that it is a graph. It is not needed after the call. The prefix is UTF-8
+    /// without zero bytes. After an error the builder is dropped.
+    ///
+    /// Time: for each triple, decoding its object, and its subject and its predicate if the triple before has others;
+    /// and sorting each batch of triples. A string is decoded with those before it in its block. Blocks usually have 16
+    /// strings; a file with much longer ones takes accordingly more time.
     ///
     /// # Errors
     ///
@@ -190,8 +192,8 @@ impl<S: Scratch + Drop> ScratchBuilder<S> {
     }
 
     /// Writes the canonical file of all triples in pieces: the one that [`DocumentBuilder`](crate::DocumentBuilder)
-    /// makes of the same documents. There must be a triple. Returns the writer and the counts of the file. After an
-    /// error what was written is no file, and the writer is dropped.
+    /// makes of the same documents, and [`Merger`](crate::Merger) of the same files. There must be a triple. Returns
+    /// the writer and the counts of the file. After an error what was written is no file, and the writer is dropped.
     ///
     /// # Errors
     ///
