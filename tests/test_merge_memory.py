@@ -251,7 +251,7 @@ def test_a_full_file_system(tmp_path: Path) -> None:
     merged = rb"merged [0-9 ]+\n0\nout.hdt\n\$HDT\x01."
     ends = []
     for size in ("16k", "1m", "4m", "16m", "128m"):
-        seen = run([*namespace, "sh", "-c", script, PROGRAM, size, *paths], cwd=tmp_path)
+        seen = run([*namespace, "sh", "-c", script, PROGRAM, size, *paths], cwd=tmp_path, seconds=SECONDS)
         ends.append(next((it for it in (failed, merged) if re.fullmatch(it, seen.out)), seen.out))
     assert set(ends) == {failed, merged} and (ends[0], ends[-1]) == (failed, merged)
 

@@ -93,7 +93,12 @@ For more information, try '--help'.";
 const DAMAGED_MESSAGE: &str = "hdt: scratch file damaged";
 
 /// Prints the message of an error of the scratch files in a folder, and returns the status.
-pub(crate) fn scratch_status(rt: &HostRuntime, source: ErrorSource<'_>, folder: &str, fault: FileFault) -> u8
+pub(crate) fn scratch_status(
+    rt: &HostRuntime,
+    source: ErrorSource<'_>,
+    folder: &str,
+    fault: FileFault,
+) -> u8
     ensures { result ≤ 4 }
 {
     match fault {
@@ -179,11 +184,7 @@ fn scratch_parent(
 /// Runs `build` or `merge` with `--memory`, and returns the status. It makes scratch files in a new folder, which is
 /// gone at the end. All inputs are read before OUT is opened. (Contracts cannot describe the file system;
 /// tests/test_build_memory_outputs.py, tests/test_build_memory_failures.py and tests/test_merge_memory.py check this.)
-pub(crate) fn run_with_scratch(
-    rt: &HostRuntime,
-    source: ErrorSource<'_>,
-    run: ScratchRun<'_>,
-) -> u8
+pub(crate) fn run_with_scratch(rt: &HostRuntime, source: ErrorSource<'_>, run: ScratchRun<'_>) -> u8
     ensures { result ≤ 4 }
 {
     if let Some(outcome) = run.refuse(rt) {
