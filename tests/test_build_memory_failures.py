@@ -81,7 +81,8 @@ def test_scratch_files(where: str, sample: Sample, tmp_path: Path) -> None:
         assert running.end() == sample.result
         (other / "link.hdt").symlink_to(running.out)
         words: list[Word] = [PROGRAM, sample.command, "--memory", "4M", *sample.inputs, other / "link.hdt"]
-        running.program = subprocess.Popen([os.fsencode(word) for word in words], stdout=subprocess.PIPE, stderr=subprocess.PIPE)
+        running.program = subprocess.Popen([os.fsencode(word) for word in words], stdout=subprocess.PIPE,
+                                           stderr=subprocess.PIPE)
     parent = other if where == "scratch" else folder
     while not (found := running.scratch(parent)):
         assert running.program.poll() is None

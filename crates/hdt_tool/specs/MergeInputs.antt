@@ -36,7 +36,7 @@ StopsMerging n [] k fault = ⊥
 StopsMerging n (input ∷ inputs) k fault = IsFaultOfFileAt n input k fault
     ⊎ (IsFileWith input (λ graph. Unit {0}) × StopsMerging (n + 1) inputs k fault)
 
--- The error of collecting files with scratch: that of one of the inputs; or memory ran out; or it is one of the scratch.
+-- The error of collecting files with scratch: that of one of the inputs, or of the scratch; or memory ran out.
 abbrev pub IsFilesFault : {E : Type 0} → Contents → FilesFault E → Type 0
 IsFilesFault inputs (files.File k fault) = StopsMerging 0 inputs k fault
 IsFilesFault inputs (files.Scratch fault) = IfBuildFault (λ e. e ≡ building.OutOfMemory) fault

@@ -18,8 +18,8 @@ use std::alloc::Global;
 use std::io::{self, Write};
 use std::path::PathBuf;
 
-/// Writes the canonical file of all triples. Returns the writer, the line with the counts, which begins with `verb`, and
-/// the length of the file.
+/// Writes the canonical file of all triples. Returns the writer, the line with the counts after `verb`, and the length
+/// of the file.
 fn write_pieces<S: Scratch + Drop, W: Write + Drop>(
     alloc: Global,
     builder: ScratchBuilder<S>,
