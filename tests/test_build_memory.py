@@ -145,8 +145,9 @@ def test_empty_documents(documents: list[bytes], tmp_path: Path) -> None:
 SIZES: dict[str, bool] = {
     "4194304": True, "4096K": True, "4M": True, "1G": True, "18446744073709551615": True, "17179869183G": True,
     "4194303": False, "4095K": False, "3M": False, "0": False, "0G": False, "": False, "M": False, "4m": False,
-    "4MB": False, "4MiB": False, "4 M": False, " 4M": False, "4M ": False, "-4M": False, "4.5M": False, "4T": False,
-    "0x400000": False, "1e9": False, "18446744073709551616": False, "17179869184G": False, "9" * 30: False,
+    "4MB": False, "4MiB": False, "4 M": False, " 4M": False, "4M ": False, "-4M": False, "+4M": False,
+    "+4194304": False, "4.5M": False, "4T": False, "0x400000": False, "1e9": False, "18446744073709551616": False,
+    "17179869184G": False, "9" * 30: False,
 }
 
 
@@ -188,9 +189,9 @@ def test_bad_options(tmp_path: Path) -> None:
 
 
 def test_other_commands(tmp_path: Path) -> None:
-    """Only `build` has these options."""
-    for command in ("rewrite", "merge"):
-        assert hdt(command, SAMPLES / "three.hdt", tmp_path / "out.hdt", "--memory", "4M").status == 2
+    """Only `build` and `merge` have these options."""
+    for options in ("--memory 4M", "--memory 4M --scratch ."):
+        assert hdt("rewrite", SAMPLES / "three.hdt", tmp_path / "out.hdt", *options.split()).status == 2
     assert names(tmp_path) == []
 
 

@@ -1,4 +1,4 @@
-"""`hdt build --memory SIZE`, if the program is ended midway, scratch files are altered, or a call or memory fails.
+"""`build` and `merge --memory`, if the program is ended midway, scratch files are altered, or a call or memory fails.
 
 OUT is what it was, or whole. Scratch files are gone at the end, and if another program alters one meanwhile, that is an
 error.
@@ -20,11 +20,12 @@ from typing import NamedTuple
 
 import pytest
 
-from support.build_memory import Built, Documents, Running, build
+from support.build_memory import Documents, Running, build, halves
 from support.built import PROGRAM
+from support.documents import canonical_file
 from support.files import THREE, UNFINISHED, names
 from support.large import Files
-from support.program import OUT_OF_MEMORY, WRITING_FAILED, Result, Word, run
+from support.program import OUT_OF_MEMORY, WRITING_FAILED, Result, Word, hdt, run
 from support.system_calls import Caller
 from test_build_inputs import LINES, NODES, write
 
@@ -41,23 +42,31 @@ def batches(large_files: Files) -> Documents:
 
 
 class Sample(NamedTuple):
-    """A document of many batches, its file, how the build ends, and the seconds that it takes."""
+    """A command and its inputs of many batches, the new file, how the run ends, and the seconds that it takes."""
 
-    document: Path
+    command: str
+    inputs: list[Path]
     file: bytes
     result: Result
     seconds: float
 
+    def start(self, folder: Path, *options: Word) -> Running:
+        """Start the run."""
+        return Running(folder, *options, *self.inputs, command=self.command)
 
-@pytest.fixture(scope="module")
-def sample(batches: Documents, tmp_path_factory: pytest.TempPathFactory) -> Sample:
-    """The document of people."""
-    folder = tmp_path_factory.mktemp("sample")
-    plain = build(folder, batches.path("people"))
+
+@pytest.fixture(scope="module", params=["build", "merge"])
+def sample(request: pytest.FixtureRequest, large_files: Files, tmp_path_factory: pytest.TempPathFactory) -> Sample:
+    """The document of people, or the files of its halves."""
+    folder, command = tmp_path_factory.mktemp("sample"), request.param
+    whole = Documents(large_files).path("people")
+    inputs = [whole] if command == "build" else halves(large_files, "people")
+    plain = build(folder, *inputs, command=command)
     start = time.monotonic()
-    little = build(folder, "--memory", "4M", batches.path("people"))
+    little = build(folder, "--memory", "4M", *inputs, command=command)
     assert little == plain and little.result.status == 0
-    return Sample(batches.path("people"), plain.file, plain.result, time.monotonic() - start)
+    assert little.file == build(folder, whole).file
+    return Sample(command, inputs, plain.file, plain.result, time.monotonic() - start)
 
 
 @pytest.mark.parametrize("where", ["beside", "beside, by a link", "scratch"])
@@ -67,12 +76,13 @@ def test_scratch_files(where: str, sample: Sample, tmp_path: Path) -> None:
     folder.mkdir()
     other.mkdir()
     options: list[Word] = ["--scratch", other] if where == "scratch" else []
-    running = Running(folder, sample.document, *options)
+    running = sample.start(folder, *options)
     if where == "beside, by a link":
         assert running.end() == sample.result
         (other / "link.hdt").symlink_to(running.out)
-        running.program = subprocess.Popen([PROGRAM, "build", "--memory", "4M", sample.document, other / "link.hdt"],
-                                           stdout=subprocess.PIPE, stderr=subprocess.PIPE)
+        words: list[Word] = [PROGRAM, sample.command, "--memory", "4M", *sample.inputs, other / "link.hdt"]
+        running.program = subprocess.Popen([os.fsencode(word) for word in words], stdout=subprocess.PIPE,
+                                           stderr=subprocess.PIPE)
     parent = other if where == "scratch" else folder
     while not (found := running.scratch(parent)):
         assert running.program.poll() is None
@@ -90,10 +100,10 @@ def test_scratch_files(where: str, sample: Sample, tmp_path: Path) -> None:
 
 @pytest.mark.slow
 def test_killed_midway(sample: Sample, tmp_path: Path) -> None:
-    """A build that is killed at any moment leaves OUT as it was or whole, and scratch files under a name of theirs."""
+    """A run that is killed at any moment leaves OUT as it was or whole, and scratch files under a name of theirs."""
     turns, ends, left = 40, set(), set()
     for turn in range(turns):
-        running = Running(tmp_path, sample.document)
+        running = sample.start(tmp_path)
         time.sleep(sample.seconds * 1.1 * turn / turns)
         running.program.kill()
         ends.add(running.end().status)
@@ -154,7 +164,7 @@ def test_altered_scratch_files(name: str, sample: Sample, tmp_path: Path) -> Non
     """If another program alters scratch files, that is an error, or the file is right; it is never another one."""
     turns, damaged = 16, 0
     for turn in range(turns):
-        running = Running(tmp_path, sample.document)
+        running = sample.start(tmp_path)
         time.sleep(sample.seconds * (turn + 0.5) / turns)
         altered = 0
         if running.stop():
@@ -176,13 +186,13 @@ def test_altered_scratch_files(name: str, sample: Sample, tmp_path: Path) -> Non
 
 
 @pytest.mark.slow
-def test_another_folder_in_its_place(sample: Sample, tmp_path: Path) -> None:
+def test_another_folder_in_its_place(sample: Sample, batches: Documents, tmp_path: Path) -> None:
     """Scratch files of another build in the place of these are damage, too."""
     other = tmp_path / "other"
     other.mkdir()
-    (other / "in.nt").write_bytes(sample.document.read_bytes().replace(b"a", b"b"))
+    (other / "in.nt").write_bytes(batches.path("people").read_bytes().replace(b"a", b"b"))
     (tmp_path / "one").mkdir()
-    pair = [Running(tmp_path / "one", sample.document), Running(other, other / "in.nt")]
+    pair = [sample.start(tmp_path / "one"), Running(other, other / "in.nt")]
     time.sleep(sample.seconds / 2)
     if all([it.stop() for it in pair]):
         for path, from_other in zip(*(it.scratch() for it in pair)):
@@ -197,10 +207,25 @@ def test_another_folder_in_its_place(sample: Sample, tmp_path: Path) -> None:
 # ---- each system call and each allocation
 
 
-@pytest.fixture(scope="module")
-def three(tmp_path_factory: pytest.TempPathFactory) -> Built:
-    """The three triples, built in memory."""
-    return build(tmp_path_factory.mktemp("three"), THREE)
+class Small(NamedTuple):
+    """A command with its inputs, how it ends, and the new file."""
+
+    words: list[Word]
+    result: Result
+    file: bytes
+
+
+@pytest.fixture(scope="module", params=["build", "merge"])
+def small(request: pytest.FixtureRequest, tmp_path_factory: pytest.TempPathFactory) -> Small:
+    """The three triples, or two files with a blank node of one label."""
+    folder = tmp_path_factory.mktemp("small")
+    words: list[Word] = [THREE]
+    if request.param == "merge":
+        words = [*(folder / f"{number}.hdt" for number in range(2)), "--blank-nodes", "apart"]
+        for number in range(2):
+            (folder / f"{number}.hdt").write_bytes(canonical_file([(b"_:b", b"u:p", b"u:%d" % number)]))
+    plain = build(folder / "out", *words, command=request.param)
+    return Small([PROGRAM, request.param, "--memory", "4M", *words], plain.result, plain.file)
 
 
 @pytest.fixture(scope="module")
@@ -209,16 +234,16 @@ def caller(tmp_path_factory: pytest.TempPathFactory) -> Caller:
     return Caller(tmp_path_factory.mktemp("caller"))
 
 
-def test_each_call_fails(caller: Caller, three: Built, tmp_path: Path) -> None:
+def test_each_call_fails(caller: Caller, small: Small, tmp_path: Path) -> None:
     """If a call fails, OUT is old or new, never else; only what could not be removed is left."""
     out = tmp_path / "out.hdt"
-    command: list[Word] = [PROGRAM, "build", "--memory", "4M", THREE, out]
+    command: list[Word] = [*small.words, out]
     statuses = set()
     for number in itertools.count(1):
         out.write_bytes(b"before")
         calls = caller.run(command, failing=number)
         statuses.add(calls.result.status)
-        assert (calls.result.status, out.read_bytes()) in ((0, three.file), (3, b"before"), (3, three.file)), calls
+        assert (calls.result.status, out.read_bytes()) in ((0, small.file), (3, b"before"), (3, small.file)), calls
         for name in set(names(tmp_path)) - {"out.hdt"}:
             assert UNFINISHED.fullmatch(name) and calls.made[number - 1] in ("unlink", "rmdir"), calls
             it = tmp_path / name
@@ -228,21 +253,26 @@ def test_each_call_fails(caller: Caller, three: Built, tmp_path: Path) -> None:
     assert statuses == {0, 3}
 
 
-def test_names_that_are_taken(caller: Caller, three: Built, tmp_path: Path) -> None:
+def test_names_that_are_taken(caller: Caller, small: Small, tmp_path: Path) -> None:
     """If a name is taken, another one is tried, but not for ever."""
-    command: list[Word] = [PROGRAM, "build", "--memory", "4M", THREE, tmp_path / "out.hdt"]
-    assert caller.run(command, taken=3).result == three.result
+    command: list[Word] = [*small.words, tmp_path / "out.hdt"]
+    assert caller.run(command, taken=3).result == small.result
     (tmp_path / "out.hdt").unlink()
     assert (caller.run(command, taken=-1).result, names(tmp_path)) == (WRITING_FAILED, [])
 
 
-def test_refused_allocations(caller: Caller, tmp_path: Path) -> None:
+@pytest.mark.parametrize("name", ["build", "merge"])
+def test_refused_allocations(name: str, caller: Caller, tmp_path: Path) -> None:
     """If memory runs out at any allocation, that is the error, OUT is as it was, and nothing is left beside it."""
     paths = write(tmp_path, [b"\n".join(LINES + NODES), b"\n".join(NODES)])
+    if name == "merge":
+        for path in paths:
+            assert hdt("build", path, path.with_suffix(".hdt")).status == 0
+        paths = [path.with_suffix(".hdt") for path in paths]
     folder = tmp_path / "out"
     folder.mkdir()
     out = folder / "out.hdt"
-    command: list[Word] = [PROGRAM, "build", "--memory", "4M", *paths, out, "--blank-nodes", "apart"]
+    command: list[Word] = [PROGRAM, name, "--memory", "4M", *paths, out, "--blank-nodes", "apart"]
     assert run(command).status == 0
     wanted, failures, refused = out.read_bytes(), [], 0
     for number in itertools.count(1):
@@ -267,7 +297,7 @@ def test_too_little_memory(sample: Sample, tmp_path: Path) -> None:
     for megabytes in itertools.count(3):
         room = megabytes * 1_000_000
         (tmp_path / "out.hdt").write_bytes(b"before")
-        words: list[Word] = [PROGRAM, "build", "--memory", "16M", sample.document, tmp_path / "out.hdt"]
+        words: list[Word] = [PROGRAM, sample.command, "--memory", "16M", *sample.inputs, tmp_path / "out.hdt"]
         seen, file = run(["prlimit", f"--as={room}:{room}", "--", *words]), (tmp_path / "out.hdt").read_bytes()
         if (seen.status, file) == (127, b"before"):
             continue  # (the program can't start)

@@ -1,4 +1,4 @@
-"""What tests of `hdt build --memory` share: builds, documents of many batches, and builds that are under way."""
+"""What tests of `--memory` share: builds and merges, documents of many batches, and runs that are under way."""
 
 from __future__ import annotations
 
@@ -6,6 +6,7 @@ import os
 import signal
 import subprocess
 import sys
+import tempfile
 import time
 from pathlib import Path
 from typing import NamedTuple
@@ -21,26 +22,26 @@ SECONDS = 300
 
 
 class Built(NamedTuple):
-    """How a build ended, and what it left: the names in the folder of OUT, and the bytes of OUT."""
+    """How a run ended, and what it left: the names in the folder of OUT, and the bytes of OUT."""
 
     result: Result
     names: list[str]
     file: bytes
 
 
-def build(folder: Path, *words: Word, stdin: bytes = b"", cwd: Path | None = None) -> Built:
-    """Build over an old `out.hdt` in a folder of its own."""
+def build(folder: Path, *words: Word, stdin: bytes = b"", cwd: Path | None = None, command: str = "build") -> Built:
+    """Build or merge over an old `out.hdt` in a folder of its own."""
     folder.mkdir(exist_ok=True)
     out = folder / "out.hdt"
     out.write_bytes(b"before")
-    result = hdt("build", *words, out, stdin=stdin, cwd=cwd, seconds=SECONDS)
+    result = hdt(command, *words, out, stdin=stdin, cwd=cwd, seconds=SECONDS)
     return Built(result, names(folder), out.read_bytes())
 
 
-def check_same(folder: Path, *words: Word, stdin: bytes = b"", memory: str = LEAST) -> Built:
-    """Build with and without `--memory`: the result and the file are the same, and nothing else is there."""
-    plain = build(folder / "plain", *words, stdin=stdin, cwd=folder)
-    little = build(folder / "little", "--memory", memory, *words, stdin=stdin, cwd=folder)
+def check_same(folder: Path, *words: Word, stdin: bytes = b"", memory: str = LEAST, command: str = "build") -> Built:
+    """Build or merge with and without `--memory`: the result and the file are the same, and nothing else is there."""
+    plain = build(folder / "plain", *words, stdin=stdin, cwd=folder, command=command)
+    little = build(folder / "little", "--memory", memory, *words, stdin=stdin, cwd=folder, command=command)
     assert (brief(little.result), little.names) == (brief(plain.result), ["out.hdt"])
     assert little.file == plain.file
     return little
@@ -65,16 +66,29 @@ class Documents:
         return self.files.made(f"many {kind}.nt", lambda: run(words, cwd=TOP, seconds=SECONDS).out)
 
 
-# ---- builds that are under way
+def halves(files: Files, kind: str) -> list[Path]:
+    """The files of the two halves of the document of this kind: of every second line."""
+    lines = Documents(files).path(kind).read_bytes().splitlines(keepends=True)
+
+    def made(half: list[bytes]) -> bytes:
+        with tempfile.TemporaryDirectory() as folder:
+            built = build(Path(folder) / "out", "-", stdin=b"".join(half))
+        assert built.result.status == 0
+        return built.file
+
+    return [files.made(f"half {half} of {kind}.hdt", lambda: made(lines[half::2])) for half in range(2)]
+
+
+# ---- runs that are under way
 
 
 class Running:
-    """A build of a document over an old OUT that is under way, and its scratch files."""
+    """A build or a merge over an old OUT that is under way, and its scratch files."""
 
-    def __init__(self, folder: Path, document: Path, *options: Word) -> None:
+    def __init__(self, folder: Path, *words: Word, command: str = "build") -> None:
         self.folder, self.out = folder, folder / "out.hdt"
         self.out.write_bytes(b"before")
-        words: list[Word] = [PROGRAM, "build", "--memory", "4M", *options, document, self.out]
+        words = (PROGRAM, command, "--memory", "4M", *words, self.out)
         self.program = subprocess.Popen([os.fsencode(word) for word in words], stdout=subprocess.PIPE,
                                         stderr=subprocess.PIPE)
 

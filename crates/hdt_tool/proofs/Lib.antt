@@ -4,6 +4,7 @@ mod OutPaths
 mod SplitRuns
 mod DocumentRuns
 mod ScratchRuns
+mod MergeRuns
 mod ParsedArguments
 mod StringLines
 mod CountLines

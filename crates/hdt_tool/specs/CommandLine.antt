@@ -258,10 +258,11 @@ size_unit text = letter_unit (last_byte text)
 abbrev pub size_digits : Text → Text
 size_digits text = if size_unit text == 1 then text else take (length text - 1) text
 
--- The text is a size of n bytes, below 2^64.
+-- The text is a size of n bytes, below 2^64, without a plus sign.
 pub record IsSizeOf (text : Text) (n : ℕ) : Type 0 where
   pub count : ℕ
   pub digits : IsDecimalOf 64 (size_digits text) count
+  pub unsigned : get_or (size_digits text) 0 0 ≢ 43
   pub bytes : n ≡ count * size_unit text
   pub fits : n < 2 ^ 64
 

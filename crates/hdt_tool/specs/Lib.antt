@@ -4,6 +4,7 @@ pub mod ListedStrings
 pub mod TriplesText
 pub mod TermCounts
 pub mod NonTermText
+pub mod MergeInputs
 pub mod NewHeader
 pub mod InfoText
 pub mod Info

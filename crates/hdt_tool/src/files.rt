@@ -5,7 +5,7 @@ ghost use Rattle.hdt_tool.specs.Paths.{IsStdinPath};
 use crate::fault::{ToolFault, file_fault};
 use crate::progress::ProgressReader;
 use crate::session::Session;
-use std::fs::{self, File, OpenFile};
+use std::fs::{self, File, Metadata, OpenFile};
 use std::io::{self, ErrorKind, Read, Stdin};
 use std::os::fd::AsRawFd;
 use std::os::unix::fs::{FileTypeExt, MetadataExt};
@@ -24,6 +24,15 @@ pub(crate) fn is_stdin_path(path: &str) -> bool
     ensures { IsTrue result ↔ IsStdinPath path.now }
 {
     matches!(path, "-" | "/dev/stdin" | "/dev/fd/0" | "/proc/self/fd/0")
+}
+
+/// The path of the file to read: `-` is standard input.
+fn input_path(path: &str) -> &str {
+    if is_stdin_path(path) {
+        STDIN_PATH
+    } else {
+        path
+    }
 }
 
 /// The path to write to: `-` is standard output; a file of that name is `./-`.
@@ -75,15 +84,24 @@ impl Source {
 
     /// The length in bytes, if this is a regular file.
     fn size(&self, rt: &HostRuntime) -> Option<u64> {
-        let metadata = match self {
+        regular_size(match self {
             Source::File(file) => file.metadata(),
             Source::Input(_) => fs::metadata(rt, STDIN_PATH),
-        };
-        match metadata {
-            Ok(metadata) if metadata.is_file() => Some(metadata.len()),
-            _ => None,
-        }
+        })
     }
+}
+
+/// The length in bytes of a regular file, by its metadata.
+fn regular_size(metadata: io::Result<Metadata>) -> Option<u64> {
+    match metadata {
+        Ok(metadata) if metadata.is_file() => Some(metadata.len()),
+        _ => None,
+    }
+}
+
+/// The length in bytes of the input at a path, if it is a regular file now.
+pub(crate) fn input_size(rt: &HostRuntime, path: &str) -> Option<u64> {
+    regular_size(fs::metadata(rt, input_path(path)))
 }
 
 impl Read for Source {
@@ -118,6 +136,12 @@ pub(crate) fn open_input<'a>(
         Ok(reader) => Ok(reader),
         Err(error) => Err(file_fault(&error, ToolFault::Read)),
     }
+}
+
+/// An input that may know its length.
+pub(crate) trait InputSize {
+    /// The initial capacity of a buffer for the input: its length in bytes, or 0 if that is unknown.
+    fn capacity(&self) -> usize;
 }
 
 /// The identity of a file on this system.
@@ -161,10 +185,5 @@ pub(crate) fn would_overwrite(rt: &HostRuntime, out: &str, input: &str) -> bool 
         Ok(there) => there.is_file() || there.file_type().is_block_device(),
         Err(_) => false,
     };
-    let input = if is_stdin_path(input) {
-        STDIN_PATH
-    } else {
-        input
-    };
-    keeps && is_same_file(rt, input, out)
+    keeps && is_same_file(rt, input_path(input), out)
 }

@@ -26,7 +26,7 @@
 //!   `session_stream` and `recent_lines`: its parts;
 //! - `files`, `overwriting`, `atomic_replace`, `output_file`, `split_parts`, `split_files`, `merging`,
 //!   `building_inputs`, `new_header` and `status`: the same over files and streams; `scratch_files`,
-//!   `scratch_output` and `scratch_build`: `build --memory`.
+//!   `scratch_runs`, `scratch_build`, `scratch_merge` and `scratch_output`: `build` and `merge` with `--memory`.
 #![tactic(auto)]
 
 mod answerer;
@@ -68,7 +68,9 @@ mod recent_lines;
 mod request;
 mod scratch_build;
 mod scratch_files;
+mod scratch_merge;
 mod scratch_output;
+mod scratch_runs;
 mod session;
 mod session_stream;
 mod split_arguments;

@@ -43,6 +43,9 @@ fn size_in_bytes(text: &str) -> Option<u64>
     ensures { MatchOption result ((n : ℕ) → IsSizeOf text.now n → ⊥) (λ n. IsSizeOf text.now n) }
 {
     let (digits, unit) = size_parts(text);
+    if digits.as_bytes().first() == Some(&b'+') {
+        return None;
+    }
     digits.parse::<u64>().ok()?.checked_mul(unit)
 }
 

@@ -209,7 +209,7 @@ pub struct Invocation {
     pub progress: Progress,
     /// The maximum number of bytes of a line of an N-Triples document, without its end; `None` for no limit.
     pub longest_line: Option<u64>,
-    /// The bytes of memory that `build` is to use about, and scratch files for the rest; `None` for no limit.
+    /// The bytes of memory that `build` or `merge` is to use about, with scratch files; `None` for no limit.
     pub memory: Option<u64>,
     /// The path of the folder in which scratch files are made; `None` for that of OUT.
     pub scratch: Option<String>,

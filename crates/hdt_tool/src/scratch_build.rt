@@ -1,4 +1,4 @@
-//! `build --memory`: building in about a given amount of memory, with scratch files.
+//! `build --memory`: collecting the triples of documents.
 ghost use Rattle.std.specs.Prelude.{◌≡◌, ◌≤◌, IfOk, IfErr, OnOk, [], map};
 ghost use Rattle.hdt_tool.specs.BuildInputs.{AddsInTurn, IfInput, ReadsInTurn, StopsReading, collect_fault};
 ghost use Rattle.hdt_tool.specs.Changes.{update};
@@ -6,24 +6,21 @@ ghost use Rattle.hdt_tool.specs.SplitInputs.{first_turn};
 ghost use Rattle.hdt_tool.specs.declared.splitting.SplitInputsFault.TheVariants as SplitInputsFault;
 ghost use Rattle.hdt_tool.specs.declared.scratch_build.CollectFault.TheVariants as CollectFault;
 
-use crate::atomic_replace::{replaceable_path, split_path};
-use crate::building_inputs::{document_fault, refuse_inputs};
+use crate::building_inputs::document_fault;
 use crate::error_context::ErrorSource;
-use crate::fault::{ToolFault, file_fault, line_fault};
-use crate::files::output_path;
+use crate::fault::{ToolFault, line_fault};
 use crate::line_limit::name_long_split_line;
-use crate::outcome::{Outcome, exit_status, print_error_line};
-use crate::request::{Action, BlankNodes, Invocation, Request};
-use crate::scratch_files::{FileFault, ScratchFile, ScratchFolder};
-use crate::scratch_output::{WriteStop, write_to_out};
-use crate::session::Session;
+use crate::outcome::{Outcome, exit_status};
+use crate::request::{Action, BlankNodes};
+use crate::scratch_files::{FileFault, ScratchFolder};
+use crate::scratch_runs::{ScratchRun, scratch_status, write_collected};
 use crate::split_files::{late_inputs, split_status};
 use crate::splitting::{SplitInputsFault, first_with_blank_nodes, input_prefix};
-use hdt_build::{Options, Scratch, ScratchBuilder, ScratchFault};
+use hdt_build::{Scratch, ScratchBuilder, ScratchFault};
 use hdt_terms::SplitFault;
 use hdt_wire::Counted;
 use std::alloc::{AllocError, Global};
-use std::io::{self, Read};
+use std::io::Read;
 
 /// Why documents were not collected.
 #[derive(Clone, Copy, Debug, Drop)]
@@ -103,194 +100,44 @@ fn collect_documents<R: Read + Drop, S: Scratch + Drop>(
     Ok(builder)
 }
 
-/// A build with scratch files.
-#[derive(Clone, Copy)]
-pub(crate) struct ScratchBuild<'a> {
-    request: &'a Request,
-    /// The paths of the documents after the first one.
-    others: &'a [String],
-    blank_nodes: Option<BlankNodes>,
-    options: &'a Options,
-    out: &'a str,
-    /// The memory in bytes.
-    memory: usize,
-    /// The folder in which scratch files are made, if it is given.
-    scratch: Option<&'a str>,
-}
-
-impl<'a> ScratchBuild<'a> {
-    /// The build of an invocation; `None` if it is not one with `--memory`.
-    pub(crate) fn of(invocation: &'a Invocation) -> Option<ScratchBuild<'a>> {
-        let request = &invocation.request;
-        let (others, blank_nodes, options, out): (&'a [String], _, _, _) = match &request.action {
-            Action::Build(options) => (&[], None, options, request.out.as_ref()?),
-            Action::BuildInputs(inputs, blank_nodes) => (
-                inputs.others.as_slice(),
-                *blank_nodes,
-                &inputs.options,
-                &inputs.out,
-            ),
-            _ => return None,
-        };
-        Some(ScratchBuild {
-            request,
-            others,
-            blank_nodes,
-            options,
-            out: out.as_str(),
-            memory: invocation.memory? as usize,
-            scratch: match &invocation.scratch {
-                Some(path) => Some(path.as_str()),
-                None => None,
-            },
-        })
-    }
-}
-
-const NO_FOLDER_MESSAGE: &str =
-    "error: OUT is not a regular file, so say by --scratch where scratch files are made
-
-For more information, try '--help'.";
-
-const DAMAGED_MESSAGE: &str = "hdt: scratch file damaged";
-
-/// Prints the message of an error of the scratch files in a folder, and returns the status.
-fn scratch_status(rt: &HostRuntime, source: ErrorSource<'_>, folder: &str, fault: FileFault) -> u8
-    ensures { result ≤ 4 }
-{
-    match fault {
-        FileFault::OutOfMemory => {
-            exit_status(rt, source, Outcome::Failed(ToolFault::OutOfMemory))
-        }
-        FileFault::Write => {
-            let source = source.with_output(folder);
-            exit_status(rt, source, Outcome::Failed(ToolFault::Write(0)))
-        }
-        FileFault::Read => {
-            source.session.begin_input();
-            exit_status(
-                rt,
-                source.with_input(folder),
-                Outcome::Failed(ToolFault::Read),
-            )
-        }
-        FileFault::Damaged => {
-            source.session.clear();
-            print_error_line(rt, 3, DAMAGED_MESSAGE)
-        }
-    }
-}
-
 /// Prints the message of an error of the documents, and returns the status. As without `--memory`, it has the path of
 /// the document if there are several, or `--blank-nodes`.
 fn inputs_status(
     rt: &HostRuntime,
     source: ErrorSource<'_>,
-    build: ScratchBuild<'_>,
+    run: ScratchRun<'_>,
     stop: SplitInputsFault,
 ) -> u8
     ensures { result ≤ 4 }
 {
     let stop = name_long_split_line(source.session, stop);
-    match (&build.request.action, stop) {
+    match (&run.request.action, stop) {
         (Action::Build(_), SplitInputsFault::Input(_, SplitFault::Line(fault))) => {
             exit_status(rt, source, Outcome::Failed(line_fault(fault)))
         }
-        _ => split_status(rt, source, build.request, build.others, stop),
-    }
-}
-
-/// Writes the file of all triples to OUT, and returns the status.
-fn write_built(
-    rt: &HostRuntime,
-    source: ErrorSource<'_>,
-    build: ScratchBuild<'_>,
-    folder: &ScratchFolder<'_>,
-    builder: ScratchBuilder<ScratchFile<'_>>,
-) -> u8
-    ensures { result ≤ 4 }
-{
-    if builder.is_empty() {
-        return exit_status(rt, source, Outcome::Failed(ToolFault::NoTriples));
-    }
-    let out = output_path(build.out);
-    match write_to_out(rt, source.session, builder, build.options, out) {
-        Ok(()) => exit_status(rt, source, Outcome::Done),
-        Err(WriteStop::Failed(fault)) => {
-            exit_status(rt, source.with_output(build.out), Outcome::Failed(fault))
-        }
-        Err(WriteStop::Scratch(fault)) => scratch_status(rt, source, folder.path(), fault),
+        _ => split_status(rt, source, run.request, run.others, stop),
     }
 }
 
 /// Builds with scratch files in this folder, and returns the status.
-fn build_in_folder(
+pub(crate) fn build_in_folder(
     rt: &HostRuntime,
     source: ErrorSource<'_>,
-    build: ScratchBuild<'_>,
+    run: ScratchRun<'_>,
     folder: &ScratchFolder<'_>,
 ) -> u8
     ensures { result ≤ 4 }
 {
-    let inputs = late_inputs(rt, source.session, build.request, build.others);
+    let inputs = late_inputs(rt, source.session, run.request, run.others);
     let (Ok(inputs), Ok(scratch)) = (inputs, folder.file()) else {
         return exit_status(rt, source, Outcome::Failed(ToolFault::OutOfMemory));
     };
-    match collect_documents(rt.alloc(), build.blank_nodes, inputs, build.memory, scratch) {
-        Ok(builder) => write_built(rt, source, build, folder, builder),
-        Err(CollectFault::Inputs(stop)) => inputs_status(rt, source, build, stop),
+    match collect_documents(rt.alloc(), run.blank_nodes, inputs, run.memory, scratch) {
+        Ok(builder) => write_collected(rt, source, run, folder, builder),
+        Err(CollectFault::Inputs(stop)) => inputs_status(rt, source, run, stop),
         Err(CollectFault::Scratch(fault)) => scratch_status(rt, source, folder.path(), fault),
         Err(CollectFault::Damaged) => {
             scratch_status(rt, source, folder.path(), FileFault::Damaged)
         }
-    }
-}
-
-/// The path of the folder in which scratch files are made: that of `--scratch`, or else of the regular file OUT.
-fn scratch_parent(
-    rt: &HostRuntime,
-    session: &Session<'_>,
-    build: ScratchBuild<'_>,
-) -> io::Result<Option<String>> {
-    if let Some(path) = build.scratch {
-        return Ok(Some(String::from_str(rt.alloc(), path)?));
-    }
-    let replaced = replaceable_path(rt, rt.alloc(), output_path(build.out));
-    match session.note_error(replaced)? {
-        Some(path) => {
-            let (folder, _) = split_path(path.as_str());
-            Ok(Some(String::from_str(rt.alloc(), folder)?))
-        }
-        None => Ok(None),
-    }
-}
-
-/// Runs `build` with `--memory`, and returns the status. It makes scratch files in a new folder, which is gone at the
-/// end. All documents are read before OUT is opened. (Contracts cannot describe the file system;
-/// tests/test_build_memory_outputs.py and tests/test_build_memory_failures.py check this.)
-pub(crate) fn run_scratch_build(
-    rt: &HostRuntime,
-    source: ErrorSource<'_>,
-    build: ScratchBuild<'_>,
-) -> u8
-    ensures { result ≤ 4 }
-{
-    if let Some(outcome) = refuse_inputs(rt, build.request, build.others, build.options) {
-        return exit_status(rt, source, outcome);
-    }
-    let parent = match scratch_parent(rt, source.session, build) {
-        Ok(Some(parent)) => parent,
-        Ok(None) => {
-            let _ = rt.eprintln(NO_FOLDER_MESSAGE);
-            return exit_status(rt, source, Outcome::Refused);
-        }
-        Err(error) => {
-            let fault = file_fault(&error, ToolFault::Write(0));
-            return exit_status(rt, source.with_output(build.out), Outcome::Failed(fault));
-        }
-    };
-    match ScratchFolder::new(rt, source.session, parent.as_str()) {
-        Ok(folder) => build_in_folder(rt, source, build, &folder),
-        Err(fault) => scratch_status(rt, source, parent.as_str(), fault),
     }
 }

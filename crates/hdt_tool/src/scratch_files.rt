@@ -1,4 +1,4 @@
-//! Scratch files: what a build with little memory keeps on disk. (Contracts cannot describe the file system;
+//! Scratch files: what a build or a merge with little memory keeps on disk. (Contracts cannot describe the file system;
 //! tests/test_build_memory_failures.py checks this.)
 ghost use Rattle.std.specs.Prelude.{◌≡◌, ◌⊎◌};
 ghost use Rattle.hdt_tool.specs.declared.scratch_files.FileFault.TheVariants.{OutOfMemory};
@@ -63,7 +63,7 @@ fn file_path(alloc: Global, folder: &str, number: u64) -> Result<String, AllocEr
     format!(in alloc; "{folder}/{number}")
 }
 
-/// A new folder for the scratch files of a build. It is removed when this is dropped, with the files that are left.
+/// A new folder for the scratch files of a run. It is removed when this is dropped, with the files that are left.
 pub(crate) struct ScratchFolder<'a> {
     rt: &'a HostRuntime,
     session: &'a Session<'a>,

@@ -1,5 +1,5 @@
-//! Writing the file of `build --memory` in pieces.
-ghost use Rattle.std.specs.Prelude.{◌≡◌, ◌<◌, IfOk, codes, length};
+//! Writing the file of `build --memory` or `merge --memory` in pieces.
+ghost use Rattle.std.specs.Prelude.{◌≡◌, ◌<◌, IfOk, length};
 ghost use Rattle.hdt_build.specs.Built.{WritesTriples};
 ghost use Rattle.hdt_build.specs.declared.options.Report.{Report};
 ghost use Rattle.hdt_tool.specs.PrintedReports.{counts_line};
@@ -18,20 +18,22 @@ use std::alloc::Global;
 use std::io::{self, Write};
 use std::path::PathBuf;
 
-/// Writes the canonical file of all triples. Returns the writer, the line with the counts, and the length of the file.
+/// Writes the canonical file of all triples. Returns the writer, the line with the counts after `verb`, and the length
+/// of the file.
 fn write_pieces<S: Scratch + Drop, W: Write + Drop>(
     alloc: Global,
     builder: ScratchBuilder<S>,
     options: &Options,
+    verb: &str,
     out: W,
 ) -> Result<(W, Vec<u8>, u64), ScratchFault<S::Error>>
     requires { S.IsKnown → 0 < length builder }
     ensures { IfOk result (λ made. S.IsKnown → (report : Report)
         × WritesTriples options.now builder (W.contents out) (W.contents made.0) report
-        × (made.1.items ≡ counts_line (codes "built") report)) }
+        × (made.1.items ≡ counts_line verb.now report)) }
 {
     let (out, report) = builder.finish(alloc, options, Counted::new(out))?;
-    let line = counts_line(alloc, "built", &report)?;
+    let line = counts_line(alloc, verb, &report)?;
     Ok((out.into_inner(), line, report.bytes))
 }
 
@@ -66,9 +68,10 @@ fn print_pieces(
     session: &Session<'_>,
     builder: ScratchBuilder<ScratchFile<'_>>,
     options: &Options,
+    verb: &str,
 ) -> Result<(), WriteStop> {
     let out = session.watch(io::writer(rt));
-    let (_, line, _) = write_pieces(rt.alloc(), builder, options, out)?;
+    let (_, line, _) = write_pieces(rt.alloc(), builder, options, verb, out)?;
     if is_same_file(rt, STDOUT_PATH, STDERR_PATH) {
         return Ok(());
     }
@@ -82,11 +85,12 @@ fn write_in_place(
     session: &Session<'_>,
     builder: ScratchBuilder<ScratchFile<'_>>,
     options: &Options,
+    verb: &str,
     path: &str,
 ) -> Result<Vec<u8>, WriteStop> {
     let created = session.note_error(create(rt, path));
     let file = created.map_err(|error| file_fault(&error, ToolFault::Write(0)))?;
-    let (_, line, _) = write_pieces(rt.alloc(), builder, options, session.watch(file))?;
+    let (_, line, _) = write_pieces(rt.alloc(), builder, options, verb, session.watch(file))?;
     Ok(line)
 }
 
@@ -96,11 +100,12 @@ fn replace_in_pieces(
     session: &Session<'_>,
     builder: ScratchBuilder<ScratchFile<'_>>,
     options: &Options,
+    verb: &str,
     path: &PathBuf,
 ) -> Result<Vec<u8>, WriteStop> {
     let (replacement, file) = Replacement::begin(rt, session, path)?;
     let file = ProgressWriter::new(session.watch_file(file), session);
-    let (file, line, len) = write_pieces(rt.alloc(), builder, options, file)?;
+    let (file, line, len) = write_pieces(rt.alloc(), builder, options, verb, file)?;
     replacement.complete(file.into_inner().into_inner(), len)?;
     Ok(line)
 }
@@ -112,16 +117,17 @@ pub(crate) fn write_to_out(
     session: &Session<'_>,
     builder: ScratchBuilder<ScratchFile<'_>>,
     options: &Options,
+    verb: &str,
     path: &str,
 ) -> Result<(), WriteStop> {
     if is_same_file(rt, path, STDOUT_PATH) {
-        return print_pieces(rt, session, builder, options);
+        return print_pieces(rt, session, builder, options, verb);
     }
     let replaced = session.note_error(replaceable_path(rt, rt.alloc(), path));
     let replaced = replaced.map_err(|error| file_fault(&error, ToolFault::Write(0)))?;
     let line = match &replaced {
-        Some(path) => replace_in_pieces(rt, session, builder, options, path)?,
-        None => write_in_place(rt, session, builder, options, path)?,
+        Some(path) => replace_in_pieces(rt, session, builder, options, verb, path)?,
+        None => write_in_place(rt, session, builder, options, verb, path)?,
     };
     let mut out = Counted::new(session.watch(io::writer(rt)));
     Ok(write_text(&line, &mut out)?)

@@ -7,7 +7,7 @@ use crate::atomic_replace::{NAME_ATTEMPTS, random_number};
 use crate::error_context::ErrorSource;
 use crate::error_lines::OUT_OF_MEMORY;
 use crate::fault::{ToolFault, file_fault, line_fault};
-use crate::files::{Source, open_reader};
+use crate::files::{InputSize, Source, input_size, open_reader};
 use crate::line_limit::{LineLimit, name_long_split_line};
 use crate::outcome::{Outcome, exit_status, print_error_line};
 use crate::progress::ProgressReader;
@@ -56,8 +56,14 @@ impl Read for LateInput<'_> {
     }
 }
 
+impl InputSize for LateInput<'_> {
+    fn capacity(&self) -> usize {
+        input_size(self.rt, self.path).unwrap_or(0) as usize
+    }
+}
+
 /// The path of the input with this number, from 0.
-fn input_path<'a>(request: &'a Request, others: &'a [String], number: u64) -> &'a str
+pub(crate) fn input_path<'a>(request: &'a Request, others: &'a [String], number: u64) -> &'a str
     ensures { result.now ≡ get_or (input_paths request.now others.now) number (string_bytes request.now.file) }
 {
     if number == 0 {

@@ -32,7 +32,7 @@ use crate::outcome::{Outcome, exit_status, print_error_line};
 use crate::output_file::make_file_at;
 use crate::overwriting::{refuse_same_file, same_file};
 use crate::request::{Action, AnswerOptions, AnswerReport, Invocation, Request};
-use crate::scratch_build::{ScratchBuild, run_scratch_build};
+use crate::scratch_runs::{ScratchRun, run_with_scratch};
 use crate::session::Session;
 use crate::split_files::run_split;
 use hdt_usage::put_shown;
@@ -233,8 +233,8 @@ fn command_status(rt: &HostRuntime, words: &io::Result<Vec<String>>, invocation:
     if let Some(same) = same_file(rt, request) {
         return exit_status(rt, source, refuse_same_file(rt, same));
     }
-    if let Some(build) = ScratchBuild::of(invocation) {
-        return run_scratch_build(rt, source, build);
+    if let Some(run) = ScratchRun::of(invocation) {
+        return run_with_scratch(rt, source, run);
     }
     let Some(path) = &request.out else {
         return query_status(rt, source, request);

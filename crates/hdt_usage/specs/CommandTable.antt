@@ -95,13 +95,16 @@ line_rows = longest_line_row ∷ verbose_row ∷ []
 abbrev pub split_rows : List Argument
 split_rows = limit_row (codes "parts") ∷ text_row (codes "of") ∷ text_row (codes "blank-nodes") ∷ line_rows
 
+abbrev pub memory_rows : List Argument
+memory_rows = text_row (codes "memory") ∷ text_row (codes "scratch") ∷ progress_row ∷ []
+
 abbrev pub build_rows : List Argument
 build_rows = verbose_row ∷ flag_row (codes "no-progress") ∷ base_row ∷ block_size_row ∷ text_row (codes "blank-nodes")
-    ∷ longest_line_row ∷ text_row (codes "memory") ∷ text_row (codes "scratch") ∷ progress_row ∷ []
+    ∷ longest_line_row ∷ memory_rows
 
 abbrev pub merge_rows : List Argument
 merge_rows = verbose_row ∷ flag_row (codes "no-progress") ∷ base_row ∷ block_size_row ∷ text_row (codes "blank-nodes")
-    ∷ progress_row ∷ []
+    ∷ memory_rows
 
 -- A command that reads FILE, with these arguments too.
 abbrev pub file_command : Text → List Argument → CommandRow

@@ -65,6 +65,10 @@ const MOST: ArgumentRow = ("most", Kind::Limit, "N", "", Help::Most);
 
 const BLANK_NODES: ArgumentRow = ("blank-nodes", Kind::Text, "WORD", "", Help::BlankNodes);
 
+const MEMORY: ArgumentRow = ("memory", Kind::Text, "SIZE", "", Help::Memory);
+
+const SCRATCH: ArgumentRow = ("scratch", Kind::Text, "FOLDER", "", Help::Scratch);
+
 const LONGEST_LINE: ArgumentRow = ("longest-line", Kind::Limit, "N", "", Help::LongestLine);
 
 const BASE_IRI: ArgumentRow = ("base", Kind::TextWithDefault, "IRI", BASE, Help::Base);
@@ -236,8 +240,8 @@ pub(crate) const COMMANDS: &[CommandRow] = &[
             BLOCK_SIZE,
             BLANK_NODES,
             LONGEST_LINE,
-            ("memory", Kind::Text, "SIZE", "", Help::Memory),
-            ("scratch", Kind::Text, "FOLDER", "", Help::Scratch),
+            MEMORY,
+            SCRATCH,
             PROGRESS,
         ],
     ),
@@ -269,6 +273,8 @@ pub(crate) const COMMANDS: &[CommandRow] = &[
             BASE_IRI,
             BLOCK_SIZE,
             BLANK_NODES,
+            MEMORY,
+            SCRATCH,
             PROGRESS,
         ],
     ),

@@ -331,9 +331,15 @@ If OUT is - or the file or pipe of standard output, the file goes there, after w
 written there, and the line of counts to standard error. If that goes there too, the line is not
 printed.
 
-An error message has the path of its file. Memory is linear in the files: the strings of each,
-front-coded, with 24 bytes each, and once more the distinct ones; 5 to 9 bytes for each triple of
-each file, and as much for sorting, with 24 MB; one file at a time; and the new file.",
+With --memory SIZE the merge takes about SIZE of memory and that of the largest FILE, which is read
+whole, and writes the same file, more slowly. SIZE and the scratch files, with --scratch FOLDER,
+are as in `build` from the N-Triples of all files. On top come some 8 MB for the program, and
+several times the longest string. OUT may be one of the files.
+
+An error message has the path of its file. Without --memory, memory is linear in the files: the
+strings of each, front-coded, with 24 bytes each, and once more the distinct ones; 5 to 9 bytes for
+each triple of each file, and as much for sorting, with 24 MB; one file at a time; and the new
+file.",
             Help::MergeFile => "Path of an HDT file to read, or - for standard input",
             Help::MergePaths => "Paths of further HDT files to read, and of OUT",
             Help::LintAbout => "Report every faulty line of N-Triples",
