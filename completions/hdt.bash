@@ -37,7 +37,7 @@ _hdt() {
     count) options="--verbose --no-progress --top --raw --help" arguments=".hdt subject|predicate|object" ;;
     build) options="--verbose --no-progress --base --block-size --blank-nodes --longest-line --memory --scratch --progress --help" arguments=".nt .nt" ;;
     rewrite) options="--verbose --no-progress --block-size --header --progress --help" arguments=".hdt .hdt" ;;
-    merge) options="--verbose --no-progress --base --block-size --blank-nodes --progress --help" arguments=".hdt .hdt" ;;
+    merge) options="--verbose --no-progress --base --block-size --blank-nodes --memory --scratch --progress --help" arguments=".hdt .hdt" ;;
     lint) options="--keep --most --longest-line --verbose --help" arguments=".nt" ;;
     split) options="--parts --of --blank-nodes --longest-line --verbose --help" arguments=".nt .nt" ;;
     explain) options="--help" arguments="|" ;;

@@ -139,6 +139,8 @@ complete -c hdt -n '__hdt_command merge' -l no-progress -d 'Show no progress on 
 complete -c hdt -n '__hdt_command merge' -l base -x -d 'The IRI that names the graph in the header'
 complete -c hdt -n '__hdt_command merge' -l block-size -x -d 'Strings per dictionary block, 1 to 65535'
 complete -c hdt -n '__hdt_command merge' -l blank-nodes -x -d 'Whether a label is one node in all inputs: one or apart'
+complete -c hdt -n '__hdt_command merge' -l memory -x -d 'Use about SIZE of memory, as 512M or 4G, and scratch files'
+complete -c hdt -n '__hdt_command merge' -l scratch -x -d 'Make the scratch files of --memory in FOLDER'
 complete -c hdt -n '__hdt_command merge' -l progress -d 'Report the bytes read in lines on standard error'
 complete -c hdt -n '__hdt_command merge' -l help -s h -d 'Print help'
 complete -c hdt -n '__hdt_argument merge 1' -k -a '(__fish_complete_suffix .hdt)'
