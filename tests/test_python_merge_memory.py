@@ -6,6 +6,7 @@ import gzip
 import io
 import os
 import pickle
+import re
 import sys
 import tracemalloc
 from collections.abc import Sequence
@@ -202,27 +203,32 @@ def test_damaged_archive(two: list[Path], tmp_path: Path) -> None:
 
 @pytest.mark.parametrize("role", range(3))
 def test_strings_that_are_no_terms(role: int, two: list[Path], tmp_path: Path) -> None:
-    """A merge in memory takes any string, one by N-Triples has an error with the file's name, role and ID."""
+    """A merge takes any string, in any memory; a build has an error with the file's name, role and ID."""
     triple = [b"u:a", b"u:p", b"u:o"]
     triple[role] = b"rel"
     two[1].write_bytes(loose([(triple[0], triple[1], triple[2])]))
-    assert hdt.merge(two, tmp_path / "all.hdt").triples == 5
-    kind, text, _, fields = refused(tmp_path, two, memory="4M")
+    wanted = merged(two, tmp_path / "all.hdt")
+    assert merged(two, tmp_path / "all.hdt", memory="4M") == wanted
     name = ("subject", "predicate", "object")[role]
-    assert (kind, text) == (hdt.NotATerm, f"{two[1]}: {name} 1 is not a term")
-    assert fields == {"role": name, "number": 1, "path": str(two[1])}
-    assert fails(tmp_path, two[1], hdt.NotATerm) == text
+    with pytest.raises(hdt.NotATerm, match=f"{two[1]}: {name} 1 is not a term") as told:
+        hdt.build(two, tmp_path / "out.hdt")
+    assert vars(told.value) == {"role": name, "number": 1, "path": str(two[1])}
+    assert fails(tmp_path, two[1], hdt.NotATerm) == str(told.value)
     again = pickle.loads(pickle.dumps(hdt.NotATerm("object", 3, "a.hdt")))
     assert (str(again), again.path) == ("a.hdt: object 3 is not a term", "a.hdt")
 
 
 def test_strings_that_ntriples_changes(two: list[Path], tmp_path: Path) -> None:
-    """An IRI that N-Triples excludes is a fault of its line, and xsd:string is dropped; so for a build."""
-    two[1].write_bytes(loose([(b"u:a", b"u:p", b"u:o"), (b"u:a b", b"u:p", b"u:o")]))
-    kind, text, *_ = refused(tmp_path, two, memory="4M")
-    assert (kind, text) == (hdt.LineFault, f"{two[1]}: line 2 column 5: 5 IriCharacter")
-    two[1].write_bytes(loose([(b"u:a", b"u:p", b'"x"^^<http://www.w3.org/2001/XMLSchema#string>')]))
-    assert merged([two[1]], tmp_path / "out.hdt", memory="4M")[1] == canonical_file([(b"u:a", b"u:p", b'"x"')])
+    """In a build an IRI that N-Triples excludes is a fault of its line, and xsd:string is dropped; a merge has both."""
+    triples = [(b"u:a", b"u:p", b"u:o"), (b"u:a b", b"u:p", b"u:o")]
+    two[1].write_bytes(loose(triples))
+    assert f"{two[1]}: line 2 column 5: 5 IriCharacter" in fails(tmp_path, two, hdt.LineFault)
+    assert merged(two[1:], tmp_path / "out.hdt", memory="4M")[1] == canonical_file(triples)
+    triples = [(b"u:a", b"u:p", b'"x"^^<http://www.w3.org/2001/XMLSchema#string>')]
+    two[1].write_bytes(loose(triples))
+    assert merged(two[1:], tmp_path / "out.hdt", memory="4M")[1] == canonical_file(triples)
+    hdt.build(two[1], tmp_path / "out.hdt")
+    assert (tmp_path / "out.hdt").read_bytes() == canonical_file([(b"u:a", b"u:p", b'"x"')])
 
 
 def test_limits(two: list[Path], tmp_path: Path) -> None:
@@ -251,18 +257,82 @@ def test_not_paths(two: list[Path], tmp_path: Path) -> None:
     assert refused(tmp_path, [], memory="4M") == refused(tmp_path, [])
 
 
+def stand_in(folder: Path, monkeypatch: pytest.MonkeyPatch, script: str) -> None:
+    """Have a script run in the place of the program, whose last argument is `$out`."""
+    path = folder / "program"
+    path.write_text(f"#!/bin/sh\nfor out; do :; done\n{script}\n")
+    path.chmod(0o700)
+    monkeypatch.setattr(_program, "path", lambda: str(path))
+
+
+ERRORS = [
+    ("hdt: out of memory", 4, MemoryError, ""), ("hdt: 1: fault 1 Truncated at 7", 1, hdt.Fault, "TWO: fault 1 Trunc"),
+    ("hdt: 1: fault 4 NotHdt at 0\n  N-Triples: hdt build", 1, hdt.Fault, "TWO: fault 4 NotHdt at 0"),
+    ("hdt: 1: reading failed\n  1: Permission denied", 3, PermissionError, "'TWO'"),
+    ("hdt: writing failed\n  /x: y/0: No space left on device", 3, OSError, "No space left on device: 'OUT'"),
+    ("hdt: scratch file damaged", 3, OSError, "scratch file damaged: 'OUT'"),
+    ("error: no such option", 2, ValueError, "no such option"),
+    ("hdt: 9: odd", 7, ChildProcessError, "status 7: 9: odd")]
+
+
+@pytest.mark.parametrize("said, status, error, text", ERRORS, ids=[said for said, *_ in ERRORS])
+def test_errors_of_the_program(said: str, status: int, error: type[Exception], text: str, two: list[Path],
+                               tmp_path: Path, monkeypatch: pytest.MonkeyPatch) -> None:
+    """Each end of the program is an exception, that of a file with its path; lines of progress say nothing else."""
+    script = f"echo x > $out; printf 'hdt: read 5 of 6 bytes\n{said}\n' >&2; exit {status}"
+    stand_in(tmp_path, monkeypatch, script.replace("\n", "\\n"))
+    kind, told, *_ = refused(tmp_path, two, memory="4M")
+    wanted = text.replace("TWO", str(two[1])).replace("OUT", f"{tmp_path}/out/out.hdt")
+    assert kind == error and wanted in str(told)
+
+
 @pytest.mark.parametrize("script, error, text", [
     ("echo hdt: out of memory >&2; exit 4", MemoryError, ""), ("kill -9 $$", ChildProcessError, "signal 9"),
     ("echo hdt: reading failed >&2; exit 3", ChildProcessError, "status 3: hdt: reading failed")])
-def test_errors_of_the_program(script: str, error: type[Exception], text: str, two: list[Path], tmp_path: Path,
-                               monkeypatch: pytest.MonkeyPatch) -> None:
-    """A dump that fails otherwise is an error, too."""
-    program = tmp_path / "program"
-    program.write_text(f"#!/bin/sh\necho '<u:a> <u:p> <u:b> .'\n{script}\n")
-    program.chmod(0o700)
-    monkeypatch.setattr(_program, "path", lambda: str(program))
-    kind, said, *_ = refused(tmp_path, two, memory="4M")
-    assert kind == error and text in str(said)
+def test_dumps_that_fail(script: str, error: type[Exception], text: str, two: list[Path], tmp_path: Path,
+                         monkeypatch: pytest.MonkeyPatch) -> None:
+    """A dump that fails otherwise is an error of a build."""
+    stand_in(tmp_path, monkeypatch, f"echo '<u:a> <u:p> <u:b> .'\n{script}")
+    assert text in fails(tmp_path, two, error)
+
+
+def test_options_of_the_program(two: list[Path], tmp_path: Path, monkeypatch: pytest.MonkeyPatch) -> None:
+    """The program is told all options, and has the files under names of its own: any number of any names."""
+    names = [os.fsencode(two[0]), b"-", b"a: b\n\xff.hdt"]
+    for name in names[1:]:
+        (tmp_path / os.fsdecode(name)).write_bytes(two[1].read_bytes())
+    monkeypatch.chdir(tmp_path)
+    wanted = merged(names, tmp_path / "out.hdt", blank_nodes="apart", base="u:x", block_size=3)
+    assert merged(names, tmp_path / "out.hdt", blank_nodes="apart", base="u:x", block_size=3, memory="4M") == wanted
+    told = tmp_path / "told"
+    script = f'echo "$*" > {told}; readlink 0 1 2 >> {told}; cat 0 > $out; echo merged 1 2 3 4 5'
+    stand_in(tmp_path, monkeypatch, script)
+    hdt.merge(names, tmp_path / "out.hdt", "u:x", 3, blank_nodes="apart", memory="5000K", scratch=tmp_path)
+    line, *links = told.read_bytes().splitlines()
+    options = r"merge --memory=5120000 --scratch=\S+ --progress --base=u:x --block-size=3 --blank-nodes=apart"
+    assert re.fullmatch(rf"{options} 0 1 2 \S+/out.hdt", line.decode())
+    assert b"\n".join(links) == b"\n".join(os.fsencode(tmp_path / os.fsdecode(name)) for name in names)
+
+
+@pytest.mark.parametrize("lines, wanted", [
+    ("", [300]), ("100 of 100, 200 of 200", [100, 300, 300]), ("40 of 100, 100 of 100, 10 of 200", [40, 100, 110, 300]),
+    ("100 of 100, 90 of 100, 5 of 100", [100, 190, 195, 300])])
+def test_progress_of_the_program(lines: str, wanted: list[int], two: list[Path], tmp_path: Path,
+                                 monkeypatch: pytest.MonkeyPatch) -> None:
+    """What it has read of each file is told in sum, and all at the end, before the output is replaced."""
+    said = "".join(f"hdt: read {it} bytes\n" for it in lines.split(", ") if it).replace("\n", "\\n")
+    stand_in(tmp_path, monkeypatch, f"printf '{said}' >&2; cp 0 $out; echo merged 1 2 3 4 5 6")
+    for path in two:
+        os.truncate(path, 150)
+    told: list[int] = []
+    hdt.merge(two, tmp_path / "out.hdt", progress=lambda read, _: told.append(read), memory="4M")
+    assert told == wanted
+
+    def raises(read: int, of: Optional[int]) -> None:
+        if read == of:
+            raise KeyError(read)
+
+    assert refused(tmp_path, two, progress=raises, memory="4M")[0] == KeyError
 
 
 # ---- the command

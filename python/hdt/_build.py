@@ -26,7 +26,7 @@ from ._metadata import Header
 from ._program import dumped
 from ._progress import Meter, Progress
 from ._quads import Graphs
-from ._sources import Input, Source, source_of, sources_of
+from ._sources import Input, Source, sources_of
 from ._syntaxes import HDT, NQUADS, NTRIPLES, syntax_named, syntax_of
 from ._triples import is_statement
 
@@ -39,7 +39,7 @@ class _Options(NamedTuple):
     base: Optional[str]
     longest_line: Optional[int]
     largest_text: Optional[int]
-    blank_nodes: Optional[str]  # or "all": apart, also those of a single input
+    blank_nodes: Optional[str]
     graphs: Optional[str]
     converter: Optional[str]
 
@@ -119,22 +119,6 @@ def build(
     for it in sources:
         _check_output(it.path, out_path)
     return _of_sources(sources, output, options, progress)
-
-
-def build_of_files(
-    paths: Iterable[Path],
-    out_path: Path,
-    base: str,
-    block_size: int,
-    blank_nodes: Optional[str],
-    progress: Progress,
-    low: LowMemory,
-) -> Counts:
-    """Build the file of the triples of HDT files, of which the output may be one: what `merge` does with memory."""
-    sources = [source_of(os.fsdecode(it), HDT) for it in paths]
-    output = _Output(out_path, base, block_size, Header(None, None), low)
-    labels = "all" if blank_nodes == "apart" else "one"
-    return _of_sources(sources, output, _Options(base, None, None, labels, None, None), progress)
 
 
 class _Output(NamedTuple):
@@ -229,7 +213,7 @@ class _Writer:
     def write(self, sources: list[Source]) -> int:
         """Write all inputs, and return the bytes."""
         having: list[tuple[Source, bool]] = []  # the inputs that have blank nodes, and whether they were converted
-        is_apart = len(sources) > 1 and self._options.blank_nodes != "one" or self._options.blank_nodes == "all"
+        is_apart = len(sources) > 1 and self._options.blank_nodes != "one"
         for number, source in enumerate(sources):
             conversion = self._conversion(source)
             prefix = b"f%d_" % number if is_apart else b""

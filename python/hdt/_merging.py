@@ -3,13 +3,14 @@
 from __future__ import annotations
 
 import ctypes
+import operator
 import os
 from collections.abc import Iterable, Iterator, Sequence
 from contextlib import ExitStack, closing, contextmanager
 from typing import Any, Optional, Union, cast
 
 from . import _library
-from ._build import build_of_files, check_header
+from ._build import check_header
 from ._calls import Counts, Path, closed, counts_of, encoded
 from ._faults import NoTriples
 from ._files import _checked, replace
@@ -84,6 +85,22 @@ def _opened(inputs: Sequence[Union[Path, Graph]], kept: ExitStack, progress: Pro
     return graphs
 
 
+def merge_files(
+    paths: Iterable[Path],
+    out_path: Path,
+    base: str,
+    block_size: int,
+    blank_nodes: Optional[str],
+    low: LowMemory,
+    progress: Progress = False,
+) -> Counts:
+    """What `merge` does with memory. Raises what it does."""
+    names = list(map(os.fsdecode, paths))
+    options = [f"--base={base}", f"--block-size={operator.index(block_size)}", f"--blank-nodes={blank_nodes or 'one'}"]
+    with closing(Meter(progress, sum(os.stat(name).st_size for name in names))) as meter:
+        return low.merge(names, out_path, options, meter)
+
+
 def merge(
     inputs: Iterable[Union[Path, Graph]],
     out_path: Path,
@@ -101,9 +118,8 @@ def merge(
     (`blank_nodes="one"`) or, by `"apart"`, several: labels get the prefix `f0_`, `f1_` and so on, also a single
     input's. `base` and `block_size` are those of `build`. The output is replaced atomically, and may be one of the
     inputs. Graphs stay open. `progress` is that of `build`, of the bytes of opened files; the merge comes after it.
-    With `memory` and `scratch`, as of `build`, inputs are paths, and the merge takes about so much, and one input at a
-    time with up to 60 MB, but more time and scratch files. It builds N-Triples: literals lose the datatype xsd:string,
-    and a string without a form there is an error, `NotATerm` or, with the line of `hdt dump`, `LineFault`.
+    With `memory` and `scratch`, as of `build`, inputs are paths, and the program `hdt` makes the same file in about so
+    much beside the largest input, with scratch files, in more time.
 
     Errors: `Fault` with an input's path; ValueError for options and a closed graph; `NoTriples` without an input;
     TypeError; MemoryError; OSError; what `progress` raises. The time is linear in the inputs, with their strings
@@ -122,7 +138,7 @@ def merge(
     if not given:
         raise NoTriples("there are no inputs")
     if low is not None:
-        return build_of_files(cast("list[Path]", given), out_path, base, block_size, blank_nodes, progress, low)
+        return merge_files(cast("list[Path]", given), out_path, base, block_size, blank_nodes, low, progress)
     with ExitStack() as kept, Made() as made:
         counts = merged(_opened(given, kept, progress), made, base, block_size, blank_nodes)
         replace(out_path, made.view())

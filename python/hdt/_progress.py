@@ -42,6 +42,10 @@ class Meter:
         if self._tell is not None:
             self._tell(self._read, self._of)
 
+    def count_rest(self) -> None:
+        """Count all that is left, if it is known how much that is. Raises what the function raises."""
+        self.count((self._of or self._read) - self._read)
+
     def read(self) -> int:
         """The bytes so far."""
         return self._read

@@ -98,12 +98,6 @@ def _each(given: Any) -> Iterator[Any]:
         yield from items
 
 
-def source_of(name: str, syntax: str) -> Source:
-    """The source of a file. Raises OSError."""
-    there = os.stat(name)
-    return Source(name, syntax, there.st_size if stat.S_ISREG(there.st_mode) else None, path=name)
-
-
 def _sources(it: Any, syntax: Optional[str]) -> Iterator[Source]:
     """The sources of one input."""
     if _is_path(it) and not is_statement(it):
@@ -111,7 +105,9 @@ def _sources(it: Any, syntax: Optional[str]) -> Iterator[Source]:
         if os.path.isdir(name):
             yield from _of_folder(name, syntax)
             return
-        yield source_of(name, syntax or syntax_of(name) or NTRIPLES)
+        there = os.stat(name)
+        size = there.st_size if stat.S_ISREG(there.st_mode) else None
+        yield Source(name, syntax or syntax_of(name) or NTRIPLES, size, path=name)
     elif hasattr(it, "read"):
         given = getattr(it, "name", None)
         named = given if isinstance(given, str) and not given.startswith("<") else None

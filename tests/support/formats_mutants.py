@@ -15,7 +15,7 @@ ORDERS = {
     "__main__": [COMMAND], "_program": [MERGE, COMMAND], "compat": [COMPAT],
     "_blocks": [FORMATS, HOSTILE, "tests/test_parts.py", "tests/test_parts_hostile.py"],
     "_mapped": ["tests/test_parts.py", FORMATS], "_build": [HEADER, FORMATS, HOSTILE, TRIPLES, MERGE],
-    "_metadata": [HEADER], "_about": [HEADER], "_low_memory": [MEMORY], "_files": [MEMORY], "_merging": [MERGE],
+    "_metadata": [HEADER], "_about": [HEADER], "_low_memory": [MERGE, MEMORY], "_files": [MEMORY], "_merging": [MERGE],
     "_sources": [FORMATS, HOSTILE, TRIPLES, MERGE],
 }  # fmt: skip
 
@@ -45,7 +45,14 @@ WRONG = {
         ("an interrupt doesn't wait for the program", "            child.wait()\n", ""),
         ("faults have no path", "LineFault(reason, line, column, name)", "LineFault(reason, line, column)"),
         ("line and column are changed over", "line, column, reason = map", "column, line, reason = map"),
-        ("the output isn't named in errors", 'if more.startswith("  -: ") else os.fsdecode(out_path)', ""),
+        ("the output isn't named in errors", " or os.fsdecode(out_path)", ""),
+        ("a file that can't be read isn't named", 'names.get(more.strip().partition(": ")[0]) or ', ""),
+        ("a faulty file isn't named", "(names[word], rest) if word in names else (", "("),
+        ("a file that is read on is another one", "if of == last[1] and read >= last[0] else", "if False else"),
+        ("a file is another one by its size alone", " and read >= last[0] else read", " else read"),
+        ("the rest isn't told", "            meter.count_rest()\n", ""),
+        ("links lead to where they are", "os.symlink(os.path.abspath(str(name)),", "os.symlink(str(name),"),
+        ("scratch is where the program runs", "os.path.abspath(os.fsdecode(scratch))", "os.fsdecode(scratch)"),
         ("errors have no number", "_NUMBERS.get(why, errno.EIO)", "errno.EIO"),
         ("memory that runs out is another error", "    if status == 4:\n", "    if False:\n"),
         ("the size is a default", "--memory={self.size}", "--memory={2**32}"),
@@ -84,7 +91,6 @@ WRONG = {
         ("blank nodes of the last block alone", "has_blank_nodes or found.has_blank_nodes", "found.has_blank_nodes"),
         ("no triples are a file", "        if not size:\n", "        if False:\n"),
         ("the header is that of the library", "self.header.put(made, other).view()", "made.view()"),
-        ("labels of a single input of a merge stay", ' or self._options.blank_nodes == "all"', ""),
         ("the header isn't looked at first",
          "        if header is not None:\n            header.put(made, other)\n", ""),
     ],
@@ -191,6 +197,7 @@ WRONG = {
     ],
     "_merging": [
         ("memory means nothing", "    if low is not None:\n", "    if False:\n"),
+        ("a label is one node in all files", "{blank_nodes or 'one'}", "one"),
     ],
     "_program": [
         ("a script is the program", "return file.read(len(_MAGIC)) == _MAGIC", "return True"),

@@ -110,8 +110,8 @@ WRONG = {
         ("parts aren't looked at", "            opened(name, part).close()\n", "            pass\n"),
         ("memory is looked at late", "LowMemory.of(memory, scratch), Manifest.read(name)",
          "LowMemory.of(memory, scratch) if memory else None, Manifest.read(name)"),
-        ("a merge in little memory has another base", "build_of_files(paths, out_path, base,",
-         "build_of_files(paths, out_path, manifest.base,"),
+        ("a merge in little memory has another base", "merge_files(paths, out_path, base,",
+         "merge_files(paths, out_path, manifest.base,"),
     ],
     "_executor": [
         ("what is no executor is taken", "if not (executor is None or isinstance(executor, Executor)):", "if False:"),

@@ -6,12 +6,12 @@ import os
 from contextlib import ExitStack
 from typing import Optional, Union
 
-from hdt._build import build_of_files, check_header
+from hdt._build import check_header
 from hdt._calls import Counts, Path
 from hdt._files import replace
 from hdt._library import Made
 from hdt._low_memory import LowMemory
-from hdt._merging import merged
+from hdt._merging import merge_files, merged
 from hdt.parts._files import opened
 from hdt.parts._manifest import Manifest
 
@@ -51,7 +51,7 @@ def merge(
         for part in rows:
             opened(name, part).close()
         paths = [os.path.join(name, part.file) for part in rows]
-        return build_of_files(paths, out_path, base, size, None, False, low)
+        return merge_files(paths, out_path, base, size, None, low)
     with ExitStack() as kept, Made() as made:
         graphs = [kept.enter_context(opened(name, part)) for part in rows]
         counts = merged(graphs, made, base, size)
