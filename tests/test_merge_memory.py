@@ -19,7 +19,7 @@ from support.build_memory import LINES_OF, MIB, SECONDS, Built, build, check_sam
 from support.built import PROGRAM
 from support.documents import Strings, canonical_file
 from support.files import mounts, names, shell
-from support.large import Files
+from support.large import LARGE, Files
 from support.measuring import Meter
 from support.program import BAD_OPTIONS, OUT_OF_MEMORY, WRITING_FAILED, Result, Word, hdt, run
 from support.properties import examples
@@ -88,6 +88,17 @@ def test_many_batches(kind: str, large_files: Files, tmp_path: Path) -> None:
     merged = merge(tmp_path, *halves(large_files, kind))
     assert merged.result.status == 0
     assert merge(tmp_path, "--blank-nodes=apart", *halves(large_files, kind)).result.status == 0
+
+
+@pytest.mark.slow
+@pytest.mark.parametrize("name", LARGE)
+def test_more_than_a_million_triples(name: str, large_files: Files, tmp_path: Path) -> None:
+    """More than 2^20 triples and strings of a section, which are in both files."""
+    it = LARGE[name]
+    made = build(tmp_path, "--memory", "4M", *[large_files.file(it)] * 2, command="merge")
+    counts = " ".join(map(str, [*it.counts, len(it.data)]))
+    assert (made.result, made.names) == (Result(0, f"merged {counts}\n".encode(), b""), ["out.hdt"])
+    assert made.file == it.data
 
 
 def test_long_strings(tmp_path: Path) -> None:
@@ -283,14 +294,13 @@ def test_memory_is_bounded(large_files: Files, tmp_path: Path) -> None:
 
 @pytest.mark.slow
 def test_a_million_triples_in_64_megabytes(large_files: Files, tmp_path: Path) -> None:
-    """Files of some 600,000 triples each are merged where a process has too few addresses for a merge in memory."""
-    paths = halves(large_files, "exported")
-    wanted = build(tmp_path, *paths, command="merge")
+    """More than a million triples are merged where a process has 64 MB of addresses in all."""
+    it, room = LARGE["shared"], 64_000_000
     (tmp_path / "out.hdt").write_bytes(b"before")
-    largest = max(os.path.getsize(path) for path in paths)
-    room = 24 * MIB + largest
-    words: list[Word] = ["prlimit", f"--as={room}:{room}", "--", PROGRAM, "merge", *paths, tmp_path / "out.hdt"]
-    assert run(words, seconds=SECONDS) == OUT_OF_MEMORY
-    assert (tmp_path / "out.hdt").read_bytes() == b"before"
-    assert run([*words, "--memory", "4M"], seconds=SECONDS) == wanted.result
-    assert (tmp_path / "out.hdt").read_bytes() == wanted.file
+    inputs: list[Word] = [large_files.file(it)] * 2
+    words: list[Word] = ["prlimit", f"--as={room}:{room}", "--", PROGRAM, "merge", *inputs, "out.hdt"]
+    assert run(words, cwd=tmp_path, seconds=SECONDS) == OUT_OF_MEMORY
+    assert (names(tmp_path), (tmp_path / "out.hdt").read_bytes()) == (["out.hdt"], b"before")
+    seen = run([*words, "--memory", "8M"], cwd=tmp_path, seconds=SECONDS)
+    assert (seen.status, seen.err, names(tmp_path)) == (0, b"", ["out.hdt"])
+    assert (tmp_path / "out.hdt").read_bytes() == it.data
