@@ -8,9 +8,12 @@ use Rattle.hdt_tool.specs.Outcomes.{IsLayoutWith, ReadsWith}
 -- A file that was read is one for whose graph Q is true, if that is so.
 pub file_with : (input : Option (List ℕ)) (read : Change) (P Q : GraphParts → Type 0) → read.before ≡ input
     → (file : ReadsWith read (λ bytes. IsLayoutWith bytes P)) → Q file.holds.graph → IsFileWith input Q
-file_with input read P Q begun file holds =
-    (read, begun, record {
-      bytes = file.bytes;
-      read = file.read;
-      holds = record { graph = file.holds.graph; encoded = file.holds.encoded; holds = holds };
-    })
+file_with input read P Q begun file holds = (
+  read,
+  begun,
+  record {
+    bytes = file.bytes;
+    read = file.read;
+    holds = record { graph = file.holds.graph; encoded = file.holds.encoded; holds = holds };
+  },
+)
