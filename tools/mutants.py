@@ -253,7 +253,7 @@ def outer_function(name: str) -> str:
 def check(crate: Crate, texts: dict[str, str], kept: Path) -> Verdict:
     """Check a copy of the crate with these texts in place of its own, over the work in `kept`.
 
-    `kept` gains work only if no text is given.
+    `kept` gains work only if no text is given. Then the check has two jobs, as all trees of the crate wait for it.
     """
 
     def link_or_copy(one: str, other: str) -> None:
@@ -270,7 +270,7 @@ def check(crate: Crate, texts: dict[str, str], kept: Path) -> Verdict:
             Path(room, "crate", path).write_text(text)
         if texts:
             kept = Path(shutil.copytree(kept, f"{room}/kept", copy_function=link_or_copy))
-        words = [*crate.rattle("check"), "--jobs", "1", "--incremental", str(kept)]
+        words = [*crate.rattle("check"), "--jobs", "1" if texts else "2", "--incremental", str(kept)]
         for _ in "ab":
             ran = subprocess.run(words, cwd=f"{room}/crate", stdin=subprocess.DEVNULL, stdout=subprocess.PIPE,
                                  stderr=subprocess.STDOUT, text=True, errors="replace")
