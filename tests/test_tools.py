@@ -217,11 +217,12 @@ def test_differential(tmp_path: Path) -> None:
 
 @pytest.mark.skipif(not Path("/usr/bin/time").exists(), reason="there is no /usr/bin/time")
 def test_measuring() -> None:
-    """Each tool prints its table, and docs/SIZING.md has the head of that of `tools.memory`."""
+    """Each tool prints its tables, and docs/SIZING.md has the heads of those of `tools.memory`."""
     memory = tool("memory", "--scale", "0.00001")
     assert [len(re.findall(rb"^\| .* \| 59 to 100 \|", memory.out, re.M)), memory.err] == [5, b""]
     table = (TOP / "docs/SIZING.md").read_text()
-    assert [line for line in memory.out.decode().splitlines()[2:4] if line not in table] == []
+    lines = memory.out.decode().splitlines()
+    assert [line for line in lines[2:4] + lines[-7:-5] if line not in table] == []
     python = {"HDT_LIBRARY": str(SHARED_LIBRARY), "PYTHONPATH": "python"}
     words: list[str | Path] = ["python3", "-B", "python/speed.py", SAMPLES / "three.hdt", "--rounds", "1"]
     speed = run(words, cwd=TOP, env=python)
