@@ -12,7 +12,7 @@ use Rattle.hdt_wire.specs.VByte.{IsVByteAt, VByte, vbyte}
 use Rattle.hdt_seq.specs.Bits.{EncodesBits}
 use Rattle.hdt_seq.specs.ExactSequences.{IsBitmapAt, IsLogSequenceAt}
 use Rattle.hdt_seq.specs.Numbers.{EncodesNumbers}
-use Rattle.hdt_seq.specs.Sequence.{Sequence, SequenceOffsets}
+use Rattle.hdt_seq.specs.Sequence.{Sequence, SequenceShape}
 use Rattle.hdt_front.specs.Section.{IsSectionAt, SectionParts}
 use Rattle.hdt_dict.specs.Dictionary.{DictionaryParts, IsDictionaryAt}
 use Rattle.hdt_triples.specs.Triples.{IsTriplesAt, TripleParts}
@@ -28,7 +28,7 @@ pub record SameFrom (old : List ℕ) (k : ℕ) (new : List ℕ) (m : ℕ) : Type
 abbrev pub moved : ℕ → ℕ → ℕ → ℕ
 moved k m a = m + (a - k)
 
-abbrev pub moved_offsets : ℕ → ℕ → SequenceOffsets → SequenceOffsets
+abbrev pub moved_offsets : ℕ → ℕ → SequenceShape → SequenceShape
 moved_offsets k m o = record { count = moved k m o.count; packed = moved k m o.packed; width = o.width }
 
 abbrev pub moved_sequence : {X : Type 0} → ℕ → ℕ → Sequence X → Sequence X
@@ -70,8 +70,8 @@ moved_triples k m t = record {
 }
 
 same_offsets : (c p w d q v : ℕ) → c ≡ d → p ≡ q → w ≡ v
-    → (let o : SequenceOffsets = record { count = c; packed = p; width = w } in o)
-    ≡ (let o : SequenceOffsets = record { count = d; packed = q; width = v } in o)
+    → (let o : SequenceShape = record { count = c; packed = p; width = w } in o)
+    ≡ (let o : SequenceShape = record { count = d; packed = q; width = v } in o)
 same_offsets c p w d q v e f g = rw (e, f, g) refl
 
 module _ (old : List ℕ) (k : ℕ) (new : List ℕ) (m : ℕ) (same : SameFrom old k new m) where
@@ -155,7 +155,7 @@ module _ (old : List ℕ) (k : ℕ) (new : List ℕ) (m : ℕ) (same : SameFrom 
         h.block.spelled.in_order,
         h.code.end_is,
         h.block_offsets_at.spelled.in_order,
-        h.place,
+        h.packed_begins,
         h.packed.end_is,
       )
 
@@ -169,7 +169,7 @@ module _ (old : List ℕ) (k : ℕ) (new : List ℕ) (m : ℕ) (same : SameFrom 
       let to_crc : a ≤ h.crc_offset =
       omega (arith, h.count.spelled.in_order, h.size.spelled.in_order, h.block.spelled.in_order) in
       let starts_from : k ≤ h.starts_offset = omega (arith, h.code.end_is) in
-      let packed_from : k ≤ s.packed_offset = omega (arith, h.place, h.block_offsets_at.spelled.in_order) in
+      let packed_from : k ≤ s.packed_offset = omega (arith, h.packed_begins, h.block_offsets_at.spelled.in_order) in
       record {
         size_offset = moved k m h.size_offset;
         block_size_offset = moved k m h.block_size_offset;
@@ -188,7 +188,7 @@ module _ (old : List ℕ) (k : ℕ) (new : List ℕ) (m : ℕ) (same : SameFrom 
         block_offsets_at = log_sequence h.starts h.starts_offset starts_from h.block_offsets_at;
         started = h.started;
         width = h.width;
-        place = ap (moved k m) h.place;
+        packed_begins = ap (moved k m) h.packed_begins;
         packed = slice s.packed_offset _ s.end packed_from h.packed;
         front_coded = h.front_coded;
         strings = h.strings;

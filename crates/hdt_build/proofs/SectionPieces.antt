@@ -8,7 +8,7 @@ use Rattle.std.proofs.Math.Nat.{mod-add-mod}
 use Rattle.std.proofs.lemmas.List.{append_cancel_right}
 use Rattle.std.proofs.lemmas.List.Folds.{concat-append}
 use Rattle.hdt_seq.specs.Width.{digits, greatest, width_of}
-use Rattle.hdt_front.specs.Decoding.{is_head}
+use Rattle.hdt_front.specs.Decoding.{is_block_start}
 use Rattle.hdt_front.specs.Canonical.{encode_entry, encode_entries, block_offsets_from, block_offsets, packed_of}
 
 -- ---- entries
@@ -20,7 +20,7 @@ unfolding encode_entries
 entries_joined b i last [] ys = ap (λ (n : ℕ). encode_entries b n last ys) (sym (add-zero i))
 entries_joined b i last (x ∷ xs) ys =
     let next : (i + 1) + length xs ≡ i + suc (length xs) = omega arith in
-    let p : List ℕ = encode_entry (is_head b i) last x in
+    let p : List ℕ = encode_entry (is_block_start b i) last x in
     ap (λ (l : List (List ℕ)). p ∷ l) (entries_joined b (i + 1) x xs ys)
     ∙ ap (λ (n : ℕ). p ∷ (encode_entries b (i + 1) x xs
     ++ encode_entries b n (get_or (x ∷ xs) (length xs) []) ys)) next
@@ -38,7 +38,7 @@ head_alone false x y s e = absurd cc
 
 -- blocks later, the same strings are first of their blocks
 module _ (b m : ℕ) (whole : m % b ≡ 0) where
-  head_later : (i : ℕ) → is_head b (m + i) ≡ is_head b i
+  head_later : (i : ℕ) → is_block_start b (m + i) ≡ is_block_start b i
   head_later i =
       ap (λ (n : ℕ). n == 0) (sym (mod-add-mod m b i) ∙ ap (λ (n : ℕ). (n + i) % b) whole
       ∙ ap (λ (n : ℕ). n % b) (zero-add i))
@@ -50,20 +50,20 @@ module _ (b m : ℕ) (whole : m % b ≡ 0) where
   entries_later i last (y ∷ ys) =
       let next : (m + i) + 1 ≡ m + (i + 1) = omega arith in
       ap (λ (h : Bool). encode_entry h last y ∷ encode_entries b ((m + i) + 1) y ys) (head_later i)
-      ∙ ap (λ (n : ℕ). encode_entry (is_head b i) last y ∷ encode_entries b n y ys) next
-      ∙ ap (λ (l : List (List ℕ)). encode_entry (is_head b i) last y ∷ l) (entries_later (i + 1) y ys)
+      ∙ ap (λ (n : ℕ). encode_entry (is_block_start b i) last y ∷ encode_entries b n y ys) next
+      ∙ ap (λ (l : List (List ℕ)). encode_entry (is_block_start b i) last y ∷ l) (entries_later (i + 1) y ys)
 
   entries_again : (last : List ℕ) (ys : List (List ℕ)) → encode_entries b m last ys ≡ encode_entries b 0 [] ys
   unfolding encode_entries
   entries_again last [] = refl
   entries_again last (y ∷ ys) =
-      let head : is_head b m ≡ true = ap (λ (n : ℕ). n == 0) whole in
-      let first : is_head b m ≡ is_head b 0 = ap (is_head b) (sym (add-zero m)) ∙ head_later 0 in
+      let head : is_block_start b m ≡ true = ap (λ (n : ℕ). n == 0) whole in
+      let first : is_block_start b m ≡ is_block_start b 0 = ap (is_block_start b) (sym (add-zero m)) ∙ head_later 0 in
       let next : m + 1 ≡ m + (0 + 1) = omega arith in
-      ap (λ (l : List ℕ). l ∷ encode_entries b (m + 1) y ys) (head_alone (is_head b m) last [] y head)
+      ap (λ (l : List ℕ). l ∷ encode_entries b (m + 1) y ys) (head_alone (is_block_start b m) last [] y head)
       ∙ ap (λ (h : Bool). encode_entry h [] y ∷ encode_entries b (m + 1) y ys) first
-      ∙ ap (λ (n : ℕ). encode_entry (is_head b 0) [] y ∷ encode_entries b n y ys) next
-      ∙ ap (λ (l : List (List ℕ)). encode_entry (is_head b 0) [] y ∷ l) (entries_later (0 + 1) y ys)
+      ∙ ap (λ (n : ℕ). encode_entry (is_block_start b 0) [] y ∷ encode_entries b n y ys) next
+      ∙ ap (λ (l : List (List ℕ)). encode_entry (is_block_start b 0) [] y ∷ l) (entries_later (0 + 1) y ys)
 
   offsets_later : (i p at : ℕ) (es : List (List ℕ))
       → block_offsets_from b (m + i) (p + at) es ≡ map (λ n. p + n) (block_offsets_from b i at es)
@@ -75,10 +75,12 @@ module _ (b m : ℕ) (whole : m % b ≡ 0) where
       let rest : List ℕ = block_offsets_from b (i + 1) (at + length e) es in
       ap (λ (h : Bool). cond h ((p + at) ∷ []) [] ++ block_offsets_from b ((m + i) + 1) ((p + at) + length e) es)
       (head_later i)
-      ∙ ap (λ (n : ℕ). cond (is_head b i) ((p + at) ∷ []) [] ++ block_offsets_from b n ((p + at) + length e) es) next
-      ∙ ap (λ (n : ℕ). cond (is_head b i) ((p + at) ∷ []) [] ++ block_offsets_from b (m + (i + 1)) n es) place
-      ∙ ap (λ (l : List ℕ). cond (is_head b i) ((p + at) ∷ []) [] ++ l) (offsets_later (i + 1) p (at + length e) es)
-      ∙ first (is_head b i) rest
+      ∙ ap (λ (n : ℕ). cond (is_block_start b i) ((p + at) ∷ []) []
+      ++ block_offsets_from b n ((p + at) + length e) es) next
+      ∙ ap (λ (n : ℕ). cond (is_block_start b i) ((p + at) ∷ []) [] ++ block_offsets_from b (m + (i + 1)) n es) place
+      ∙ ap (λ (l : List ℕ). cond (is_block_start b i) ((p + at) ∷ []) [] ++ l)
+      (offsets_later (i + 1) p (at + length e) es)
+      ∙ first (is_block_start b i) rest
     where
       first : (h : Bool) (rest : List ℕ) → cond h ((p + at) ∷ []) [] ++ map (λ n. p + n) rest
           ≡ map (λ n. p + n) (cond h (at ∷ []) [] ++ rest)
@@ -104,7 +106,7 @@ module _ (b : ℕ) (xs ys : List (List ℕ)) (whole : length xs % b ≡ 0) where
 -- the offsets without the end
 unfoldable starts_from : ℕ → ℕ → ℕ → List (List ℕ) → List ℕ
 starts_from b i at [] = []
-starts_from b i at (e ∷ es) = cond (is_head b i) (at ∷ []) [] ++ starts_from b (i + 1) (at + length e) es
+starts_from b i at (e ∷ es) = cond (is_block_start b i) (at ∷ []) [] ++ starts_from b (i + 1) (at + length e) es
 
 offsets_joined : (b i at : ℕ) (es fs : List (List ℕ))
     → block_offsets_from b i at (es ++ fs)
@@ -117,7 +119,7 @@ offsets_joined b i at (e ∷ es) fs =
     let next : (i + 1) + length es ≡ i + suc (length es) = omega arith in
     let place : at + length e + length (concat es) ≡ at + length (e ++ concat es) =
     omega (arith, length-append e (concat es)) in
-    let first : List ℕ = cond (is_head b i) (at ∷ []) [] in
+    let first : List ℕ = cond (is_block_start b i) (at ∷ []) [] in
     let rest : List ℕ = starts_from b (i + 1) (at + length e) es in
     ap (λ (l : List ℕ). first ++ l) (offsets_joined b (i + 1) (at + length e) es fs)
     ∙ ap (λ (n : ℕ). first ++ (rest ++ block_offsets_from b n (at + length e + length (concat es)) fs)) next
@@ -156,7 +158,7 @@ greatest_from : (b i at k : ℕ) (es : List (List ℕ)) → k ≤ at
 unfolding block_offsets_from
 greatest_from b i at k [] le = omega (arith, le)
 greatest_from b i at k (e ∷ es) le =
-    one (is_head b i) (λ j up. greatest_from b (i + 1) (at + length e) j es up)
+    one (is_block_start b i) (λ j up. greatest_from b (i + 1) (at + length e) j es up)
   where
     one : (h : Bool)
         → ((j : ℕ) → j ≤ at + length e

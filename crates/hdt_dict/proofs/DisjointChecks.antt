@@ -9,7 +9,7 @@ use Rattle.hdt_wire.specs.declared.fault.Reason.TheVariants.{SectionsOverlap}
 use Rattle.hdt_wire.specs.Checks.{◌>>=◌, demand}
 use Rattle.hdt_wire.specs.ItemChecks.{checks_from}
 use Rattle.hdt_front.specs.declared.section.Section.{Section}
-use Rattle.hdt_front.specs.Decoding.{is_head, decoded_string, after_entry}
+use Rattle.hdt_front.specs.Decoding.{is_block_start, decoded_string, after_entry}
 use Rattle.hdt_front.specs.StringChecks.{BlockLayout, rest_offset}
 use Rattle.hdt_front.specs.EntryFacts.{bytes_from_entry, string_before_entry}
 use Rattle.hdt_front.specs.Laws.StringSteps.{string_is}
@@ -76,8 +76,8 @@ length-placed : (p : BlockLayout) (n i : ℕ) (before rest : List ℕ) → lengt
 unfolding located_from
 length-placed p zero i before rest = refl
 length-placed p (suc n) i before rest =
-    ap suc (length-placed p n (i + 1) (decoded_string (is_head p.block_size i) before rest)
-    (after_entry (is_head p.block_size i) rest))
+    ap suc (length-placed p n (i + 1) (decoded_string (is_block_start p.block_size i) before rest)
+    (after_entry (is_block_start p.block_size i) rest))
 
 pub many_placed : (s : Section) → length (located_strings s) ≡ length (strings_of s)
 many_placed s = sym (length-map (located_strings s) (λ (p : LocatedString). p.string))

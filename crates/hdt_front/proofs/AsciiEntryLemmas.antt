@@ -7,7 +7,7 @@ use Rattle.std.specs.Ordering.{is_lt}
 use Rattle.std.specs.Str.{is_utf8}
 use Rattle.std.proofs.lemmas.Str.{IsCharBoundary-before_ascii}
 use Rattle.std.proofs.lemmas.List.{get_or-take, get_or-drop}
-use Rattle.hdt_front.specs.Decoding.{is_head}
+use Rattle.hdt_front.specs.Decoding.{is_block_start}
 use Rattle.hdt_front.specs.StringChecks.{BlockLayout, precedes, prefix_check, string_check}
 use Rattle.hdt_front.specs.Inside.LoadRuns.{ascii_run}
 use Rattle.hdt_front.specs.Inside.AsciiEntries.{IsAsciiEntry}
@@ -71,7 +71,7 @@ ascii_entry_of_suffix before rest text kept len e utf8 some top byte number fits
     (ap (λ (t : List ℕ). get_or t len 0) (sym e)
     ∙ ends) (subst (λ (t : List ℕ). get_or before kept 0 < get_or t 0 0) e less)
 
-opens : (p : BlockLayout) (i : ℕ) (before rest : List ℕ) (kept len : ℕ) → is_head p.block_size i ≡ false
+opens : (p : BlockLayout) (i : ℕ) (before rest : List ℕ) (kept len : ℕ) → is_block_start p.block_size i ≡ false
     → IsAsciiEntry before rest kept len → prefix_check p i rest ≡ Ok (kept, drop 1 rest)
 unfolding prefix_check
 opens p i before rest kept len head h = let number = h.number in rw (head, number) refl

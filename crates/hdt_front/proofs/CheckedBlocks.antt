@@ -5,7 +5,8 @@ use Rattle.std.proofs.Common.{add-one, zero-add}
 use Rattle.std.proofs.Math.Nat.{mul-div_left, mul-mod_left, div-eq_of_lt, div-zero, mul-le-mul_left, le-div_iff_mul-le}
 use Rattle.std.proofs.lemmas.Nat.{mod-mul-add}
 use Rattle.hdt_wire.specs.Checks.{len_before_zero}
-use Rattle.hdt_front.specs.Decoding.{is_head, kept, bytes_from_suffix, suffix_of, decoded_string, after_entry}
+use Rattle.hdt_front.specs.Decoding.{is_block_start, stored_prefix_len, bytes_from_suffix, suffix_of, decoded_string}
+use Rattle.hdt_front.specs.Decoding.{after_entry}
 use Rattle.hdt_front.specs.Decoding.{decoded_strings}
 use Rattle.hdt_front.specs.StringChecks.{BlockLayout, strings_check, precedes}
 use Rattle.hdt_front.specs.EntryFacts.{IsCheckedEntry, bytes_from_entry, string_before_entry}
@@ -38,12 +39,12 @@ pub record IsBlockHead (b q : ℕ) (bytes starts : List ℕ) (strings : List (Li
   pub after : bytes_from_entry b (q * b + 1) bytes
       ≡ drop (len_before_zero (drop (get_or starts q 0) bytes) + 1) (drop (get_or starts q 0) bytes)
 
-at_head : (p : BlockLayout) (i : ℕ) (before rest : List ℕ) → is_head p.block_size i ≡ true
+at_head : (p : BlockLayout) (i : ℕ) (before rest : List ℕ) → is_block_start p.block_size i ≡ true
     → IsCheckedEntry p i before rest
     → (get_or p.block_offsets (i / p.block_size) 0 ≡ p.size - length rest) × (len_before_zero rest < length rest)
-    × (decoded_string (is_head p.block_size i) before rest ≡ take (len_before_zero rest) rest)
-    × (after_entry (is_head p.block_size i) rest ≡ drop (len_before_zero rest + 1) rest)
-unfolding decoded_string after_entry suffix_of bytes_from_suffix kept
+    × (decoded_string (is_block_start p.block_size i) before rest ≡ take (len_before_zero rest) rest)
+    × (after_entry (is_block_start p.block_size i) rest ≡ drop (len_before_zero rest + 1) rest)
+unfolding decoded_string after_entry suffix_of bytes_from_suffix stored_prefix_len
 at_head p i before rest h r = (
   r.start h,
   subst (λ (g : Bool). len_before_zero (bytes_from_suffix g rest)
@@ -61,7 +62,7 @@ block_head p n q bytes size some h e =
     let i : ℕ = q * p.block_size in
     let inside : q * p.block_size < n = head_inside n p.block_size q some h in
     let rest : List ℕ = bytes_from_entry p.block_size (q * p.block_size) bytes in
-    let head : is_head p.block_size (q * p.block_size) ≡ true = eq-eqb _ _ (mul-mod_left q p.block_size) in
+    let head : is_block_start p.block_size (q * p.block_size) ≡ true = eq-eqb _ _ (mul-mod_left q p.block_size) in
     let row = at_head p (q * p.block_size) (string_before_entry p.block_size (q * p.block_size) bytes) rest head
     (entry_check_at p n (q * p.block_size) bytes inside e) in
     let entry : q * p.block_size / p.block_size ≡ q = mul-div_left q some in
@@ -81,8 +82,9 @@ block_head p n q bytes size some h e =
 
 -- An entry that is not the first of its block.
 pub record IsBlockEntry (b i : ℕ) (bytes rest : List ℕ) (strings : List (List ℕ)) : Type 0 where
-  pub fits : kept false rest ≤ length (get_or strings (i - 1) [])
-  pub string : get_or strings i [] ≡ take (kept false rest) (get_or strings (i - 1) []) ++ suffix_of false rest
+  pub fits : stored_prefix_len false rest ≤ length (get_or strings (i - 1) [])
+  pub string : get_or strings i [] ≡ take (stored_prefix_len false rest) (get_or strings (i - 1) [])
+      ++ suffix_of false rest
   pub ends : len_before_zero (bytes_from_suffix false rest) < length (bytes_from_suffix false rest)
   pub after : bytes_from_entry b (i + 1) bytes ≡ after_entry false rest
 
@@ -105,13 +107,13 @@ piece_at p n q r bytes some short h e =
     let i : ℕ = q * p.block_size + r in
     let rest : List ℕ = bytes_from_entry p.block_size (q * p.block_size + r) bytes in
     let before : List ℕ = string_before_entry p.block_size (q * p.block_size + r) bytes in
-    let head : is_head p.block_size (q * p.block_size + r) ≡ false =
+    let head : is_block_start p.block_size (q * p.block_size + r) ≡ false =
     ap (λ k. eqb k 0) (mod-mul-add q p.block_size r short) ∙ not_zero r some in
     let row = entry_check_at p n (q * p.block_size + r) bytes h e in
     let last = before_is p.block_size n (q * p.block_size + r) bytes (omega (arith, some)) h in
     record {
-      fits = subst (λ (l : List ℕ). kept false rest
-          ≤ length l) last (subst (λ (g : Bool). kept g rest ≤ length before) head row.fits);
+      fits = subst (λ (l : List ℕ). stored_prefix_len false rest
+          ≤ length l) last (subst (λ (g : Bool). stored_prefix_len g rest ≤ length before) head row.fits);
       string = string_is p.block_size n (q * p.block_size + r) bytes h ∙ ap (λ g. decoded_string g before rest) head
           ∙ ap (λ l. decoded_string false l rest) last;
       ends = subst (λ (g : Bool). len_before_zero (bytes_from_suffix g rest)
@@ -161,7 +163,7 @@ pub record IsReadEntry (s : Section) (i k : ℕ) (text after : List ℕ) : Type 
 pub read_entry_is : (s : Section) (q r k : ℕ) (before text rest : List ℕ) → 1 ≤ r → r < s.packed.block_size
     → q * s.packed.block_size + r < s.packed.count
     → before ≡ bytes_from_entry s.packed.block_size (q * s.packed.block_size + r) s.packed.bytes.now
-    → k ≡ kept false before → text ≡ suffix_of false before → rest ≡ after_entry false before
+    → k ≡ stored_prefix_len false before → text ≡ suffix_of false before → rest ≡ after_entry false before
     → IsReadEntry s (q * s.packed.block_size + r) k text rest
 unfolding strings_of
 read_entry_is s q r k before text rest some short inside is kept_is text_is rest_is =
@@ -172,7 +174,7 @@ read_entry_is s q r k before text rest some short inside is kept_is text_is rest
       inside = omega (arith, inside, length-decoded_strings p.block_size p.count 0 [] p.bytes.now);
       fits = omega (arith, kept_is, here.fits);
       string = ap (λ (k : ℕ). take k last ++ text) kept_is
-          ∙ ap (λ (t : List ℕ). take (kept false before) last ++ t) text_is ∙ sym here.string;
+          ∙ ap (λ (t : List ℕ). take (stored_prefix_len false before) last ++ t) text_is ∙ sym here.string;
       rest = rest_is ∙ sym here.after;
     }
 

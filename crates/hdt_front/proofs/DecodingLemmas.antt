@@ -9,7 +9,8 @@ use Rattle.std.proofs.lemmas.List.{append-nil, take-take, drop-drop}
 use Rattle.std.proofs.lemmas.Simd.{take_more_put_chunk, length-chunk}
 use lib.Lanes.{chunk, put_chunk}
 use Rattle.hdt_wire.specs.Checks.{len_before_zero}
-use Rattle.hdt_front.specs.Decoding.{is_head, kept, value_or, bytes_from_suffix, suffix_of, decoded_string, after_entry}
+use Rattle.hdt_front.specs.Decoding.{is_block_start, stored_prefix_len, value_or, bytes_from_suffix, suffix_of}
+use Rattle.hdt_front.specs.Decoding.{decoded_string, after_entry}
 use Rattle.hdt_front.specs.Decoding.{decoded_strings}
 use Rattle.hdt_front.specs.StringChecks.{BlockLayout, strings_check}
 use Rattle.hdt_front.specs.EntryFacts.{bytes_from_entry, string_before_entry}
@@ -22,20 +23,20 @@ use Rattle.hdt_front.specs.Laws.IterationSteps.{not_zero}
 
 pub record Unfolds (b q k : ℕ) (bytes rest : List ℕ) : Type 0 where
   pub ends : len_before_zero (bytes_from_suffix (nat_eq k 0) rest) < length (bytes_from_suffix (nat_eq k 0) rest)
-  pub fits : kept (nat_eq k 0) rest ≤ length (partial_string b q k bytes)
-  pub string : take (kept (nat_eq k 0) rest) (partial_string b q k bytes) ++ suffix_of (nat_eq k 0) rest
+  pub fits : stored_prefix_len (nat_eq k 0) rest ≤ length (partial_string b q k bytes)
+  pub string : take (stored_prefix_len (nat_eq k 0) rest) (partial_string b q k bytes) ++ suffix_of (nat_eq k 0) rest
       ≡ partial_string b q (k + 1) bytes
   pub after : after_entry (nat_eq k 0) rest ≡ bytes_from_entry b (q * b + (k + 1)) bytes
 
 unfolds : (p : BlockLayout) (n q k : ℕ) (bytes : List ℕ) → k < p.block_size → q * p.block_size + k < n
     → strings_check p n 0 [] bytes ≡ Ok tt
     → Unfolds p.block_size q k bytes (bytes_from_entry p.block_size (q * p.block_size + k) bytes)
-unfolding bytes_from_entry string_before_entry decoded_string kept bytes_from_suffix suffix_of after_entry
+unfolding bytes_from_entry string_before_entry decoded_string stored_prefix_len bytes_from_suffix suffix_of after_entry
 unfolds p n q zero bytes short h e =
     let i : ℕ = q * p.block_size + 0 in
     let rest : List ℕ = bytes_from_entry p.block_size (q * p.block_size + 0) bytes in
     let before : List ℕ = string_before_entry p.block_size (q * p.block_size + 0) bytes in
-    let head : is_head p.block_size (q * p.block_size + 0) ≡ true =
+    let head : is_block_start p.block_size (q * p.block_size + 0) ≡ true =
     ap (λ k. eqb (k % p.block_size) 0) (add-zero (q * p.block_size)) ∙ eq-eqb _ _ (mul-mod_left q p.block_size) in
     let row = entry_check_at p n (q * p.block_size + 0) bytes h e in
     let next : q * p.block_size + (0 + 1) ≡ suc (q * p.block_size + 0) = omega arith in
@@ -51,7 +52,7 @@ unfolds p n q (suc k) bytes short h e =
     let rest : List ℕ = bytes_from_entry p.block_size (q * p.block_size + suc k) bytes in
     let before : List ℕ = string_before_entry p.block_size (q * p.block_size + suc k) bytes in
     let zero_test : nat_eq (suc k) 0 ≡ false = not_zero (suc k) (omega arith) in
-    let head : is_head p.block_size (q * p.block_size + suc k) ≡ nat_eq (suc k) 0 =
+    let head : is_block_start p.block_size (q * p.block_size + suc k) ≡ nat_eq (suc k) 0 =
     ap (λ k. eqb k 0) (mod-mul-add q p.block_size (suc k) short) in
     let row = entry_check_at p n (q * p.block_size + suc k) bytes h e in
     let next : q * p.block_size + (suc k + 1) ≡ suc (q * p.block_size + suc k) = omega arith in
@@ -60,7 +61,7 @@ unfolds p n q (suc k) bytes short h e =
     record {
       ends = subst (λ (g : Bool). len_before_zero (bytes_from_suffix g rest)
           < length (bytes_from_suffix g rest)) head row.ends;
-      fits = subst (λ (g : Bool). kept g rest ≤ length before) head row.fits;
+      fits = subst (λ (g : Bool). stored_prefix_len g rest ≤ length before) head row.fits;
       string = ap (λ g. decoded_string g before rest) (sym head)
           ∙ ap (λ m. string_before_entry p.block_size m bytes) (sym up)
           ∙ ap (λ m. partial_string p.block_size q m bytes) (sym two);
@@ -128,7 +129,7 @@ pub head_partly_decoded : (p : BlockLayout) (n q : ℕ) (bytes buffer left : Lis
     → q * p.block_size < n → strings_check p n 0 [] bytes ≡ Ok tt
     → left ≡ bytes_from_entry p.block_size (q * p.block_size) bytes
     → IsPartlyDecoded p.block_size q 1 bytes buffer 0 left
-unfolding kept bytes_from_suffix suffix_of after_entry
+unfolding stored_prefix_len bytes_from_suffix suffix_of after_entry
 head_partly_decoded p n q bytes buffer left some h e is =
     let here = is ∙ ap (λ k. bytes_from_entry p.block_size k bytes) (sym (add-zero (q * p.block_size))) in
     let u = unfolds_here p n q 0 bytes left some (omega (arith, h)) e here in
@@ -159,7 +160,7 @@ pub next_partly_decoded : (p : BlockLayout) (n q k : ℕ) (bytes buffer left : L
     → q * p.block_size + k < n
     → strings_check p n 0 [] bytes ≡ Ok tt → vbyte_at (drop 1 left) 0 ≡ Ok (m, 1)
     → IsPartlyDecoded p.block_size q (k + 1) bytes buffer m (drop 2 left)
-unfolding kept bytes_from_suffix suffix_of after_entry
+unfolding stored_prefix_len bytes_from_suffix suffix_of after_entry
 next_partly_decoded p n q k bytes buffer left at m s done some short h e number =
     let whole : take at buffer ≡ partial_string p.block_size q k bytes = sym (append-nil (take at buffer))
     ∙ ap (λ z. take at buffer ++ take z left) (sym done) ∙ s.string in
@@ -167,7 +168,7 @@ next_partly_decoded p n q k bytes buffer left at m s done some short h e number 
     ∙ length-take-le at buffer s.within in
     let u = unfolds_here p n q k bytes (drop 1 left) short h e (ap (λ z. drop (z + 1) left) (sym done) ∙ s.after) in
     let first = not_zero k some in
-    let keeps : kept (nat_eq k 0) (drop 1 left) ≡ m = ap (λ g. kept g (drop 1 left)) first
+    let keeps : stored_prefix_len (nat_eq k 0) (drop 1 left) ≡ m = ap (λ g. stored_prefix_len g (drop 1 left)) first
     ∙ ap (λ (r : Result (ℕ × ℕ) Fault). (value_or (0, 0) r).0) number in
     let from : bytes_from_suffix (nat_eq k 0) (drop 1 left) ≡ drop 2 left =
     ap (λ g. bytes_from_suffix g (drop 1 left)) first
@@ -179,7 +180,7 @@ next_partly_decoded p n q k bytes buffer left at m s done some short h e number 
           ∙ ap (take m) whole)
           ∙ ap (λ z. take z (partial_string p.block_size q k bytes)
           ++ take (len_before_zero (drop 2 left)) (drop 2 left)) (sym keeps)
-          ∙ ap (λ l. take (kept (nat_eq k 0) (drop 1 left)) (partial_string p.block_size q k bytes)
+          ∙ ap (λ l. take (stored_prefix_len (nat_eq k 0) (drop 1 left)) (partial_string p.block_size q k bytes)
           ++ take (len_before_zero l) l) (sym from) ∙ u.string;
       ends = subst (λ l. len_before_zero l < length l) from u.ends;
       after = ap (λ l. drop (len_before_zero l + 1) l) (sym from) ∙ u.after;

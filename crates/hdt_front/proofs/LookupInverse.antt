@@ -12,7 +12,7 @@ use Rattle.std.proofs.lemmas.Bool.{cases_lt}
 use Rattle.std.proofs.Math.Nat.{lt-div-mul-add, div-mul-le_self, mul-le-mul_left}
 use Rattle.hdt_front.specs.declared.section.Section.{Section}
 use Rattle.hdt_wire.specs.Checks.{len_before_zero}
-use Rattle.hdt_front.specs.Decoding.{is_head, decoded_string, after_entry, decoded_strings}
+use Rattle.hdt_front.specs.Decoding.{is_block_start, decoded_string, after_entry, decoded_strings}
 use Rattle.hdt_front.specs.Laws.FrontCodingSteps.{NoZero}
 use Rattle.hdt_front.specs.Laws.ChecksSound.{string_no_zero}
 use Rattle.hdt_front.specs.Laws.StringSteps.{length-decoded_strings}
@@ -125,10 +125,11 @@ unfolded_no_zero : (b n i : ℕ) (before rest : List ℕ) (k : ℕ) → NoZero b
     → NoZero (get_or (decoded_strings b n i before rest) k [])
 unfolding decoded_strings
 unfolded_no_zero b zero i before rest k none h = absurd (omega (arith, h))
-unfolded_no_zero b (suc n) i before rest zero none h = string_no_zero (is_head b i) before rest none
+unfolded_no_zero b (suc n) i before rest zero none h = string_no_zero (is_block_start b i) before rest none
 unfolded_no_zero b (suc n) i before rest (suc k) none h =
-    unfolded_no_zero b n (i + 1) (decoded_string (is_head b i) before rest) (after_entry (is_head b i) rest) k
-    (string_no_zero (is_head b i) before rest none) (omega (arith, h))
+    unfolded_no_zero b n (i + 1) (decoded_string (is_block_start b i) before rest)
+    (after_entry (is_block_start b i) rest) k
+    (string_no_zero (is_block_start b i) before rest none) (omega (arith, h))
 
 pub string_has_none : (s : Section) (k : ℕ) → k < length (strings_of s) → NoZero (get_or (strings_of s) k [])
 unfolding strings_of NoZero

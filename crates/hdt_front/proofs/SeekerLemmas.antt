@@ -3,7 +3,7 @@ use Rattle.std.proofs.Common.{◌≡◌, ℕ, suc, ◌+◌, ◌-◌, ◌*◌, �
 use Rattle.std.proofs.Common.{subst}
 use Rattle.hdt_wire.specs.Checks.{len_before_zero}
 use Rattle.hdt_front.specs.declared.section.Section.{Section}
-use Rattle.hdt_front.specs.Decoding.{is_head, bytes_from_suffix, decoded_string, after_entry}
+use Rattle.hdt_front.specs.Decoding.{is_block_start, bytes_from_suffix, decoded_string, after_entry}
 use Rattle.hdt_front.specs.EntryFacts.{string_before_entry, bytes_from_entry}
 use Rattle.hdt_front.specs.PackedView.{block_layout}
 use Rattle.hdt_front.specs.Strings.{strings_of, blocks_of}
@@ -31,11 +31,11 @@ string_before s i h =
     ∙ ap (λ k. string_before_entry s.packed.block_size k s.packed.bytes.now) next
 
 pub record Passes (s : Section) (i : ℕ) (last rest : List ℕ) : Type 0 where
-  pub ends : len_before_zero (bytes_from_suffix (is_head s.packed.block_size i) rest)
-      < length (bytes_from_suffix (is_head s.packed.block_size i) rest)
-  pub string : decoded_string (is_head s.packed.block_size i) last rest
+  pub ends : len_before_zero (bytes_from_suffix (is_block_start s.packed.block_size i) rest)
+      < length (bytes_from_suffix (is_block_start s.packed.block_size i) rest)
+  pub string : decoded_string (is_block_start s.packed.block_size i) last rest
       ≡ string_before_entry s.packed.block_size (i + 1) s.packed.bytes.now
-  pub after : after_entry (is_head s.packed.block_size i) rest
+  pub after : after_entry (is_block_start s.packed.block_size i) rest
       ≡ bytes_from_entry s.packed.block_size (i + 1) s.packed.bytes.now
 
 -- The step from string i to the next one.
@@ -51,12 +51,12 @@ passes s i last rest h el er =
     let row = entry_check_at p s.packed.count i bytes h s.read in
     let next : suc i ≡ i + 1 = omega arith in
     record {
-      ends = subst (λ (r : List ℕ). len_before_zero (bytes_from_suffix (is_head b i) r)
-          < length (bytes_from_suffix (is_head b i) r)) (sym er) row.ends;
-      string = ap (λ l. decoded_string (is_head b i) l rest) el
-          ∙ ap (decoded_string (is_head b i) (string_before_entry b i bytes)) er
+      ends = subst (λ (r : List ℕ). len_before_zero (bytes_from_suffix (is_block_start b i) r)
+          < length (bytes_from_suffix (is_block_start b i) r)) (sym er) row.ends;
+      string = ap (λ l. decoded_string (is_block_start b i) l rest) el
+          ∙ ap (decoded_string (is_block_start b i) (string_before_entry b i bytes)) er
           ∙ ap (λ k. string_before_entry b k bytes) next;
-      after = ap (after_entry (is_head b i)) er ∙ ap (λ k. bytes_from_entry b k bytes) next;
+      after = ap (after_entry (is_block_start b i)) er ∙ ap (λ k. bytes_from_entry b k bytes) next;
     }
 
 -- The state of a cursor at a string.

@@ -7,7 +7,7 @@ use Rattle.std.proofs.lemmas.List.Folds.{concat-append}
 use Rattle.hdt_wire.specs.Control.{HasNoZero}
 use Rattle.hdt_wire.specs.Checks.{HasSlice}
 use Rattle.hdt_wire.specs.Laws.Checks.{HasSlice-after}
-use Rattle.hdt_front.specs.Decoding.{is_head, after_entry, decoded_strings}
+use Rattle.hdt_front.specs.Decoding.{is_block_start, after_entry, decoded_strings}
 use Rattle.hdt_front.specs.Laws.FrontCodingSteps.{AreEntries}
 use Rattle.hdt_front.specs.Laws.FrontCoding.{nonzero_to}
 use Rattle.hdt_front.specs.Laws.StringSteps.{length-decoded_strings}
@@ -28,10 +28,10 @@ decode_entries b i last [] [] each clean = refl
 decode_entries b i last [] (p ∷ entries) each clean = absurd each
 decode_entries b i last (s ∷ strings) [] each clean = absurd each
 decode_entries b i last (s ∷ strings) (p ∷ entries) each clean =
-    let h = entry_decodes (is_head b i) last s p (p ++ concat entries) (concat entries) each.0
+    let h = entry_decodes (is_block_start b i) last s p (p ++ concat entries) (concat entries) each.0
     (nonzero_to s (clean 0 [] (omega arith))) refl in
     ap (λ (x : List ℕ). x ∷ decoded_strings b (length strings) (i + 1) x
-    (after_entry (is_head b i) (p ++ concat entries))) h.string_is
+    (after_entry (is_block_start b i) (p ++ concat entries))) h.string_is
     ∙ ap (λ (x : List ℕ). s ∷ decoded_strings b (length strings) (i + 1) s x) h.after_is
     ∙ ap (λ (xs : List (List ℕ)). s
     ∷ xs) (decode_entries b (i + 1) s strings entries each.1 (λ k d lt. clean (suc k) d (omega (arith, lt))))
@@ -46,34 +46,36 @@ unfolds b strings some clean small =
 
 pieces_more : (b i : ℕ) (last : List ℕ) (strings : List (List ℕ)) (s : List ℕ)
     → encode_entries b i last (strings ++ s ∷ []) ≡ encode_entries b i last strings
-    ++ encode_entry (is_head b (i + length strings)) (get_or (last ∷ strings) (length strings) []) s ∷ []
+    ++ encode_entry (is_block_start b (i + length strings)) (get_or (last ∷ strings) (length strings) []) s ∷ []
 unfolding encode_entries
-pieces_more b i last [] s = ap (λ n. encode_entry (is_head b n) last s ∷ []) (sym (add-zero i))
+pieces_more b i last [] s = ap (λ n. encode_entry (is_block_start b n) last s ∷ []) (sym (add-zero i))
 pieces_more b i last (x ∷ strings) s =
     let next : (i + 1) + length strings ≡ i + suc (length strings) = omega arith in
-    let p : List ℕ = encode_entry (is_head b i) last x in
+    let p : List ℕ = encode_entry (is_block_start b i) last x in
     ap (λ l. p ∷ l) (pieces_more b (i + 1) x strings s)
     ∙ ap (λ n. p ∷ (encode_entries b (i + 1) x strings
-    ++ encode_entry (is_head b n) (get_or (x ∷ strings) (length strings) []) s ∷ [])) next
+    ++ encode_entry (is_block_start b n) (get_or (x ∷ strings) (length strings) []) s ∷ [])) next
 
 heads_more : (b i at : ℕ) (entries : List (List ℕ)) (p : List ℕ)
     → starts_without_end b i at (entries ++ p ∷ []) ≡ starts_without_end b i at entries
-    ++ cond (is_head b (i + length entries)) ((at + length (concat entries)) ∷ []) []
+    ++ cond (is_block_start b (i + length entries)) ((at + length (concat entries)) ∷ []) []
 unfolding starts_without_end
 heads_more b i at [] p =
-    append-nil (cond (is_head b i) (at ∷ []) []) ∙ ap (λ (n : ℕ). cond (is_head b n) (at ∷ []) []) (sym (add-zero i))
-    ∙ ap (λ (n : ℕ). cond (is_head b (i + 0)) (n ∷ []) []) (sym (add-zero at))
+    append-nil (cond (is_block_start b i) (at ∷ []) [])
+    ∙ ap (λ (n : ℕ). cond (is_block_start b n) (at ∷ []) []) (sym (add-zero i))
+    ∙ ap (λ (n : ℕ). cond (is_block_start b (i + 0)) (n ∷ []) []) (sym (add-zero at))
 heads_more b i at (x ∷ entries) p =
     let next : (i + 1) + length entries ≡ i + suc (length entries) = omega arith in
     let place : at + length x + length (concat entries) ≡ at + length (x ++ concat entries) =
     omega (arith, length-append x (concat entries)) in
-    let first : List ℕ = cond (is_head b i) (at ∷ []) [] in
+    let first : List ℕ = cond (is_block_start b i) (at ∷ []) [] in
     let rest : List ℕ = starts_without_end b (i + 1) (at + length x) entries in
     ap (λ l. first ++ l) (heads_more b (i + 1) (at + length x) entries p)
-    ∙ ap (λ (n : ℕ). first ++ (rest ++ cond (is_head b n) ((at + length x + length (concat entries)) ∷ []) [])) next
-    ∙ ap (λ (n : ℕ). first ++ (rest ++ cond (is_head b (i + suc (length entries))) (n ∷ []) [])) place
+    ∙ ap (λ (n : ℕ). first
+    ++ (rest ++ cond (is_block_start b n) ((at + length x + length (concat entries)) ∷ []) [])) next
+    ∙ ap (λ (n : ℕ). first ++ (rest ++ cond (is_block_start b (i + suc (length entries))) (n ∷ []) [])) place
     ∙ sym (append_assoc first rest
-    (cond (is_head b (i + suc (length entries))) ((at + length (x ++ concat entries)) ∷ []) []))
+    (cond (is_block_start b (i + suc (length entries))) ((at + length (x ++ concat entries)) ∷ []) []))
 
 pub none_kept : (b : ℕ) → 1 ≤ b → b < 2 ^ 32 → IsWriterState b (decoded_strings b 0 0 [] []) [] [] []
 unfolding decoded_strings starts_without_end encode_entries
@@ -88,29 +90,31 @@ none_kept b some fits = record {
 
 module _ (b : ℕ) (strings : List (List ℕ)) (s last starts packed : List ℕ)
     (h : IsWriterState b strings last starts packed) where
-  next_packed : (new : List ℕ) → new ≡ packed ++ encode_entry (is_head b (length strings)) last s
+  next_packed : (new : List ℕ) → new ≡ packed ++ encode_entry (is_block_start b (length strings)) last s
       → new ≡ packed_of b (strings ++ s ∷ [])
   next_packed new e =
-      let entry : List ℕ = encode_entry (is_head b (length strings)) (before strings (length strings)) s in
-      e ∙ ap (λ x. packed ++ encode_entry (is_head b (length strings)) x s) h.last ∙ ap (λ l. l ++ entry) h.packed
+      let entry : List ℕ = encode_entry (is_block_start b (length strings)) (before strings (length strings)) s in
+      e ∙ ap (λ x. packed ++ encode_entry (is_block_start b (length strings)) x s) h.last
+      ∙ ap (λ l. l ++ entry) h.packed
       ∙ ap (λ l. concat (encode_entries b 0 [] strings) ++ l) (sym (append-nil entry))
       ∙ sym (concat-append (encode_entries b 0 [] strings) (entry ∷ []))
       ∙ ap (λ (n : ℕ). concat (encode_entries b 0 [] strings
-      ++ encode_entry (is_head b n) (before strings (length strings)) s ∷ [])) (sym (zero-add (length strings)))
+      ++ encode_entry (is_block_start b n) (before strings (length strings)) s ∷ [])) (sym (zero-add (length strings)))
       ∙ ap concat (sym (pieces_more b 0 [] strings s))
 
-  next_starts : (new : List ℕ) → new ≡ starts ++ cond (is_head b (length strings)) (length packed ∷ []) []
+  next_starts : (new : List ℕ) → new ≡ starts ++ cond (is_block_start b (length strings)) (length packed ∷ []) []
       → new ≡ starts_without_end b 0 0 (encode_entries b 0 [] (strings ++ s ∷ []))
   next_starts new e =
       let entries : List (List ℕ) = encode_entries b 0 [] strings in
       let n : 0 + length entries ≡ length strings = omega (arith, entry_count b 0 [] strings) in
       let place : length packed ≡ 0 + length (concat entries) = ap length h.packed ∙ sym (zero-add _) in
-      e ∙ ap (λ l. l ++ cond (is_head b (length strings)) (length packed ∷ []) []) h.starts
-      ∙ ap (λ (k : ℕ). starts_without_end b 0 0 entries ++ cond (is_head b (length strings)) (k ∷ []) []) place
-      ∙ ap (λ (k : ℕ). starts_without_end b 0 0 entries ++ cond (is_head b k) ((0 + length (concat entries)) ∷ []) [])
+      e ∙ ap (λ l. l ++ cond (is_block_start b (length strings)) (length packed ∷ []) []) h.starts
+      ∙ ap (λ (k : ℕ). starts_without_end b 0 0 entries ++ cond (is_block_start b (length strings)) (k ∷ []) []) place
+      ∙ ap (λ (k : ℕ). starts_without_end b 0 0 entries
+      ++ cond (is_block_start b k) ((0 + length (concat entries)) ∷ []) [])
       (sym n)
       ∙ sym (heads_more b 0 0 entries
-      (encode_entry (is_head b (0 + length strings)) (before strings (length strings)) s))
+      (encode_entry (is_block_start b (0 + length strings)) (before strings (length strings)) s))
       ∙ ap (starts_without_end b 0 0) (sym (pieces_more b 0 [] strings s))
 
 -- The state after adding a string.
@@ -120,17 +124,17 @@ pub record OneMore (b n : ℕ) (strings : List (List ℕ)) (s last starts packed
 
 pub one_more : (b n : ℕ) (s last starts packed last' starts' packed' : List ℕ)
     → IsWriterState b (decoded_strings b n 0 [] packed) last starts packed → HasNoZero s → length packed' < 2 ^ 64
-    → packed' ≡ packed ++ encode_entry (is_head b n) last s
-    → starts' ≡ starts ++ cond (is_head b n) (length packed ∷ []) [] → last' ≡ s
+    → packed' ≡ packed ++ encode_entry (is_block_start b n) last s
+    → starts' ≡ starts ++ cond (is_block_start b n) (length packed ∷ []) [] → last' ≡ s
     → OneMore b n (decoded_strings b n 0 [] packed) s last' starts' packed'
 one_more b n s last starts packed last' starts' packed' h clean small ep es el =
     let strings : List (List ℕ) = decoded_strings b n 0 [] packed in
     let many : n ≡ length (decoded_strings b n 0 [] packed) = sym (length-decoded_strings b n 0 [] packed) in
     let all : List (List ℕ) = strings ++ s ∷ [] in
     let p = next_packed b strings s last starts packed h packed' (ep
-    ∙ ap (λ (k : ℕ). packed ++ encode_entry (is_head b k) last s) many) in
+    ∙ ap (λ (k : ℕ). packed ++ encode_entry (is_block_start b k) last s) many) in
     let st = next_starts b strings s last starts packed h starts' (es
-    ∙ ap (λ (k : ℕ). starts ++ cond (is_head b k) (length packed ∷ []) []) many) in
+    ∙ ap (λ (k : ℕ). starts ++ cond (is_block_start b k) (length packed ∷ []) []) many) in
     let none = All-push HasNoZero strings s h.no_zero clean in
     let long : n + 1 ≡ length all = omega (arith, many, length-append strings (s ∷ [])) in
     let are : decoded_strings b (n + 1) 0 [] packed' ≡ all = ap (λ (k : ℕ). decoded_strings b k 0 [] packed') long
@@ -178,7 +182,7 @@ starts_are b i at [] = ap (λ (n : ℕ). n ∷ []) (add-zero at)
 starts_are b i at (x ∷ entries) =
     let place : at + length (x ++ concat entries) ≡ at + length x + length (concat entries) =
     omega (arith, length-append x (concat entries)) in
-    let first : List ℕ = cond (is_head b i) (at ∷ []) [] in
+    let first : List ℕ = cond (is_block_start b i) (at ∷ []) [] in
     let rest : List ℕ = starts_without_end b (i + 1) (at + length x) entries in
     append_assoc first rest ((at + length (x ++ concat entries)) ∷ []) ∙ ap (λ (n : ℕ). first ++ (rest ++ n ∷ [])) place
     ∙ ap (λ l. first ++ l) (starts_are b (i + 1) (at + length x) entries)

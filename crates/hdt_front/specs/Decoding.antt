@@ -11,30 +11,32 @@ abbrev pub value_or : {A : Type 0} → A → Result A Fault → A
 value_or d (Ok x) = x
 value_or d (Err f) = d
 
--- The prefix length of the entry at the start of the bytes; 0 if the entry is the first of its block (`head`), which
--- stores no prefix length.
-unfoldable pub kept : Bool → List ℕ → ℕ
-kept head bytes = cond head 0 (value_or (0, 0) (vbyte_at bytes 0)).0
+-- The prefix length of the entry at the start of the bytes; 0 if the entry starts a block, as such entries store none.
+unfoldable pub stored_prefix_len : Bool → List ℕ → ℕ
+stored_prefix_len starts_block bytes = cond starts_block 0 (value_or (0, 0) (vbyte_at bytes 0)).0
 
 -- The bytes from the suffix of the entry on.
 unfoldable pub bytes_from_suffix : Bool → List ℕ → List ℕ
-bytes_from_suffix head bytes = cond head bytes (drop (value_or (0, 0) (vbyte_at bytes 0)).1 bytes)
+bytes_from_suffix starts_block bytes = cond starts_block bytes (drop (value_or (0, 0) (vbyte_at bytes 0)).1 bytes)
 
 -- The suffix of the entry.
 unfoldable pub suffix_of : Bool → List ℕ → List ℕ
-suffix_of head bytes = take (len_before_zero (bytes_from_suffix head bytes)) (bytes_from_suffix head bytes)
+suffix_of starts_block bytes =
+    take (len_before_zero (bytes_from_suffix starts_block bytes)) (bytes_from_suffix starts_block bytes)
 
 -- The string of the entry, given the previous string: a prefix of that, and the suffix.
 unfoldable pub decoded_string : Bool → List ℕ → List ℕ → List ℕ
-decoded_string head before bytes = take (kept head bytes) before ++ suffix_of head bytes
+decoded_string starts_block before bytes =
+    take (stored_prefix_len starts_block bytes) before ++ suffix_of starts_block bytes
 
 -- The bytes after the entry.
 unfoldable pub after_entry : Bool → List ℕ → List ℕ
-after_entry head bytes = drop (len_before_zero (bytes_from_suffix head bytes) + 1) (bytes_from_suffix head bytes)
+after_entry starts_block bytes =
+    drop (len_before_zero (bytes_from_suffix starts_block bytes) + 1) (bytes_from_suffix starts_block bytes)
 
 -- Whether string i, from 0, is the first of its block.
-abbrev pub is_head : ℕ → ℕ → Bool
-is_head b i = (i % b) == 0
+abbrev pub is_block_start : ℕ → ℕ → Bool
+is_block_start b i = (i % b) == 0
 
 -- The number of blocks of n strings: n divided by the block size, rounded up.
 abbrev pub block_count : ℕ → ℕ → ℕ
@@ -44,5 +46,6 @@ block_count n block_size = (n + (block_size - 1)) / block_size
 unfoldable pub decoded_strings : ℕ → ℕ → ℕ → List ℕ → List ℕ → List (List ℕ)
 decoded_strings b zero i before bytes = []
 decoded_strings b (suc n) i before bytes =
-    decoded_string (is_head b i) before bytes
-    ∷ decoded_strings b n (i + 1) (decoded_string (is_head b i) before bytes) (after_entry (is_head b i) bytes)
+    decoded_string (is_block_start b i) before bytes
+    ∷ decoded_strings b n (i + 1) (decoded_string (is_block_start b i) before bytes)
+    (after_entry (is_block_start b i) bytes)

@@ -1,19 +1,19 @@
--- Front coding of one string.
+-- Front coding of one string: its string entry.
 use Rattle.std.specs.Prelude.{ℕ, ◌≡◌, ◌≤◌, ◌<◌, ◌^◌, List, [], ◌∷◌, ◌++◌, Bool, true, false, length, take, drop}
 use Rattle.hdt_wire.specs.VByte.{VByte}
 
--- The entry shares a prefix with the previous string: the prefix length as a VByte, the suffix, and a zero byte. The
--- prefix need not be the longest one.
+-- The string entry shares a prefix with the previous string: the prefix length as a VByte, the suffix, and a zero byte.
+-- The prefix need not be the longest one.
 pub record SharesPrefix (before string entry : List ℕ) : Type 0 where
-  pub kept : ℕ
+  pub prefix_len : ℕ
   pub front : List ℕ
-  pub spelled : VByte front kept
-  pub small : kept < 2 ^ 64
-  pub fits : kept ≤ length before
-  pub agree : take kept before ≡ take kept string
-  pub is : entry ≡ front ++ (drop kept string ++ 0 ∷ [])
+  pub spelled : VByte front prefix_len
+  pub small : prefix_len < 2 ^ 64
+  pub fits : prefix_len ≤ length before
+  pub agree : take prefix_len before ≡ take prefix_len string
+  pub is : entry ≡ front ++ (drop prefix_len string ++ 0 ∷ [])
 
--- The first entry of a block is the full string with a zero byte. Any other entry shares a prefix with the previous
+-- The first string entry of a block is the full string with a zero byte. Any other shares a prefix with the previous
 -- string.
 abbrev pub IsEntry : Bool → List ℕ → List ℕ → List ℕ → Type 0
 IsEntry true before string entry = entry ≡ string ++ 0 ∷ []

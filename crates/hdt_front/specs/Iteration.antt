@@ -4,7 +4,7 @@ use Rattle.std.specs.declared.cmp.Ordering.{Ordering}
 use Rattle.std.specs.declared.cmp.Ordering.TheVariants.{Greater}
 use Rattle.std.specs.List.{common_prefix_len}
 use Rattle.hdt_front.specs.Order.{string_cmp}
-use Rattle.hdt_front.specs.Decoding.{is_head, decoded_string, after_entry}
+use Rattle.hdt_front.specs.Decoding.{is_block_start, decoded_string, after_entry}
 use Rattle.hdt_front.specs.StringChecks.{BlockLayout, rest_offset, precedes}
 
 -- A string, and the byte offset of its entry in the input.
@@ -20,9 +20,9 @@ strings items = map (λ (p : LocatedString). p.string) items
 unfoldable pub located_from : BlockLayout → ℕ → ℕ → List ℕ → List ℕ → List LocatedString
 located_from p zero i before rest = []
 located_from p (suc n) i before rest =
-    record { string = decoded_string (is_head p.block_size i) before rest; place = rest_offset p rest }
-    ∷ located_from p n (i + 1) (decoded_string (is_head p.block_size i) before rest)
-    (after_entry (is_head p.block_size i) rest)
+    record { string = decoded_string (is_block_start p.block_size i) before rest; place = rest_offset p rest }
+    ∷ located_from p n (i + 1) (decoded_string (is_block_start p.block_size i) before rest)
+    (after_entry (is_block_start p.block_size i) rest)
 
 -- The strings ascend from x on.
 abbrev pub After : List ℕ → List LocatedString → Type 0
@@ -54,10 +54,10 @@ next_offset (p ∷ ps) = Some p.place
 
 -- ---- a cursor, whose state is the list of the strings from the current one on
 
--- The state of a cursor whose iterator has just returned this offset.
-abbrev pub here : Option ℕ → IterState → List LocatedString
-here None w = []
-here (Some place) w = record { string = w.last; place = place } ∷ w.ahead
+-- The state of a cursor whose iterator has just returned this offset: the strings from the last one on, or none.
+abbrev pub cursor_strings : Option ℕ → IterState → List LocatedString
+cursor_strings None w = []
+cursor_strings (Some place) w = record { string = w.last; place = place } ∷ w.ahead
 
 -- The current string.
 abbrev pub first_string : List LocatedString → Option (List ℕ)

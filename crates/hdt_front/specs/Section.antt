@@ -18,14 +18,13 @@ use Rattle.hdt_seq.specs.Sequence.{Sequence, entry_offset, byte_at, crc8_at, pac
 use Rattle.hdt_seq.specs.Numbers.{numbers_at}
 use Rattle.hdt_wire.specs.VByte.{IsVByteAt}
 use Rattle.hdt_seq.specs.ExactSequences.{IsLogSequenceAt}
-use Rattle.hdt_front.specs.Decoding.{is_head, block_count, decoded_strings}
+use Rattle.hdt_front.specs.Decoding.{is_block_start, block_count, decoded_strings}
 use Rattle.hdt_front.specs.EntryFacts.{bytes_from_entry}
 use Rattle.hdt_front.specs.Order.{IsAscending}
 use Rattle.hdt_front.specs.FrontCoding.{IsEntry}
 use Rattle.hdt_front.specs.StringChecks.{BlockLayout, strings_check}
 
--- A section: its strings, the block size, the width in bits of a block offset, the front-coded bytes and their offset
--- in
+-- A section: its strings, the block size, the width in bits of a block offset, the front-coded bytes, their offset in
 -- the input, and the offset after the section.
 pub record SectionParts : Type 0 where
   pub strings : List (List ℕ)
@@ -35,19 +34,20 @@ pub record SectionParts : Type 0 where
   pub packed_offset : ℕ
   pub end : ℕ
 
--- The string before string i, from 0; empty for the first one.
+-- The string before string i, where strings count from 0. Before the first one it is empty.
 abbrev pub before : List (List ℕ) → ℕ → List ℕ
 before strings i = slice_index_or ([] ∷ strings) i []
 
--- The bytes `packed` are a front coding of the strings, with one entry for each string. The block offsets `starts` are
--- those of the first entries of blocks, and then the end.
+-- The bytes `packed` are a front coding of the strings, with one string entry for each. The block offsets `starts` are
+-- those of the first string entries of blocks, and then the end.
 pub record AreFrontCoded (block_size : ℕ) (strings : List (List ℕ)) (packed starts : List ℕ) : Type 0 where
   pub entries : List (List ℕ)
   pub joined : packed ≡ concat entries
   pub one_each : length entries ≡ length strings
   pub each : (i : ℕ) → i < length strings
-      → IsEntry (is_head block_size i) (before strings i) (slice_index_or strings i []) (slice_index_or entries i [])
-  pub heads : (i : ℕ) → i < length strings → is_head block_size i ≡ true
+      → IsEntry (is_block_start block_size i) (before strings i) (slice_index_or strings i [])
+      (slice_index_or entries i [])
+  pub heads : (i : ℕ) → i < length strings → is_block_start block_size i ≡ true
       → slice_index starts (i / block_size) ≡ length (concat (take i entries))
   pub last : 0 < length strings → slice_index starts (block_count (length strings) block_size) ≡ length packed
 
@@ -82,7 +82,7 @@ pub record IsSectionAt (s : SectionParts) (bytes : List ℕ) (at : ℕ) : Type 0
   pub block_offsets_at : IsLogSequenceAt starts bytes starts_offset
   pub started : HasBlockOffsets (length s.strings) s.block_size starts.items
   pub width : s.offset_bits ≡ starts.offsets.width
-  pub place : s.packed_offset ≡ starts.end
+  pub packed_begins : s.packed_offset ≡ starts.end
   pub packed : HasSlice bytes s.packed_offset (s.packed ++ little_bytes 4 (crc32 s.packed)) s.end
   -- the strings
   pub front_coded : AreFrontCoded s.block_size s.strings s.packed starts.items
@@ -142,12 +142,18 @@ preamble_at bytes at = do
 -- The checks before those of the strings, in order.
 unfoldable pub packed_parts_at : List ℕ → ℕ → Result PackedParts Fault
 packed_parts_at bytes at = do
-  head ← preamble_at bytes at
-  starts ← numbers_at bytes head.starts_offset
-  _ ← demand (is_start_count head.count head.block_size (length starts.items)) starts.offsets.count BlockCount
-  _ ← demand (not (head.count == 0) || slice_index starts.items 0 == 0) (entry_offset starts.offsets 0) BlockPlace
-  packed ← packed_at (8 * head.size) bytes starts.end
-  Ok (record { count = head.count; block_size = head.block_size; starts = starts; packed = packed.0; end = packed.1 })
+  preamble ← preamble_at bytes at
+  starts ← numbers_at bytes preamble.starts_offset
+  _ ← demand (is_start_count preamble.count preamble.block_size (length starts.items)) starts.offsets.count BlockCount
+  _ ← demand (not (preamble.count == 0) || slice_index starts.items 0 == 0) (entry_offset starts.offsets 0) BlockPlace
+  packed ← packed_at (8 * preamble.size) bytes starts.end
+  Ok (record {
+    count = preamble.count;
+    block_size = preamble.block_size;
+    starts = starts;
+    packed = packed.0;
+    end = packed.1;
+  })
 
 -- The section that the front-coded bytes decode to.
 abbrev pub decoded_section : PackedParts → SectionParts

@@ -14,8 +14,8 @@ section_preamble count size block_size = 2 ∷ (vbyte count ++ (vbyte size ++ vb
 -- The bytes of a section with these block offsets and front-coded bytes. All but the front coding is canonical.
 abbrev pub section_encoding : ℕ → ℕ → List ℕ → List ℕ → List ℕ
 section_encoding count block_size starts packed =
-    let head = section_preamble count (length packed) block_size in
-    head ++ crc8 head ∷ (numbers_encoding starts ++ (packed ++ little_bytes 4 (crc32 packed)))
+    let preamble = section_preamble count (length packed) block_size in
+    preamble ++ crc8 preamble ∷ (numbers_encoding starts ++ (packed ++ little_bytes 4 (crc32 packed)))
 
 -- A section with these parts can be written.
 pub record CanBeWritten (strings : List (List ℕ)) (block_size : ℕ) (starts packed : List ℕ) : Type 0 where

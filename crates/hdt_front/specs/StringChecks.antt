@@ -9,9 +9,9 @@ use Rattle.hdt_wire.specs.declared.fault.Reason.TheVariants.{Truncated, BlockPla
 use Rattle.hdt_wire.specs.declared.fault.Reason.TheVariants.{NotUtf8, StringsNotAscending}
 use Rattle.hdt_wire.specs.Checks.{◌>>=◌, demand, len_before_zero}
 use Rattle.hdt_wire.specs.VByte.{vbyte_at}
-use Rattle.hdt_seq.specs.Sequence.{SequenceOffsets, entry_offset}
+use Rattle.hdt_seq.specs.Sequence.{SequenceShape, entry_offset}
 use Rattle.hdt_front.specs.Order.{string_cmp}
-use Rattle.hdt_front.specs.Decoding.{is_head, block_count}
+use Rattle.hdt_front.specs.Decoding.{is_block_start, block_count}
 
 -- The layout of front-coded strings: the block size, the offset and the size of the front-coded bytes, the stored block
 -- offsets and the byte offsets of these.
@@ -20,7 +20,7 @@ pub record BlockLayout : Type 0 where
   pub packed_at : ℕ
   pub size : ℕ
   pub block_offsets : List ℕ
-  pub block_offsets_at : SequenceOffsets
+  pub block_offsets_at : SequenceShape
 
 -- The byte offset in the input of the unread bytes.
 abbrev pub rest_offset : BlockLayout → List ℕ → ℕ
@@ -40,7 +40,7 @@ prefix_result place rest (Err f) = Err (record { place = place; reason = packed_
 -- stored block offset, and the prefix is empty.
 unfoldable pub prefix_check : BlockLayout → ℕ → List ℕ → Result (ℕ × List ℕ) Fault
 prefix_check p i rest =
-    if is_head p.block_size i
+    if is_block_start p.block_size i
     then demand (get_or p.block_offsets (i / p.block_size) 0 == p.size - length rest)
     (entry_offset p.block_offsets_at (i / p.block_size)) BlockPlace >>= (λ _. Ok (0, rest))
     else prefix_result (rest_offset p rest) rest (vbyte_at rest 0)

@@ -20,11 +20,11 @@ pub struct Cursor<'a> {
 
 impl<'a> Model for Cursor<'a> {
     ghost use Rattle.std.specs.Prelude.{List};
-    ghost use Rattle.hdt_front.specs.Iteration.{LocatedString, here};
+    ghost use Rattle.hdt_front.specs.Iteration.{LocatedString, cursor_strings};
 
     ghost Value = { List LocatedString };
 
-    ghost view = { λ c. here c.place c.iter };
+    ghost view = { λ c. cursor_strings c.place c.iter };
 }
 
 impl<'a> Cursor<'a> {

@@ -2,7 +2,7 @@
 ghost use Rattle.std.specs.Prelude.{◌≡◌, ◌≤◌, ◌<◌, ◌+◌, length, drop, IfOk, IfSome, Ok, true};
 ghost use Rattle.hdt_wire.specs.Checks.{len_before_zero};
 ghost use Rattle.hdt_wire.specs.VByte.{vbyte_at};
-ghost use Rattle.hdt_front.specs.Decoding.{value_or, bytes_from_suffix, kept, suffix_of, after_entry};
+ghost use Rattle.hdt_front.specs.Decoding.{value_or, bytes_from_suffix, stored_prefix_len, suffix_of, after_entry};
 ghost use Rattle.std.specs.Str.{is_utf8};
 ghost use Rattle.hdt_front.specs.Inside.AsciiEntries.{IsAsciiEntry};
 
@@ -68,25 +68,30 @@ pub(crate) fn vbyte_or_zero(rest: &[u8]) -> (u64, usize)
 
 /// Splits an entry into its prefix length and the bytes from its suffix on.
 #[inline(always)]
-#[tactic(auto, unfolding(crate::specs::Decoding::kept, crate::specs::Decoding::bytes_from_suffix))]
-pub(crate) fn split_prefix(head: bool, rest: &[u8]) -> (u64, &[u8])
-    ensures kept { result.0 ≡ kept head rest.now }
-    ensures from { result.1.now ≡ bytes_from_suffix head rest.now }
+#[tactic(auto, unfolding(crate::specs::Decoding::stored_prefix_len, crate::specs::Decoding::bytes_from_suffix))]
+pub(crate) fn split_prefix(starts_block: bool, rest: &[u8]) -> (u64, &[u8])
+    ensures kept { result.0 ≡ stored_prefix_len starts_block rest.now }
+    ensures from { result.1.now ≡ bytes_from_suffix starts_block rest.now }
 {
-    let (kept, end) = if head { (0, 0) } else { vbyte_or_zero(rest) };
+    let (kept, end) = if starts_block {
+        (0, 0)
+    } else {
+        vbyte_or_zero(rest)
+    };
     (kept, rest.split_at(end).1)
 }
 
 /// Splits an entry into its prefix length, its suffix, and the bytes after the entry.
 #[inline(always)]
 #[tactic(auto, unfolding(crate::specs::Decoding::suffix_of, crate::specs::Decoding::after_entry))]
-pub(crate) fn split_entry(head: bool, rest: &[u8]) -> (u64, &[u8], &[u8])
-    requires { len_before_zero (bytes_from_suffix head rest.now) < length (bytes_from_suffix head rest.now) }
-    ensures kept { result.0 ≡ kept head rest.now }
-    ensures text { result.1.now ≡ suffix_of head rest.now }
-    ensures rest { result.2.now ≡ after_entry head rest.now }
+pub(crate) fn split_entry(starts_block: bool, rest: &[u8]) -> (u64, &[u8], &[u8])
+    requires { len_before_zero (bytes_from_suffix starts_block rest.now)
+        < length (bytes_from_suffix starts_block rest.now) }
+    ensures kept { result.0 ≡ stored_prefix_len starts_block rest.now }
+    ensures text { result.1.now ≡ suffix_of starts_block rest.now }
+    ensures rest { result.2.now ≡ after_entry starts_block rest.now }
 {
-    let (kept, from) = split_prefix(head, rest);
+    let (kept, from) = split_prefix(starts_block, rest);
     let len = text_len(from);
     (kept, from.split_at(len).0, from.split_at(len + 1).1)
 }

@@ -84,20 +84,20 @@ pub(crate) fn read_packed<'a>(
     ensures exact { Reads packed_parts_view result (packed_parts_at bytes.now at) }
     ensures end { IfOk result (λ r. (at + length r.0.bytes.now < r.1) × (r.1 ≤ length bytes.now)) }
 {
-    let head = read_preamble(bytes, at)?;
-    let (block_offsets, packed_offset) = Numbers::read(bytes, head.block_offsets_at)?;
+    let preamble = read_preamble(bytes, at)?;
+    let (block_offsets, packed_offset) = Numbers::read(bytes, preamble.block_offsets_at)?;
     demand(
-        is_start_count(head.count, head.block_size, block_offsets.len()),
+        is_start_count(preamble.count, preamble.block_size, block_offsets.len()),
         block_offsets.count_place() as usize,
         Reason::BlockCount,
     )?;
-    check_empty_start(head.count, &block_offsets)?;
-    let (packed, end) = packed_at(bytes, packed_offset, 8 * u128::from(head.size))?;
+    check_empty_start(preamble.count, &block_offsets)?;
+    let (packed, end) = packed_at(bytes, packed_offset, 8 * u128::from(preamble.size))?;
     let packed = PackedStrings {
         bytes: packed,
         block_offsets,
-        count: head.count,
-        block_size: head.block_size,
+        count: preamble.count,
+        block_size: preamble.block_size,
         packed_at: packed_offset,
     };
     Ok((packed, end))

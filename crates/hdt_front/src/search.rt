@@ -2,7 +2,7 @@
 ghost use Rattle.std.specs.Prelude.{◌≡◌, ◌≤◌, ◌<◌, ◌+◌, ◌-◌, ◌*◌, ◌^◌, ◌++◌, length, take, drop, get_or, [], List, ℕ};
 ghost use Rattle.std.specs.Prelude.{false};
 ghost use Rattle.hdt_wire.specs.Checks.{len_before_zero};
-ghost use Rattle.hdt_front.specs.Decoding.{bytes_from_suffix, kept, suffix_of, after_entry};
+ghost use Rattle.hdt_front.specs.Decoding.{bytes_from_suffix, stored_prefix_len, suffix_of, after_entry};
 ghost use Rattle.hdt_front.specs.EntryFacts.{bytes_from_entry};
 ghost use Rattle.hdt_front.specs.Inside.Searching.{IsBefore, IsEntryProbe, IsBlockProbe, IsPosition, IsBoundary};
 ghost use Rattle.hdt_front.specs.Inside.Searching.{is_before_by};
@@ -140,7 +140,7 @@ impl<'a> Section<'a> {
     #[inline(always)]
     pub(crate) fn read_entry(rest: &'a [u8], steps: &mut Steps) -> (u64, &'a [u8], &'a [u8])
         requires { len_before_zero (bytes_from_suffix false rest.now) < length (bytes_from_suffix false rest.now) }
-        ensures kept { result.0 ≡ kept false rest.now }
+        ensures kept { result.0 ≡ stored_prefix_len false rest.now }
         ensures text { result.1.now ≡ suffix_of false rest.now }
         ensures rest { result.2.now ≡ after_entry false rest.now }
         ensures cost { steps.new ≡ steps.old + 1 }

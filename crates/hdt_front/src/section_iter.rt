@@ -1,7 +1,7 @@
 //! Iteration over the strings of a section, in order.
 ghost use Rattle.std.specs.Prelude.{◌≡◌, ◌≤◌, ◌<◌, ◌+◌, ◌-◌, ◌==◌, length, [], Ok, IsOk, OnOk, OnErr};
 ghost use Rattle.std.specs.Prelude.{IfOk};
-ghost use Rattle.hdt_front.specs.Decoding.{kept};
+ghost use Rattle.hdt_front.specs.Decoding.{stored_prefix_len};
 ghost use Rattle.hdt_front.specs.SectionIteration.{located_strings};
 ghost use Rattle.hdt_front.specs.Iteration.{step_iter, next_offset, first_lcp};
 
@@ -94,9 +94,9 @@ impl<'a> SectionIter<'a> {
         if self.next == self.packed.count {
             return Ok((None, 0));
         }
-        let head = self.next % self.packed.block_size == 0;
+        let starts_block = self.next % self.packed.block_size == 0;
         let place = self.packed.place(self.rest);
-        let (kept, text, after) = split_entry(head, self.rest);
+        let (kept, text, after) = split_entry(starts_block, self.rest);
         decode_over(&mut self.last, kept as usize, text)?;
         self.rest = after;
         self.next += 1;

@@ -61,17 +61,17 @@ impl Model for SectionWriter {
 /// Appends the entry of a string that shares `same` bytes with the previous one: the full string if it is the first of
 /// its block, else `same` and the suffix; then a zero byte. An error may leave a prefix of the entry.
 fn append_entry(
-    head: bool,
+    starts_block: bool,
     same: usize,
     string: &[u8],
     packed: &mut Vec<u8>,
 ) -> Result<(), AllocError>
     requires { same ≤ length string.now }
-    ensures ok { OnOk result (packed.new.items ≡ packed.old.items ++ entry_with_prefix head same string.now) }
+    ensures ok { OnOk result (packed.new.items ≡ packed.old.items ++ entry_with_prefix starts_block same string.now) }
     ensures err { OnErr result (IsPrefixOf packed.old.items packed.new.items) }
 {
     let mut rest = string;
-    if !head {
+    if !starts_block {
         put_vbyte(same as u64, packed)?;
         rest = string.split_at(same).1;
     }
@@ -81,11 +81,11 @@ fn append_entry(
 }
 
 /// Appends the offset of a block if one begins.
-fn push_start(head: bool, place: usize, starts: &mut Vec<u64>) -> Result<(), AllocError>
-    ensures ok { OnOk result (starts.new.items ≡ starts.old.items ++ cond head (place ∷ []) []) }
+fn push_start(starts_block: bool, place: usize, starts: &mut Vec<u64>) -> Result<(), AllocError>
+    ensures ok { OnOk result (starts.new.items ≡ starts.old.items ++ cond starts_block (place ∷ []) []) }
     ensures err { OnErr result (starts.new.items ≡ starts.old.items) }
 {
-    if head {
+    if starts_block {
         starts.push(place as u64)?;
     }
     Ok(())
@@ -94,7 +94,7 @@ fn push_start(head: bool, place: usize, starts: &mut Vec<u64>) -> Result<(), All
 /// Adds a string that shares `same` bytes with the last one. An error may leave a block offset and a prefix of the
 /// entry, and leaves the last string unchanged.
 fn push_entry(
-    head: bool,
+    starts_block: bool,
     same: usize,
     string: &[u8],
     last: &mut Vec<u8>,
@@ -102,15 +102,17 @@ fn push_entry(
     packed: &mut Vec<u8>,
 ) -> Result<(), AllocError>
     requires { same ≡ lcp_len last.old.items string.now }
-    ensures packed { OnOk result (packed.new.items ≡ packed.old.items ++ encode_entry head last.old.items string.now) }
-    ensures starts { OnOk result (starts.new.items ≡ starts.old.items ++ cond head (length packed.old.items ∷ []) []) }
+    ensures packed { OnOk result (packed.new.items ≡ packed.old.items
+        ++ encode_entry starts_block last.old.items string.now) }
+    ensures starts { OnOk result (starts.new.items ≡ starts.old.items
+        ++ cond starts_block (length packed.old.items ∷ []) []) }
     ensures last { OnOk result (last.new.items ≡ string.now) }
     ensures last_kept { OnErr result (last.new.items ≡ last.old.items) }
     ensures starts_kept { OnErr result (IsPrefixOf starts.old.items starts.new.items) }
     ensures packed_kept { OnErr result (IsPrefixOf packed.old.items packed.new.items) }
 {
-    push_start(head, packed.len(), starts)?;
-    append_entry(head, same, string, packed)?;
+    push_start(starts_block, packed.len(), starts)?;
+    append_entry(starts_block, same, string, packed)?;
     decode_over(last, same, string.split_at(same).1)
 }
 
@@ -238,11 +240,11 @@ impl SectionWriter {
         ensures ok { OnOk result (self.new ≡ record self.old { strings = self.old.strings ++ string.now ∷ [] }) }
         ensures err { OnErr result (self.new ≡ self.old) }
     {
-        let head = self.count % self.block_size as u64 == 0;
+        let starts_block = self.count % self.block_size as u64 == 0;
         let blocks = self.starts.len();
         let place = self.packed.len();
         let pushed = push_entry(
-            head,
+            starts_block,
             same,
             string,
             &mut self.last,

@@ -88,8 +88,8 @@ impl<'a> Seeker<'a> {
         ensures cost { steps.new ≡ steps.old + 1 }
     {
         steps.tick();
-        let head = self.at % self.section.packed.block_size == 0;
-        let (kept, text, after) = split_entry(head, self.rest);
+        let starts_block = self.at % self.section.packed.block_size == 0;
+        let (kept, text, after) = split_entry(starts_block, self.rest);
         decode_over(&mut self.last, kept as usize, text)?;
         self.rest = after;
         self.at += 1;

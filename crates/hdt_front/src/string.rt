@@ -3,7 +3,7 @@ ghost use Rattle.std.specs.Prelude.{◌≡◌, ◌≤◌, ◌<◌, ◌+◌, ◌-
 ghost use Rattle.std.specs.Prelude.{OnErr, true};
 ghost use Rattle.hdt_wire.specs.Control.{IsPrefixOf};
 ghost use Rattle.hdt_wire.specs.Checks.{len_before_zero};
-ghost use Rattle.hdt_front.specs.Decoding.{after_entry, kept, bytes_from_suffix, suffix_of};
+ghost use Rattle.hdt_front.specs.Decoding.{after_entry, stored_prefix_len, bytes_from_suffix, suffix_of};
 ghost use Rattle.hdt_front.specs.Inside.PartialStrings.{IsPartlyDecoded};
 ghost use Rattle.hdt_front.specs.Inside.LoadRuns.{IsLoadRun};
 ghost use Rattle.hdt_front.specs.Strings.{strings_of, block_size};
@@ -91,19 +91,20 @@ fn extend_by(text: &[u8], out: &mut Vec<u8>) -> Result<(), AllocError>
 /// entry. An error leaves a prefix of the previous string.
 #[tactic(auto, unfolding(crate::specs::Decoding::suffix_of, crate::specs::Decoding::after_entry))]
 fn decode_next<'a>(
-    head: bool,
+    starts_block: bool,
     rest: &'a [u8],
     start: usize,
     out: &mut Vec<u8>,
 ) -> Result<&'a [u8], AllocError>
-    requires ends { len_before_zero (bytes_from_suffix head rest.now) < length (bytes_from_suffix head rest.now) }
-    requires fits { start + kept head rest.now ≤ length out.old.items }
-    ensures string { OnOk result (out.new.items ≡ take (start + kept head rest.now) out.old.items
-        ++ suffix_of head rest.now) }
-    ensures rest { IfOk result (λ after. after.now ≡ after_entry head rest.now) }
-    ensures err { OnErr result (out.new.items ≡ take (start + kept head rest.now) out.old.items) }
+    requires ends { len_before_zero (bytes_from_suffix starts_block rest.now)
+        < length (bytes_from_suffix starts_block rest.now) }
+    requires fits { start + stored_prefix_len starts_block rest.now ≤ length out.old.items }
+    ensures string { OnOk result (out.new.items ≡ take (start + stored_prefix_len starts_block rest.now) out.old.items
+        ++ suffix_of starts_block rest.now) }
+    ensures rest { IfOk result (λ after. after.now ≡ after_entry starts_block rest.now) }
+    ensures err { OnErr result (out.new.items ≡ take (start + stored_prefix_len starts_block rest.now) out.old.items) }
 {
-    let (kept, text, after) = split_entry(head, rest);
+    let (kept, text, after) = split_entry(starts_block, rest);
     out.truncate(start + kept as usize);
     out.extend_from_slice(text)?;
     Ok(after)

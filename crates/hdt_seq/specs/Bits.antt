@@ -7,7 +7,7 @@ use Rattle.hdt_wire.specs.Checks.{◌>>=◌, demand}
 use Rattle.hdt_wire.specs.VByte.{VByte, vbyte, vbyte_at}
 use Rattle.hdt_seq.specs.declared.bits.Bits.{Bits}
 use Rattle.hdt_seq.specs.PackedBits.{bytes_for, bits, packed_bits}
-use Rattle.hdt_seq.specs.Sequence.{SequenceOffsets, Sequence, with_crcs, byte_at, crc8_at, packed_at}
+use Rattle.hdt_seq.specs.Sequence.{SequenceShape, Sequence, with_crcs, byte_at, crc8_at, packed_at}
 
 -- the text encodes the bits: it has some packed bytes whose first bits are these
 pub record EncodesBits (text : List ℕ) (xs : List Bool) : Type 0 where
@@ -25,7 +25,7 @@ unfoldable pub bits_of : Bits → List Bool
 bits_of s = bits s.packed.now s.count
 
 -- the offsets of a bitmap in the input
-unfoldable pub bits_offsets : Bits → SequenceOffsets
+unfoldable pub bits_offsets : Bits → SequenceShape
 bits_offsets s = record { count = s.count_at; packed = s.packed_at; width = 1 }
 
 -- the bits that a reader returns, and the offset after the bitmap
@@ -37,7 +37,7 @@ abbrev pub bits_view : Bits × ℕ → Sequence Bool
 bits_view r = record { items = bits_of r.0; offsets = bits_offsets r.0; end = r.1 }
 
 -- the offsets of a bitmap of n bits that begins at an offset
-abbrev pub expected_bits_offsets : ℕ → ℕ → SequenceOffsets
+abbrev pub expected_bits_offsets : ℕ → ℕ → SequenceShape
 expected_bits_offsets at n = record { count = at + 1; packed = at + 2 + length (vbyte n); width = 1 }
 
 -- the checks of a bitmap in turn: the bitmap, or the first error

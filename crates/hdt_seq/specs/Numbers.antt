@@ -8,7 +8,7 @@ use Rattle.hdt_wire.specs.VByte.{VByte, vbyte, vbyte_at}
 use Rattle.hdt_seq.specs.declared.numbers.Numbers.{Numbers}
 use Rattle.hdt_seq.specs.PackedBits.{bytes_for, entries, packed}
 use Rattle.hdt_seq.specs.Width.{width_of}
-use Rattle.hdt_seq.specs.Sequence.{SequenceOffsets, Sequence, with_crcs, byte_at, crc8_at, packed_at}
+use Rattle.hdt_seq.specs.Sequence.{SequenceShape, Sequence, with_crcs, byte_at, crc8_at, packed_at}
 
 -- the text encodes the numbers: it has some width and some packed bytes whose first entries are these
 pub record EncodesNumbers (text : List ℕ) (xs : List ℕ) : Type 0 where
@@ -27,7 +27,7 @@ unfoldable pub numbers_of : Numbers → List ℕ
 numbers_of s = entries s.packed.now s.width s.count
 
 -- the offsets of a log sequence in the input
-unfoldable pub numbers_offsets : Numbers → SequenceOffsets
+unfoldable pub numbers_offsets : Numbers → SequenceShape
 numbers_offsets s = record { count = s.count_at; packed = s.packed_at; width = s.width }
 
 -- the entries that a reader returns, and the offset after the sequence
@@ -39,7 +39,7 @@ abbrev pub numbers_view : Numbers × ℕ → Sequence ℕ
 numbers_view r = record { items = numbers_of r.0; offsets = numbers_offsets r.0; end = r.1 }
 
 -- the offsets of a log sequence of n entries that begins at an offset
-abbrev pub expected_numbers_offsets : ℕ → ℕ → ℕ → SequenceOffsets
+abbrev pub expected_numbers_offsets : ℕ → ℕ → ℕ → SequenceShape
 expected_numbers_offsets at width n = record { count = at + 2; packed = at + 3 + length (vbyte n); width = width }
 
 -- the checks of a log sequence in turn: the sequence, or the first error

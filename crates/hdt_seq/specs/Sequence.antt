@@ -10,22 +10,22 @@ use Rattle.hdt_seq.specs.PackedBits.{bytes_for}
 
 -- the bytes of a sequence: its preamble with its CRC-8, and its packed bytes with their CRC-32C, little-endian
 abbrev pub with_crcs : List ℕ → List ℕ → List ℕ
-with_crcs head packed = head ++ crc8 head ∷ (packed ++ little_bytes 4 (crc32 packed))
+with_crcs preamble packed = preamble ++ crc8 preamble ∷ (packed ++ little_bytes 4 (crc32 packed))
 
 -- the byte offsets of the number of entries and of the packed bytes in the input, and the width of an entry in bits
-pub record SequenceOffsets : Type 0 where
+pub record SequenceShape : Type 0 where
   pub count : ℕ
   pub packed : ℕ
   pub width : ℕ
 
 -- the byte offset of entry i: that of the byte with its first bit
-abbrev pub entry_offset : SequenceOffsets → ℕ → ℕ
+abbrev pub entry_offset : SequenceShape → ℕ → ℕ
 entry_offset offsets i = offsets.packed + offsets.width * i / 8
 
 -- a sequence: its entries or bits, its offsets, and the byte offset after it
 pub record Sequence (X : Type 0) : Type 0 where
   pub items : List X
-  pub offsets : SequenceOffsets
+  pub offsets : SequenceShape
   pub end : ℕ
 
 -- ---- the checks

@@ -83,9 +83,9 @@ impl SequenceWriter {
 
     /// Appends an entry. One with more binary digits than the width counts as 0.
     pub fn push(&mut self, entry: u64, out: &mut Vec<u8>) -> Result<(), AllocError>
-        ensures { OnOk result ((before head xs : List ℕ) (width : ℕ) → entry < 2 ^ width
-            → IsWriting before head width xs self.old out.old.items
-            → IsWriting before head width (xs ++ entry ∷ []) self.new out.new.items) }
+        ensures { OnOk result ((before preamble xs : List ℕ) (width : ℕ) → entry < 2 ^ width
+            → IsWriting before preamble width xs self.old out.old.items
+            → IsWriting before preamble width (xs ++ entry ∷ []) self.new out.new.items) }
     {
         let entry = fitting(entry, self.width);
         append_entry(&mut self.rest, entry, self.width, out)?;
@@ -94,9 +94,9 @@ impl SequenceWriter {
 
     /// Appends what follows the entries: padding bits, and the CRC.
     pub fn finish(self, out: &mut Vec<u8>) -> Result<(), AllocError>
-        ensures { OnOk result ((before head xs : List ℕ) (width : ℕ)
-            → IsWriting before head width xs self out.old.items
-            → out.new.items ≡ before ++ with_crcs head (packed width xs)) }
+        ensures { OnOk result ((before preamble xs : List ℕ) (width : ℕ)
+            → IsWriting before preamble width xs self out.old.items
+            → out.new.items ≡ before ++ with_crcs preamble (packed width xs)) }
     {
         let SequenceWriter {
             rest,

@@ -32,7 +32,7 @@ unfoldable pub triples_of : BitmapTriples → List Triple
 triples_of f = map (triple_at f) (range_with_len 0 (length f.array_z))
 
 -- The sequences are consistent: each bitmap is as long as its array and ends in a 1-bit, and bitmap Z has a 1-bit for
--- each pair.
+-- each pair. An empty bitmap is not: 0 - 1 is 0 here, where it has no bit.
 pub record AreConsistentSequences (f : BitmapTriples) : Type 0 where
   pub pairs : length f.bitmap_y ≡ length f.array_y
   pub triples : length f.bitmap_z ≡ length f.array_z
@@ -40,7 +40,8 @@ pub record AreConsistentSequences (f : BitmapTriples) : Type 0 where
   pub last_triple : slice_get f.bitmap_z (length f.bitmap_z - 1) ≡ Some true
   pub each_pair : ones_before f.bitmap_z (length f.bitmap_z) ≡ length f.array_y
 
--- Each number is from 1 to `count`, and greater than the previous one of its group.
+-- Each number is from 1 to `count`, and greater than the previous one of its group: entries i and i + 1 are of one
+-- group if bit i is 0.
 pub record AreAscendingGroups (marks : List Bool) (xs : List ℕ) (count : ℕ) : Type 0 where
   pub from : (i : ℕ) → i < length xs → 1 ≤ slice_index xs i
   pub to : (i : ℕ) → i < length xs → slice_index xs i ≤ count

@@ -12,7 +12,7 @@ use Rattle.hdt_wire.specs.declared.control.Kind.TheVariants as kinds
 use Rattle.hdt_wire.specs.Checks.{◌>>=◌, demand}
 use Rattle.hdt_wire.specs.Control.{ControlInfo, IsControlAt, control_at}
 use Rattle.hdt_wire.specs.Property.{property_value}
-use Rattle.hdt_seq.specs.Sequence.{SequenceOffsets, Sequence, entry_offset}
+use Rattle.hdt_seq.specs.Sequence.{SequenceShape, Sequence, entry_offset}
 use Rattle.hdt_seq.specs.Numbers.{numbers_at}
 use Rattle.hdt_seq.specs.Bits.{bits_at}
 use Rattle.hdt_seq.specs.RankSelect.{ones_before}
@@ -58,25 +58,25 @@ previous_in_group marks xs zero = 0
 previous_in_group marks xs (suc i) = if slice_index_or marks i false then 0 else slice_index xs i
 
 -- Entry i is from 1 to the count, and greater than the previous one of its group.
-unfoldable pub entry_checks : List Bool → List ℕ → SequenceOffsets → ℕ → Reason → Reason → ℕ → Result (Unit {0}) Fault
+unfoldable pub entry_checks : List Bool → List ℕ → SequenceShape → ℕ → Reason → Reason → ℕ → Result (Unit {0}) Fault
 entry_checks marks xs offsets count range ascent i = do
   _ ← demand (nat_le 1 (slice_index xs i) && nat_le (slice_index xs i) count) (entry_offset offsets i) range
   demand (nat_lt (previous_in_group marks xs i) (slice_index xs i)) (entry_offset offsets i) ascent
 
 -- The subject of pair q is within the count, and its predicate passes the checks of an entry.
-unfoldable pub pair_checks : Counts → List Bool → SequenceOffsets → List ℕ → SequenceOffsets → ℕ
+unfoldable pub pair_checks : Counts → List Bool → SequenceShape → List ℕ → SequenceShape → ℕ
     → Result (Unit {0}) Fault
 pair_checks counts bitmap_y bitmap_y_offsets array_y array_y_offsets q = do
   _ ← demand (nat_le (ones_before bitmap_y q + 1) counts.subjects) (entry_offset bitmap_y_offsets q) SubjectRange
   entry_checks bitmap_y array_y array_y_offsets counts.predicates PredicateRange PredicatesNotAscending q
 
 -- All pairs pass their checks.
-abbrev pub all_pair_checks : Counts → List Bool → SequenceOffsets → List ℕ → SequenceOffsets → Result (Unit {0}) Fault
+abbrev pub all_pair_checks : Counts → List Bool → SequenceShape → List ℕ → SequenceShape → Result (Unit {0}) Fault
 all_pair_checks counts bitmap_y bitmap_y_offsets array_y array_y_offsets =
     checks_from (pair_checks counts bitmap_y bitmap_y_offsets array_y array_y_offsets) 0 (length array_y)
 
 -- All objects pass the checks of an entry.
-abbrev pub all_object_checks : List Bool → List ℕ → SequenceOffsets → ℕ → Result (Unit {0}) Fault
+abbrev pub all_object_checks : List Bool → List ℕ → SequenceShape → ℕ → Result (Unit {0}) Fault
 all_object_checks bitmap_z array_z offsets count =
     checks_from (entry_checks bitmap_z array_z offsets count ObjectRange ObjectsNotAscending) 0 (length array_z)
 
@@ -84,7 +84,7 @@ abbrev pub last_bit : List Bool → Bool
 last_bit marks = slice_index_or marks (length marks - 1) false
 
 -- The last bit is 1.
-abbrev pub last_bit_check : List Bool → SequenceOffsets → Result (Unit {0}) Fault
+abbrev pub last_bit_check : List Bool → SequenceShape → Result (Unit {0}) Fault
 last_bit_check marks offsets = demand (last_bit marks) (entry_offset offsets (length marks - 1)) LastMark
 
 -- The four sequences pass their checks, in this order.

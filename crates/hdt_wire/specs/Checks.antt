@@ -19,13 +19,13 @@ demand holds place reason = if holds then Ok tt else Err (record { place = place
 
 -- a function returns the result of the checks; `view` maps its value to theirs
 abbrev pub Reads : {X Y : Type 0} → (X → Y) → Result X Fault → Result Y Fault → Type 0
-Reads view (Ok x) read = read ≡ Ok (view x)
-Reads view (Err f) read = read ≡ Err f
+Reads view (Ok x) checks = checks ≡ Ok (view x)
+Reads view (Err f) checks = checks ≡ Err f
 
 -- the same for a function that may also run out of memory: fault_of maps its error to that of the file, if it is one
 abbrev pub ReadsUnlessOom : {X Y E : Type 0} → (E → Option Fault) → (X → Y) → Result X E → Result Y Fault → Type 0
-ReadsUnlessOom fault_of view (Ok x) read = read ≡ Ok (view x)
-ReadsUnlessOom fault_of view (Err e) read = IfSome (fault_of e) (λ f. read ≡ Err f)
+ReadsUnlessOom fault_of view (Ok x) checks = checks ≡ Ok (view x)
+ReadsUnlessOom fault_of view (Err e) checks = IfSome (fault_of e) (λ f. checks ≡ Err f)
 
 -- `count` bytes at an offset, and the offset after them
 unfoldable pub bytes_at : ℕ → List ℕ → ℕ → Result (List ℕ × ℕ) Fault

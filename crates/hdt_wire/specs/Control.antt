@@ -77,6 +77,7 @@ expected_control_info kind properties at end =
 pub record IsControlAt (kind : Kind) (block : ControlInfo) (bytes : List ℕ) (at : ℕ) : Type 0 where
   pub spelled : HasSlice bytes at (control kind block.properties) block.end
   pub no_zero : HasNoZero block.properties
+  -- the properties begin after the cookie, the type byte, and the format with its zero byte
   pub format : block.format ≡ format_text kind
   pub properties_at : block.properties_at ≡ at + 6 + length (format_text kind)
 

@@ -18,6 +18,6 @@ item_value key piece =
 abbrev pub item_values : List ℕ → List ℕ → List (List ℕ)
 item_values text key = filter_map (item_value key) (slice_split (is_byte 59) text)
 
--- the last of them, which is the one that counts
+-- the last of them, which is the one that counts; none if there are none, as 0 - 1 is 0 here
 unfoldable pub property_value : List ℕ → List ℕ → Option (List ℕ)
 property_value text key = slice_get (item_values text key) (length (item_values text key) - 1)

@@ -19,7 +19,8 @@ unfoldable pub vbyte_up_to : ℕ → ℕ → List ℕ
 vbyte_up_to zero v = (v + 128) ∷ []
 vbyte_up_to (suc k) v = if nat_lt v 128 then (v + 128) ∷ [] else (v % 128) ∷ vbyte_up_to k (v / 128)
 
--- the encoding of a number below 2 ^ 64
+-- the encoding of a number below 2 ^ 64, as a function: exactly these bytes encode it (laws `vbyte_encodes` and
+-- `vbyte_unique`)
 unfoldable pub vbyte : ℕ → List ℕ
 vbyte v = vbyte_up_to 9 v
 

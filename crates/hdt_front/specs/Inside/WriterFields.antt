@@ -2,7 +2,7 @@
 use Rattle.std.specs.Prelude.{◌≡◌, ℕ, ◌+◌, ◌≤◌, ◌<◌, ◌^◌, List, [], ◌∷◌, ◌++◌, length, cond}
 use Rattle.std.specs.List.{All}
 use Rattle.hdt_wire.specs.Control.{HasNoZero}
-use Rattle.hdt_front.specs.Decoding.{is_head}
+use Rattle.hdt_front.specs.Decoding.{is_block_start}
 use Rattle.hdt_front.specs.Section.{before}
 use Rattle.hdt_front.specs.Canonical.{encode_entries, packed_of}
 
@@ -10,7 +10,7 @@ use Rattle.hdt_front.specs.Canonical.{encode_entries, packed_of}
 unfoldable pub starts_without_end : ℕ → ℕ → ℕ → List (List ℕ) → List ℕ
 starts_without_end b i at [] = []
 starts_without_end b i at (entry ∷ entries) =
-    cond (is_head b i) (at ∷ []) [] ++ starts_without_end b (i + 1) (at + length entry) entries
+    cond (is_block_start b i) (at ∷ []) [] ++ starts_without_end b (i + 1) (at + length entry) entries
 
 -- The fields of a writer hold these strings: the last string, the block offsets, and the front-coded bytes.
 pub record IsWriterState (b : ℕ) (strings : List (List ℕ)) (text heads bytes : List ℕ) : Type 0 where

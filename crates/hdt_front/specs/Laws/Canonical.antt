@@ -16,7 +16,7 @@ use Rattle.hdt_wire.specs.VByte.{vbyte}
 use Rattle.hdt_wire.specs.Laws.VByte.{vbyte_encodes}
 use Rattle.hdt_seq.specs.Numbers.{numbers_encoding}
 use Rattle.hdt_seq.specs.Width.{width_of}
-use Rattle.hdt_front.specs.Decoding.{is_head}
+use Rattle.hdt_front.specs.Decoding.{is_block_start}
 use Rattle.hdt_front.specs.FrontCoding.{IsEntry}
 use Rattle.hdt_front.specs.Laws.FrontCodingSteps.{AreEntries, AreBlockStarts, IsFrontCodedFrom}
 use Rattle.hdt_front.specs.Laws.FrontCoding.{front_coded_found}
@@ -49,7 +49,7 @@ piece_is : (h : Bool) (before string : List ℕ) → common_prefix_len nat_eq be
 unfolding encode_entry
 piece_is true before string small = refl
 piece_is false before string small = record {
-  kept = common_prefix_len nat_eq before string;
+  prefix_len = common_prefix_len nat_eq before string;
   front = vbyte (common_prefix_len nat_eq before string);
   spelled = vbyte_encodes (common_prefix_len nat_eq before string) small;
   small = small;
@@ -86,10 +86,10 @@ pieces_are : (b i at : ℕ) (before : List ℕ) (strings : List (List ℕ)) → 
 unfolding AreEntries encode_entries
 pieces_are b i at before [] le lt = tt
 pieces_are b i at before (s ∷ strings) le lt =
-    let p : List ℕ = encode_entry (is_head b i) before s in
+    let p : List ℕ = encode_entry (is_block_start b i) before s in
     let size = length-append p (concat (encode_entries b (i + 1) s strings)) in
-    let l = longer (is_head b i) before s in (
-      piece_is (is_head b i) before s (omega (arith, (common_prefix_len-le nat_eq before s).0, size, le, lt)),
+    let l = longer (is_block_start b i) before s in (
+      piece_is (is_block_start b i) before s (omega (arith, (common_prefix_len-le nat_eq before s).0, size, le, lt)),
       pieces_are b (i + 1) (at + length p) s strings (omega (arith, l, le)) (omega (arith, size, lt)),
     )
 
@@ -105,11 +105,11 @@ pub enough_bytes : (b i : ℕ) (before : List ℕ) (strings : List (List ℕ))
 unfolding encode_entries
 enough_bytes b i before [] = omega arith
 enough_bytes b i before (s ∷ strings) =
-    let p : List ℕ = encode_entry (is_head b i) before s in
+    let p : List ℕ = encode_entry (is_block_start b i) before s in
     omega (
       arith,
       length-append p (concat (encode_entries b (i + 1) s strings)),
-      some_byte (is_head b i) before s,
+      some_byte (is_block_start b i) before s,
       enough_bytes b (i + 1) s strings,
     )
 
@@ -135,10 +135,10 @@ blocks_next b i some =
     ap (λ k. k / b) e ∙ div-mul-add (i / b + 1) b (i % b) (mod-lt i some)
 
 -- The first string of a block begins a new block.
-blocks_head : (b i : ℕ) → 1 ≤ b → is_head b i ≡ true → (i + (b - 1)) / b ≡ i / b
+blocks_head : (b i : ℕ) → 1 ≤ b → is_block_start b i ≡ true → (i + (b - 1)) / b ≡ i / b
 blocks_head b i some h = blocks b i some ∙ (let e : i / b + min 1 (i % b) ≡ i / b = omega (arith, eqb-true _ _ h) in e)
 
-blocks_other : (b i : ℕ) → 1 ≤ b → is_head b i ≡ false → (i + (b - 1)) / b ≡ i / b + 1
+blocks_other : (b i : ℕ) → 1 ≤ b → is_block_start b i ≡ false → (i + (b - 1)) / b ≡ i / b + 1
 blocks_other b i some h =
     let ne : i % b ≢ 0 = eqb-false _ _ h in
     blocks b i some ∙ (let e : i / b + min 1 (i % b) ≡ i / b + 1 = omega (arith, ne) in e)
@@ -146,7 +146,8 @@ blocks_other b i some h =
 start_of : (h : Bool) (at : ℕ) → List ℕ
 start_of h at = cond h (at ∷ []) []
 
-more_starts : (h : Bool) (b i at : ℕ) (front : List ℕ) → 1 ≤ b → is_head b i ≡ h → length front ≡ (i + (b - 1)) / b
+more_starts : (h : Bool) (b i at : ℕ) (front : List ℕ) → 1 ≤ b → is_block_start b i ≡ h
+    → length front ≡ (i + (b - 1)) / b
     → length (front ++ start_of h at) ≡ (i + 1 + (b - 1)) / b
 unfolding start_of
 more_starts true b i at front some e size =
@@ -154,7 +155,8 @@ more_starts true b i at front some e size =
 more_starts false b i at front some e size =
     omega (arith, length-append front [], size, blocks_other b i some e, blocks_next b i some)
 
-start_here : (h : Bool) (b i at : ℕ) (front more : List ℕ) → 1 ≤ b → is_head b i ≡ h → length front ≡ (i + (b - 1)) / b
+start_here : (h : Bool) (b i at : ℕ) (front more : List ℕ) → 1 ≤ b → is_block_start b i ≡ h
+    → length front ≡ (i + (b - 1)) / b
     → h ≡ true → get_or (front ++ (start_of h at ++ more)) (i / b) 0 ≡ at
 unfolding start_of
 start_here true b i at front more some e size t =
@@ -169,13 +171,14 @@ block_offsets_at b i at [] front some size = λ _. ap (λ k. get_or (front ++ (a
     ∙ get_or-append_seam front at [] 0
 block_offsets_at b i at (p ∷ entries) front some size =
     let more : List ℕ = block_offsets_from b (i + 1) (at + length p) entries in (
-      start_here (is_head b i) b i at front more some refl size,
-      subst (AreBlockStarts b (i + 1) (at + length p) entries) (append_assoc front (start_of (is_head b i) at) more)
-          (block_offsets_at b (i + 1) (at + length p) entries (front ++ start_of (is_head b i) at) some
-          (more_starts (is_head b i) b i at front some refl size)),
+      start_here (is_block_start b i) b i at front more some refl size,
+      subst (AreBlockStarts b (i + 1) (at + length p) entries)
+          (append_assoc front (start_of (is_block_start b i) at) more)
+          (block_offsets_at b (i + 1) (at + length p) entries (front ++ start_of (is_block_start b i) at) some
+          (more_starts (is_block_start b i) b i at front some refl size)),
     )
 
-count_step : (h : Bool) (b i at : ℕ) → 1 ≤ b → is_head b i ≡ h
+count_step : (h : Bool) (b i at : ℕ) → 1 ≤ b → is_block_start b i ≡ h
     → length (start_of h at) + (i + (b - 1)) / b ≡ (i + 1 + (b - 1)) / b
 unfolding start_of
 count_step true b i at some e = omega (arith, blocks_head b i some e, blocks_next b i some)
@@ -191,8 +194,8 @@ starts_many b i at (p ∷ entries) some =
     let rest = starts_many b (i + 1) (at + length p) entries some ∙ ap (λ k. (k + (b - 1)) / b + 1) next in
     omega (
       arith,
-      length-append (start_of (is_head b i) at) (block_offsets_from b (i + 1) (at + length p) entries),
-      count_step (is_head b i) b i at some refl,
+      length-append (start_of (is_block_start b i) at) (block_offsets_from b (i + 1) (at + length p) entries),
+      count_step (is_block_start b i) b i at some refl,
       rest,
     )
 
@@ -212,7 +215,8 @@ starts_low b i at [] (suc k) = omega arith
 starts_low b i at (p ∷ entries) k =
     let end : at + length p + length (concat entries) ≡ at + length (p ++ concat entries) =
     omega (arith, length-append p (concat entries)) in
-    low_step (is_head b i) at (at + length (p ++ concat entries)) (block_offsets_from b (i + 1) (at + length p) entries)
+    low_step (is_block_start b i) at (at + length (p ++ concat entries))
+    (block_offsets_from b (i + 1) (at + length p) entries)
     (omega arith)
     (λ k. subst (λ (n : ℕ). get_or (block_offsets_from b (i + 1) (at + length p) entries) k 0
     ≤ n) end (starts_low b (i + 1) (at + length p) entries k)) k

@@ -11,7 +11,8 @@ use Rattle.hdt_wire.specs.Checks.{◌>>=◌, demand, len_before_zero}
 use Rattle.hdt_wire.specs.VByte.{vbyte_at}
 use Rattle.hdt_wire.specs.Laws.Checks.{demand_ok, bind_ok}
 use Rattle.hdt_seq.specs.Sequence.{entry_offset}
-use Rattle.hdt_front.specs.Decoding.{is_head, kept, bytes_from_suffix, suffix_of, decoded_string, after_entry, value_or}
+use Rattle.hdt_front.specs.Decoding.{is_block_start, stored_prefix_len, bytes_from_suffix, suffix_of, decoded_string}
+use Rattle.hdt_front.specs.Decoding.{after_entry, value_or}
 use Rattle.hdt_front.specs.StringChecks.{BlockLayout, rest_offset, prefix_result, precedes, prefix_check, string_check}
 use Rattle.hdt_front.specs.EntryFacts.{IsCheckedEntry}
 
@@ -30,15 +31,16 @@ opened_by false test at place rest (Err f) x e = absurd (cc)
 pub entry_is_checked : (p : BlockLayout) (i : ℕ) (before rest : List ℕ) (y : List ℕ × List ℕ)
     → string_check p i before rest ≡ Ok y
     → IsCheckedEntry p i before rest
-    × (y ≡ (decoded_string (is_head p.block_size i) before rest, after_entry (is_head p.block_size i) rest))
-unfolding string_check prefix_check decoded_string after_entry suffix_of kept bytes_from_suffix
+    × (y
+    ≡ (decoded_string (is_block_start p.block_size i) before rest, after_entry (is_block_start p.block_size i) rest))
+unfolding string_check prefix_check decoded_string after_entry suffix_of stored_prefix_len bytes_from_suffix
 entry_is_checked p i before rest y e =
     bind_ok (prefix_check p i rest) _ _ e (λ x ex e.
-    let o = opened_by (is_head p.block_size i)
+    let o = opened_by (is_block_start p.block_size i)
     (eqb (get_or p.block_offsets (i / p.block_size) 0) (p.size - length rest))
     (entry_offset p.block_offsets_at (i / p.block_size)) (rest_offset p rest) rest (vbyte_at rest 0) x ex in
-    let k : x.0 ≡ kept (is_head p.block_size i) rest = ap (λ (z : ℕ × List ℕ). z.0) o.0 in
-    let t : x.1 ≡ bytes_from_suffix (is_head p.block_size i) rest = ap (λ (z : ℕ × List ℕ). z.1) o.0 in
+    let k : x.0 ≡ stored_prefix_len (is_block_start p.block_size i) rest = ap (λ (z : ℕ × List ℕ). z.0) o.0 in
+    let t : x.1 ≡ bytes_from_suffix (is_block_start p.block_size i) rest = ap (λ (z : ℕ × List ℕ). z.1) o.0 in
     demand_ok (nat_le x.0 (length before)) (rest_offset p rest) PrefixTooLong _ _ e (λ h1 e.
     demand_ok (nat_lt (len_before_zero x.1) (length x.1)) (rest_offset p x.1) PackedLength _ _ e (λ h2 e.
     demand_ok (is_utf8 (take x.0 before ++ take (len_before_zero x.1) x.1)) (rest_offset p rest) NotUtf8 _ _ e (λ h3 e.

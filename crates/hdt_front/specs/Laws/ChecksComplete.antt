@@ -12,7 +12,8 @@ use Rattle.hdt_wire.specs.Checks.{◌>>=◌, demand, len_before_zero}
 use Rattle.hdt_wire.specs.VByte.{VByte, vbyte_at}
 use Rattle.hdt_wire.specs.Laws.VByte.{vbyte_only}
 use Rattle.hdt_seq.specs.Sequence.{entry_offset}
-use Rattle.hdt_front.specs.Decoding.{is_head, kept, bytes_from_suffix, suffix_of, decoded_string, after_entry, value_or}
+use Rattle.hdt_front.specs.Decoding.{is_block_start, stored_prefix_len, bytes_from_suffix, suffix_of, decoded_string}
+use Rattle.hdt_front.specs.Decoding.{after_entry, value_or}
 use Rattle.hdt_front.specs.Decoding.{decoded_strings}
 use Rattle.hdt_front.specs.StringChecks.{BlockLayout, rest_offset, prefix_result, precedes, prefix_check, string_check}
 use Rattle.hdt_front.specs.StringChecks.{strings_check}
@@ -28,22 +29,27 @@ opened_is true test at place rest r f g = ap (λ t. demand t at BlockPlace >>= (
 opened_is false test at place rest r f g = ap (prefix_result place rest) (g refl)
 
 prefix_read : (p : BlockLayout) (i : ℕ) (before rest : List ℕ) → IsCheckedEntry p i before rest
-    → prefix_check p i rest ≡ Ok (kept (is_head p.block_size i) rest, bytes_from_suffix (is_head p.block_size i) rest)
-unfolding prefix_check kept bytes_from_suffix
+    → prefix_check p i rest ≡ Ok (
+      stored_prefix_len (is_block_start p.block_size i) rest,
+      bytes_from_suffix
+          (is_block_start p.block_size i) rest,
+    )
+unfolding prefix_check stored_prefix_len bytes_from_suffix
 prefix_read p i before rest r =
-    opened_is (is_head p.block_size i) (eqb (get_or p.block_offsets (i / p.block_size) 0) (p.size - length rest))
+    opened_is (is_block_start p.block_size i) (eqb (get_or p.block_offsets (i / p.block_size) 0) (p.size - length rest))
     (entry_offset p.block_offsets_at (i / p.block_size)) (rest_offset p rest) rest (vbyte_at rest 0)
     (λ h. eq-eqb _ _ (r.start h)) r.number
 
 pub string_checked : (p : BlockLayout) (i : ℕ) (before rest : List ℕ) → IsCheckedEntry p i before rest
     → string_check p i before rest
-    ≡ Ok (decoded_string (is_head p.block_size i) before rest, after_entry (is_head p.block_size i) rest)
+    ≡ Ok (decoded_string (is_block_start p.block_size i) before rest, after_entry (is_block_start p.block_size i) rest)
 unfolding string_check decoded_string after_entry suffix_of
 string_checked p i before rest r =
     let o = prefix_read p i before rest r in
-    let h1 : nat_le (kept (is_head p.block_size i) rest) (length before) ≡ true = le-leb _ _ r.fits in
-    let h2 : nat_lt (len_before_zero (bytes_from_suffix (is_head p.block_size i) rest))
-    (length (bytes_from_suffix (is_head p.block_size i) rest)) ≡ true = lt-ltb _ _ r.ends in
+    let h1 : nat_le (stored_prefix_len (is_block_start p.block_size i) rest) (length before)
+    ≡ true = le-leb _ _ r.fits in
+    let h2 : nat_lt (len_before_zero (bytes_from_suffix (is_block_start p.block_size i) rest))
+    (length (bytes_from_suffix (is_block_start p.block_size i) rest)) ≡ true = lt-ltb _ _ r.ends in
     let h3 = r.utf8 in
     let h4 = r.ascends in
     rw (o, h1, h2, h3, h4) refl
@@ -63,7 +69,7 @@ zero_at_end (c ∷ x) more h =
 
 pub record DecodedEntry (h : Bool) (before string rest more : List ℕ) : Type 0 where
   pub number : h ≡ false → vbyte_at rest 0 ≡ Ok (value_or (0, 0) (vbyte_at rest 0))
-  pub fits : kept h rest ≤ length before
+  pub fits : stored_prefix_len h rest ≤ length before
   pub ends : len_before_zero (bytes_from_suffix h rest) < length (bytes_from_suffix h rest)
   pub string_is : decoded_string h before rest ≡ string
   pub after_is : after_entry h rest ≡ more
@@ -89,7 +95,7 @@ terminated_text t x more e h =
 
 pub entry_decodes : (h : Bool) (before string entry rest more : List ℕ) → IsEntry h before string entry → NoZero string
     → rest ≡ entry ++ more → DecodedEntry h before string rest more
-unfolding kept bytes_from_suffix suffix_of decoded_string after_entry
+unfolding stored_prefix_len bytes_from_suffix suffix_of decoded_string after_entry
 entry_decodes true before string entry rest more is none e =
     let t = terminated_text rest string more (e ∙ ap (λ (l : List ℕ). l ++ more) is) none in
     record {
@@ -100,34 +106,35 @@ entry_decodes true before string entry rest more is none e =
       after_is = t.after;
     }
 entry_decodes false before string entry rest more is none e =
-    let x : List ℕ = drop is.kept string in
+    let x : List ℕ = drop is.prefix_len string in
     let whole : rest ≡ is.front ++ ((x ++ 0 ∷ []) ++ more) = e ∙ ap (λ (l : List ℕ). l ++ more) is.is
     ∙ append_assoc is.front (x ++ 0 ∷ []) more in
     let size : length is.front - 0 ≡ length is.front = omega arith in
     let front : take (length is.front - 0) rest ≡ is.front = ap (λ (k : ℕ). take k rest) size
     ∙ ap (take (length is.front)) whole ∙ take_at is.front ((x ++ 0 ∷ []) ++ more) (length is.front) refl in
-    let number : vbyte_at rest 0 ≡ Ok (is.kept, length is.front) = vbyte_only rest 0 is.kept (length is.front) is.small
+    let number : vbyte_at rest 0
+    ≡ Ok (is.prefix_len, length is.front) = vbyte_only rest 0 is.prefix_len (length is.front) is.small
     (record {
       in_order = omega arith;
       within =
           omega (arith, ap length whole, length-append is.front ((x ++ 0 ∷ []) ++ more));
       spelled =
-          subst (λ (l : List ℕ). VByte l is.kept) (sym front) is.spelled;
+          subst (λ (l : List ℕ). VByte l is.prefix_len) (sym front) is.spelled;
     }) in
-    let read : value_or (0, 0) (vbyte_at rest 0) ≡ (is.kept, length is.front) = ap (value_or (0, 0)) number in
-    let k : (value_or (0, 0) (vbyte_at rest 0)).0 ≡ is.kept = ap (λ (y : ℕ × ℕ). y.0) read in
+    let read : value_or (0, 0) (vbyte_at rest 0) ≡ (is.prefix_len, length is.front) = ap (value_or (0, 0)) number in
+    let k : (value_or (0, 0) (vbyte_at rest 0)).0 ≡ is.prefix_len = ap (λ (y : ℕ × ℕ). y.0) read in
     let from : drop (value_or (0, 0) (vbyte_at rest 0)).1 rest ≡ (x ++ 0 ∷ []) ++ more =
     ap (λ (y : ℕ × ℕ). drop y.1 rest) read ∙ ap (drop (length is.front)) whole
     ∙ drop_at is.front ((x ++ 0 ∷ []) ++ more) (length is.front) refl in
     let t = terminated_text (drop (value_or (0, 0) (vbyte_at rest 0)).1 rest) x more from
-    (drop_no_zero is.kept string none) in
+    (drop_no_zero is.prefix_len string none) in
     record {
       number = λ _. number ∙ ap Ok (sym read);
       fits = omega (arith, k, is.fits);
       ends = t.ends;
       string_is = ap (λ (n : ℕ). take n before ++ suffix_of false rest) k
           ∙ ap (λ (l : List ℕ). l ++ suffix_of false rest) is.agree
-          ∙ ap (λ (l : List ℕ). take is.kept string ++ l) t.text ∙ take-append-drop is.kept string;
+          ∙ ap (λ (l : List ℕ). take is.prefix_len string ++ l) t.text ∙ take-append-drop is.prefix_len string;
       after_is = t.after;
     }
 
@@ -159,7 +166,7 @@ only_by p i at before [] [] rest size each joined places asc =
 only_by p i at before [] (pc ∷ entries) rest size each joined places asc = absurd each
 only_by p i at before (string ∷ strings) [] rest size each joined places asc = absurd each
 only_by p i at before (string ∷ strings) (pc ∷ entries) rest size each joined places asc =
-    let s = entry_decodes (is_head p.block_size i) before string pc rest (concat entries) each.0 asc.1 joined in
+    let s = entry_decodes (is_block_start p.block_size i) before string pc rest (concat entries) each.0 asc.1 joined in
     let long : length rest ≡ length pc + length (concat entries) = ap length joined
     ∙ length-append pc (concat entries) in
     let row : IsCheckedEntry p i before rest = record {
@@ -174,11 +181,12 @@ only_by p i at before (string ∷ strings) (pc ∷ entries) rest size each joine
     (omega (arith, size, long)) each.1 refl places.1 asc.3 in
     let one = string_checked p i before rest row in (
       ap (λ o. o >>= (λ x. strings_check p (length strings) (i + 1) x.0 x.1)) one
-          ∙ ap (λ (x : List ℕ). strings_check p (length strings) (i + 1) x (after_entry (is_head p.block_size i) rest))
+          ∙ ap (λ (x : List ℕ). strings_check p (length strings) (i + 1) x
+          (after_entry (is_block_start p.block_size i) rest))
           s.string_is
           ∙ ap (λ (x : List ℕ). strings_check p (length strings) (i + 1) string x) s.after_is ∙ r.0,
       ap (λ (x : List ℕ). x ∷ decoded_strings p.block_size (length strings) (i + 1) x
-          (after_entry (is_head p.block_size i) rest)) s.string_is
+          (after_entry (is_block_start p.block_size i) rest)) s.string_is
           ∙ ap (λ (x : List ℕ). string ∷ decoded_strings p.block_size (length strings) (i + 1) string x) s.after_is
           ∙ ap (λ (xs : List (List ℕ)). string ∷ xs) r.1,
     )

@@ -12,7 +12,8 @@ use Rattle.hdt_wire.specs.Checks.{IsBytes}
 use Rattle.hdt_wire.specs.Laws.Checks.{IsBytes-drop}
 use Rattle.hdt_wire.specs.Laws.VByte.{vbyte_found}
 use Rattle.hdt_wire.specs.Laws.Checks.{demand_ok}
-use Rattle.hdt_front.specs.Decoding.{is_head, kept, bytes_from_suffix, suffix_of, decoded_string, after_entry, value_or}
+use Rattle.hdt_front.specs.Decoding.{is_block_start, stored_prefix_len, bytes_from_suffix, suffix_of, decoded_string}
+use Rattle.hdt_front.specs.Decoding.{after_entry, value_or}
 use Rattle.hdt_front.specs.Decoding.{decoded_strings}
 use Rattle.hdt_front.specs.StringChecks.{BlockLayout, rest_offset, strings_check}
 use Rattle.hdt_front.specs.FrontCoding.{IsEntry}
@@ -76,9 +77,9 @@ pub record Piece (h : Bool) (before rest : List ℕ) : Type 0 where
   pub is : IsEntry h before (decoded_string h before rest) entry
 
 piece_found : (h : Bool) (before rest : List ℕ) → IsBytes rest
-    → (h ≡ false → vbyte_at rest 0 ≡ Ok (value_or (0, 0) (vbyte_at rest 0))) → kept h rest ≤ length before
+    → (h ≡ false → vbyte_at rest 0 ≡ Ok (value_or (0, 0) (vbyte_at rest 0))) → stored_prefix_len h rest ≤ length before
     → len_before_zero (bytes_from_suffix h rest) < length (bytes_from_suffix h rest) → Piece h before rest
-unfolding kept bytes_from_suffix suffix_of decoded_string after_entry
+unfolding stored_prefix_len bytes_from_suffix suffix_of decoded_string after_entry
 piece_found true before rest bytes number fits ends = record {
   entry = take (len_before_zero rest) rest ++ 0 ∷ [];
   joined = split_zero rest ends;
@@ -88,8 +89,8 @@ piece_found false before rest bytes number fits ends =
     let x : ℕ × ℕ = value_or (0, 0) (vbyte_at rest 0) in
     let s = vbyte_found rest 0 (value_or (0, 0) (vbyte_at rest 0)) bytes (number refl) in
     let text : List ℕ = suffix_of false rest in
-    let size : length (take (kept false rest) before) ≡ kept false rest =
-    length-take-le (kept false rest) before fits in
+    let size : length (take (stored_prefix_len false rest) before) ≡ stored_prefix_len false rest =
+    length-take-le (stored_prefix_len false rest) before fits in
     record {
       entry = take (x.1 - 0) rest ++ (text ++ 0 ∷ []);
       joined = sym (take-append-drop x.1 rest)
@@ -99,7 +100,7 @@ piece_found false before rest bytes number fits ends =
           ∙ ap (λ (k : ℕ). (take k rest ++ (text ++ 0 ∷ [])) ++ after_entry false rest) (let e : x.1 ≡ x.1 - 0 =
           omega arith in e);
       is = record {
-        kept = x.0;
+        prefix_len = x.0;
         front = take (x.1 - 0) rest;
         spelled = s.spelled;
         small = small rest (value_or (0, 0) (vbyte_at rest 0)) (number refl);
@@ -116,7 +117,7 @@ or_right false b h = λ e. h
 pub string_no_zero : (h : Bool) (before rest : List ℕ) → NoZero before → NoZero (decoded_string h before rest)
 unfolding decoded_string suffix_of
 string_no_zero h before rest none =
-    append_no_zero (take (kept h rest) before) _ (take_no_zero (kept h rest) before none)
+    append_no_zero (take (stored_prefix_len h rest) before) _ (take_no_zero (stored_prefix_len h rest) before none)
     (text_no_zero (bytes_from_suffix h rest))
 
 after_bytes : (h : Bool) (rest : List ℕ) → IsBytes rest → IsBytes (after_entry h rest)
@@ -152,14 +153,14 @@ found_from p zero i at before rest size none bytes e =
     not_zero i h = grind (arith, nat_tests)
 found_from p (suc n) i at before rest size none bytes e =
     let s = step p n i before rest e in
-    let h : Bool = is_head p.block_size i in
-    let string : List ℕ = decoded_string (is_head p.block_size i) before rest in
-    let after : List ℕ = after_entry (is_head p.block_size i) rest in
-    let f = piece_found (is_head p.block_size i) before rest bytes s.0.number s.0.fits s.0.ends in
+    let h : Bool = is_block_start p.block_size i in
+    let string : List ℕ = decoded_string (is_block_start p.block_size i) before rest in
+    let after : List ℕ = after_entry (is_block_start p.block_size i) rest in
+    let f = piece_found (is_block_start p.block_size i) before rest bytes s.0.number s.0.fits s.0.ends in
     let long : length rest ≡ length f.entry + length after = ap length f.joined ∙ length-append f.entry after in
-    let clean = string_no_zero (is_head p.block_size i) before rest none in
+    let clean = string_no_zero (is_block_start p.block_size i) before rest none in
     let r = found_from p n (i + 1) (at + length f.entry) string after (omega (arith, size, long)) clean
-    (after_bytes (is_head p.block_size i) rest bytes) s.1 in (
+    (after_bytes (is_block_start p.block_size i) rest bytes) s.1 in (
       record {
         entries = f.entry ∷ r.0.entries;
         each = (f.is, r.0.each);

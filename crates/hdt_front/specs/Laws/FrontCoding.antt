@@ -14,7 +14,7 @@ use Rattle.std.proofs.lemmas.Map.Keys.{Less-from_sorted, sorted_from_all_adjacen
 use Rattle.std.specs.Cmp.Lexicographic.{nat_list_cmp_total}
 use Rattle.hdt_front.specs.Order.{string_cmp}
 use Rattle.hdt_wire.specs.Control.{HasNoZero}
-use Rattle.hdt_front.specs.Decoding.{is_head}
+use Rattle.hdt_front.specs.Decoding.{is_block_start}
 use Rattle.hdt_front.specs.StringChecks.{precedes}
 use Rattle.hdt_front.specs.FrontCoding.{IsEntry}
 use Rattle.hdt_front.specs.Laws.FrontCodingSteps.{AreEntries, AreBlockStarts, IsFrontCodedFrom, NoZero, Ascending}
@@ -32,48 +32,48 @@ lengths b i last (s ∷ ss) (p ∷ ps) h = ap suc (lengths b (i + 1) s ss ps h.1
 
 each_piece : (b i : ℕ) (last : List ℕ) (strings entries : List (List ℕ)) → AreEntries b i last strings entries
     → (k : ℕ) → k < length strings
-    → IsEntry (is_head b (i + k)) (get_or (last ∷ strings) k []) (get_or strings k []) (get_or entries k [])
+    → IsEntry (is_block_start b (i + k)) (get_or (last ∷ strings) k []) (get_or strings k []) (get_or entries k [])
 unfolding AreEntries
 each_piece b i last [] entries h k lt = absurd (omega (arith, lt))
 each_piece b i last (s ∷ ss) [] h k lt = absurd h
 each_piece b i last (s ∷ ss) (p ∷ ps) h zero lt =
-    subst (λ (n : ℕ). IsEntry (is_head b n) last s p) (sym (add-zero i)) h.0
+    subst (λ (n : ℕ). IsEntry (is_block_start b n) last s p) (sym (add-zero i)) h.0
 each_piece b i last (s ∷ ss) (p ∷ ps) h (suc k) lt =
     let next : (i + 1) + k ≡ i + suc k = omega arith in
-    subst (λ (n : ℕ). IsEntry (is_head b n) (get_or (s ∷ ss) k []) (get_or ss k []) (get_or ps k [])) next
+    subst (λ (n : ℕ). IsEntry (is_block_start b n) (get_or (s ∷ ss) k []) (get_or ss k []) (get_or ps k [])) next
     (each_piece b (i + 1) s ss ps h.1 k (omega (arith, lt)))
 
 all_pieces : (b i : ℕ) (last : List ℕ) (strings entries : List (List ℕ)) → length entries ≡ length strings
     → ((k : ℕ) → k < length strings
-    → IsEntry (is_head b (i + k)) (get_or (last ∷ strings) k []) (get_or strings k []) (get_or entries k []))
+    → IsEntry (is_block_start b (i + k)) (get_or (last ∷ strings) k []) (get_or strings k []) (get_or entries k []))
     → AreEntries b i last strings entries
 unfolding AreEntries
 all_pieces b i last [] [] same each = tt
 all_pieces b i last [] (p ∷ ps) same each = absurd (omega (arith, same))
 all_pieces b i last (s ∷ ss) [] same each = absurd (omega (arith, same))
 all_pieces b i last (s ∷ ss) (p ∷ ps) same each = (
-  subst (λ (n : ℕ). IsEntry (is_head b n) last s p) (add-zero i) (each 0 (omega arith)),
+  subst (λ (n : ℕ). IsEntry (is_block_start b n) last s p) (add-zero i) (each 0 (omega arith)),
   all_pieces b (i + 1) s ss ps (omega (arith, same)) (λ k lt.
       let next : i + suc k ≡ (i + 1) + k = omega arith in
-      subst (λ (n : ℕ). IsEntry (is_head b n) (get_or (s ∷ ss) k []) (get_or ss k []) (get_or ps k [])) next
+      subst (λ (n : ℕ). IsEntry (is_block_start b n) (get_or (s ∷ ss) k []) (get_or ss k []) (get_or ps k [])) next
       (each (suc k) (omega (arith, lt)))),
 )
 
 -- ---- block offsets
 
 each_start : (b i at : ℕ) (entries : List (List ℕ)) (starts : List ℕ) → AreBlockStarts b i at entries starts
-    → (k : ℕ) → k < length entries → is_head b (i + k) ≡ true
+    → (k : ℕ) → k < length entries → is_block_start b (i + k) ≡ true
     → get_or starts ((i + k) / b) 0 ≡ at + length (concat (take k entries))
 unfolding AreBlockStarts
 each_start b i at [] starts h k lt head = absurd (omega (arith, lt))
 each_start b i at (p ∷ ps) starts h zero lt head =
     let same : i + 0 ≡ i = add-zero i in
-    ap (λ (n : ℕ). get_or starts (n / b) 0) same ∙ h.0 (subst (λ (n : ℕ). is_head b n ≡ true) same head)
+    ap (λ (n : ℕ). get_or starts (n / b) 0) same ∙ h.0 (subst (λ (n : ℕ). is_block_start b n ≡ true) same head)
     ∙ sym (add-zero at)
 each_start b i at (p ∷ ps) starts h (suc k) lt head =
     let next : i + suc k ≡ (i + 1) + k = omega arith in
     let more = each_start b (i + 1) (at + length p) ps starts h.1 k (omega (arith, lt))
-    (subst (λ (n : ℕ). is_head b n ≡ true) next head) in
+    (subst (λ (n : ℕ). is_block_start b n ≡ true) next head) in
     ap (λ (n : ℕ). get_or starts (n / b) 0) next ∙ omega (arith, more, length-append p (concat (take k ps)))
 
 last_start : (b i at : ℕ) (entries : List (List ℕ)) (starts : List ℕ) → AreBlockStarts b i at entries starts
@@ -88,7 +88,7 @@ last_start b i at (p ∷ ps) starts h some =
     ∙ omega (arith, last_start b (i + 1) (at + length p) ps starts h.1 (omega arith), length-append p (concat ps))
 
 all_starts : (b i at : ℕ) (entries : List (List ℕ)) (starts : List ℕ)
-    → ((k : ℕ) → k < length entries → is_head b (i + k) ≡ true
+    → ((k : ℕ) → k < length entries → is_block_start b (i + k) ≡ true
     → get_or starts ((i + k) / b) 0 ≡ at + length (concat (take k entries)))
     → (0 < i + length entries → get_or starts ((i + length entries + (b - 1)) / b) 0 ≡ at + length (concat entries))
     → AreBlockStarts b i at entries starts
@@ -99,11 +99,11 @@ all_starts b i at [] starts each last = λ some.
 all_starts b i at (p ∷ ps) starts each last =
     let same : i + 0 ≡ i = add-zero i in (
       (λ head. sym (ap (λ (n : ℕ). get_or starts (n / b) 0) same)
-          ∙ each 0 (omega arith) (subst (λ (n : ℕ). is_head b n ≡ true) (sym same) head) ∙ add-zero at),
+          ∙ each 0 (omega arith) (subst (λ (n : ℕ). is_block_start b n ≡ true) (sym same) head) ∙ add-zero at),
       all_starts b (i + 1) (at + length p) ps starts
           (λ k lt head.
           let next : i + suc k ≡ (i + 1) + k = omega arith in
-          let e = each (suc k) (omega (arith, lt)) (subst (λ (n : ℕ). is_head b n ≡ true) (sym next) head) in
+          let e = each (suc k) (omega (arith, lt)) (subst (λ (n : ℕ). is_block_start b n ≡ true) (sym next) head) in
           sym (ap (λ (n : ℕ). get_or starts (n / b) 0) next) ∙ omega (arith, e, length-append p (concat (take k ps))))
           (λ some.
           let next : i + suc (length ps) ≡ (i + 1) + length ps = omega arith in
@@ -122,12 +122,12 @@ front_coded_found b strings packed starts h =
       entries = h.entries;
       joined = h.joined;
       one_each = same;
-      each = λ i lt. subst (λ (n : ℕ). IsEntry (is_head b n) (before strings i) (get_or strings i [])
+      each = λ i lt. subst (λ (n : ℕ). IsEntry (is_block_start b n) (before strings i) (get_or strings i [])
           (get_or h.entries i [])) (zero-add i) (each_piece b 0 [] strings h.entries h.each i lt);
       heads = λ i lt head.
           ap (λ (n : ℕ). get_or starts (n / b) 0) (sym (zero-add i))
           ∙ each_start b 0 0 h.entries starts h.places i (omega (arith, same, lt))
-          (subst (λ (n : ℕ). is_head b n ≡ true) (sym (zero-add i)) head) ∙ zero-add _;
+          (subst (λ (n : ℕ). is_block_start b n ≡ true) (sym (zero-add i)) head) ∙ zero-add _;
       last = λ some.
           let all : length strings ≡ 0 + length h.entries = omega (arith, same) in
           ap (λ (n : ℕ). get_or starts ((n + (b - 1)) / b) 0) all
@@ -141,11 +141,12 @@ front_coded_only b strings packed starts h = record {
   entries = h.entries;
   joined = h.joined;
   each = all_pieces b 0 [] strings h.entries h.one_each
-      (λ k lt. subst (λ (n : ℕ). IsEntry (is_head b n) (before strings k) (get_or strings k []) (get_or h.entries k []))
+      (λ k lt. subst (λ (n : ℕ). IsEntry (is_block_start b n) (before strings k) (get_or strings k [])
+      (get_or h.entries k []))
       (sym (zero-add k)) (h.each k lt));
   places = all_starts b 0 0 h.entries starts
       (λ k lt head. ap (λ (n : ℕ). get_or starts (n / b) 0) (zero-add k)
-      ∙ h.heads k (omega (arith, h.one_each, lt)) (subst (λ (n : ℕ). is_head b n ≡ true) (zero-add k) head)
+      ∙ h.heads k (omega (arith, h.one_each, lt)) (subst (λ (n : ℕ). is_block_start b n ≡ true) (zero-add k) head)
       ∙ sym (zero-add _))
       (λ some.
       let all : 0 + length h.entries ≡ length strings = omega (arith, h.one_each) in

@@ -1,7 +1,7 @@
 -- Laws of iteration over a section. Other crates use them.
 use Rattle.std.proofs.Common.{◌≡◌, ℕ, zero, suc, ◌+◌, List, [], ◌∷◌, refl, ap}
 use Rattle.hdt_front.specs.declared.section.Section.{Section}
-use Rattle.hdt_front.specs.Decoding.{is_head, decoded_string, after_entry, decoded_strings}
+use Rattle.hdt_front.specs.Decoding.{is_block_start, decoded_string, after_entry, decoded_strings}
 use Rattle.hdt_front.specs.StringChecks.{BlockLayout}
 use Rattle.hdt_front.specs.PackedView.{block_layout}
 use Rattle.hdt_front.specs.Strings.{strings_of}
@@ -14,8 +14,8 @@ pub strings_from : (p : BlockLayout) (n i : ℕ) (before rest : List ℕ)
 unfolding located_from decoded_strings
 strings_from p zero i before rest = refl
 strings_from p (suc n) i before rest =
-    let s : List ℕ = decoded_string (is_head p.block_size i) before rest in
-    ap (λ l. s ∷ l) (strings_from p n (i + 1) s (after_entry (is_head p.block_size i) rest))
+    let s : List ℕ = decoded_string (is_block_start p.block_size i) before rest in
+    ap (λ l. s ∷ l) (strings_from p n (i + 1) s (after_entry (is_block_start p.block_size i) rest))
 
 -- The iterated strings are those of the section.
 pub located_are_strings : (s : Section) → strings (located_strings s) ≡ strings_of s

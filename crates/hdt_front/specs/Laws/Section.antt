@@ -212,7 +212,7 @@ section_exact bytes at fits = record {
         block_offsets_at = h.block_offsets_at;
         started = rw n h.started;
         width = refl;
-        place = refl;
+        packed_begins = refl;
         packed = h.packed;
         front_coded = front_coded_found p.block_size _ p.packed p.starts.items f.0;
         strings = strings_are _ f.1;
@@ -243,10 +243,10 @@ section_exact bytes at fits = record {
         };
         block_offsets_at = h.block_offsets_at;
         started = h.started;
-        packed = subst (λ (i : ℕ). HasSlice bytes i (s.packed ++ little_bytes 4 (crc32 s.packed)) s.end) h.place
+        packed = subst (λ (i : ℕ). HasSlice bytes i (s.packed ++ little_bytes 4 (crc32 s.packed)) s.end) h.packed_begins
             h.packed;
       }) in
       let r2 = strings_only (block_layout_with h.starts s.block_size (length s.packed)) s.strings s.packed refl folds
       (strings_ascend s.strings h.strings) in
-      rw (r1, r2.0, r2.1, ← h.place, ← h.width) refl;
+      rw (r1, r2.0, r2.1, ← h.packed_begins, ← h.width) refl;
 }

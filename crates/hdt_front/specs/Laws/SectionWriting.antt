@@ -85,7 +85,7 @@ section_encoded strings b starts packed bytes at end can s =
       };
       started = can.started;
       width = width_is starts bytes place _ numbers;
-      place = refl;
+      packed_begins = refl;
       packed = HasSlice-back bytes place (numbers_encoding starts) tail end t3;
       front_coded = can.front_coded;
       strings = can.strings_are;

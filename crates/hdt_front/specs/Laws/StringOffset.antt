@@ -5,7 +5,7 @@ use Rattle.std.specs.List.{concat}
 use Rattle.std.proofs.Math.Seq.{drop-cons}
 use Rattle.std.proofs.lemmas.List.{take-append-drop}
 use Rattle.std.proofs.lemmas.List.Folds.{concat-append}
-use Rattle.hdt_front.specs.Decoding.{is_head}
+use Rattle.hdt_front.specs.Decoding.{is_block_start}
 use Rattle.hdt_front.specs.EntryFacts.{bytes_from_entry}
 use Rattle.hdt_front.specs.Laws.ChecksComplete.{entry_decodes}
 use Rattle.hdt_front.specs.Laws.FrontCoding.{nonzero_to}
@@ -23,7 +23,7 @@ rests b strings packed starts f are (suc i) le =
     drop-cons f.entries i [] (omega (arith, f.one_each, lt)) in
     let rest : bytes_from_entry b i packed ≡ get_or f.entries i [] ++ concat (drop (suc i) f.entries) =
     rests b strings packed starts f are i (omega (arith, le)) ∙ ap concat here in
-    (entry_decodes (is_head b i) (before strings i) (get_or strings i []) (get_or f.entries i [])
+    (entry_decodes (is_block_start b i) (before strings i) (get_or strings i []) (get_or f.entries i [])
     (bytes_from_entry b i packed) (concat (drop (suc i) f.entries))
     (f.each i lt) (nonzero_to (get_or strings i []) (are.no_zero i lt)) rest).after_is
 

@@ -5,15 +5,16 @@ use Rattle.std.proofs.lemmas.List.{drop-drop}
 use Rattle.hdt_wire.specs.Checks.{len_before_zero}
 use Rattle.hdt_wire.specs.VByte.{vbyte_at}
 use Rattle.hdt_wire.specs.Laws.Checks.{bind_ok}
-use Rattle.hdt_front.specs.Decoding.{is_head, bytes_from_suffix, decoded_string, after_entry, value_or, decoded_strings}
+use Rattle.hdt_front.specs.Decoding.{is_block_start, bytes_from_suffix, decoded_string, after_entry, value_or}
+use Rattle.hdt_front.specs.Decoding.{decoded_strings}
 use Rattle.hdt_front.specs.StringChecks.{BlockLayout, string_check, strings_check}
 use Rattle.hdt_front.specs.EntryFacts.{IsCheckedEntry, bytes_from_entry, string_before_entry}
 use Rattle.hdt_front.specs.Laws.CheckedEntries.{entry_is_checked}
 
 pub step : (p : BlockLayout) (m i : ℕ) (before rest : List ℕ) → strings_check p (suc m) i before rest ≡ Ok tt
     → IsCheckedEntry p i before rest
-    × (strings_check p m (i + 1) (decoded_string (is_head p.block_size i) before rest)
-    (after_entry (is_head p.block_size i) rest) ≡ Ok tt)
+    × (strings_check p m (i + 1) (decoded_string (is_block_start p.block_size i) before rest)
+    (after_entry (is_block_start p.block_size i) rest) ≡ Ok tt)
 unfolding strings_check
 step p m i before rest e =
     bind_ok (string_check p i before rest) _ _ e (λ y ey more.
@@ -34,9 +35,9 @@ checks_from_entry p n (suc i) bytes h e =
     (sym (ap (λ m. strings_check p m i (string_before_entry p.block_size i bytes)
     (bytes_from_entry p.block_size i bytes)) k) ∙ so_far) in
     ap (λ m. strings_check p (n - suc i) m
-    (decoded_string (is_head p.block_size i) (string_before_entry p.block_size i bytes)
+    (decoded_string (is_block_start p.block_size i) (string_before_entry p.block_size i bytes)
     (bytes_from_entry p.block_size i bytes))
-    (after_entry (is_head p.block_size i) (bytes_from_entry p.block_size i bytes))) (sym (add-one i)) ∙ s.1
+    (after_entry (is_block_start p.block_size i) (bytes_from_entry p.block_size i bytes))) (sym (add-one i)) ∙ s.1
 
 pub entry_check_at : (p : BlockLayout) (n i : ℕ) (bytes : List ℕ) → i < n → strings_check p n 0 [] bytes ≡ Ok tt
     → IsCheckedEntry p i (string_before_entry p.block_size i bytes) (bytes_from_entry p.block_size i bytes)
@@ -71,10 +72,10 @@ unfolding bytes_from_entry after_entry bytes_from_suffix
 behind b zero bytes = (0, refl)
 behind b (suc i) bytes =
     let r = behind b i bytes in
-    let d : ℕ = cond (is_head b i) 0 (value_or (0, 0) (vbyte_at (bytes_from_entry b i bytes) 0)).1 in
-    let z : ℕ = len_before_zero (bytes_from_suffix (is_head b i) (bytes_from_entry b i bytes)) + 1 in (
+    let d : ℕ = cond (is_block_start b i) 0 (value_or (0, 0) (vbyte_at (bytes_from_entry b i bytes) 0)).1 in
+    let z : ℕ = len_before_zero (bytes_from_suffix (is_block_start b i) (bytes_from_entry b i bytes)) + 1 in (
       r.0 + d + z,
-      ap (drop z) (opened (is_head b i) (value_or (0, 0) (vbyte_at (bytes_from_entry b i bytes) 0)).1
+      ap (drop z) (opened (is_block_start b i) (value_or (0, 0) (vbyte_at (bytes_from_entry b i bytes) 0)).1
           (bytes_from_entry b i bytes)) ∙ drop-drop z d (bytes_from_entry b i bytes)
           ∙ ap (drop (d + z)) r.1 ∙ drop-drop (d + z) r.0 bytes
           ∙ ap (λ k. drop k bytes) (let e : r.0 + (d + z) ≡ r.0 + d + z = omega arith in e),
@@ -102,8 +103,8 @@ pub length-decoded_strings : (b n i : ℕ) (before bytes : List ℕ) → length 
 unfolding decoded_strings
 length-decoded_strings b zero i before bytes = refl
 length-decoded_strings b (suc n) i before bytes =
-    ap suc (length-decoded_strings b n (i + 1) (decoded_string (is_head b i) before bytes)
-    (after_entry (is_head b i) bytes))
+    ap suc (length-decoded_strings b n (i + 1) (decoded_string (is_block_start b i) before bytes)
+    (after_entry (is_block_start b i) bytes))
 
 pub shorter : (h : Bool) (rest : List ℕ)
     → len_before_zero (bytes_from_suffix h rest) < length (bytes_from_suffix h rest)
@@ -127,7 +128,7 @@ few p (suc n) i before rest e =
     let s = step p n i before rest e in
     omega (
       arith,
-      few p n (i + 1) (decoded_string (is_head p.block_size i) before rest)
-          (after_entry (is_head p.block_size i) rest) s.1,
-      shorter (is_head p.block_size i) rest s.0.ends,
+      few p n (i + 1) (decoded_string (is_block_start p.block_size i) before rest)
+          (after_entry (is_block_start p.block_size i) rest) s.1,
+      shorter (is_block_start p.block_size i) rest s.0.ends,
     )

@@ -9,7 +9,7 @@ use Rattle.hdt_wire.specs.Crc.{crc8, crc32}
 use Rattle.hdt_wire.specs.Checks.{IsBytes, HasSlice}
 use Rattle.hdt_wire.specs.Laws.Checks.{demand_ok, bind_ok}
 use Rattle.hdt_seq.specs.PackedBits.{bytes_for}
-use Rattle.hdt_seq.specs.Sequence.{SequenceOffsets, byte_at, crc8_at, packed_at}
+use Rattle.hdt_seq.specs.Sequence.{SequenceShape, byte_at, crc8_at, packed_at}
 use Rattle.hdt_seq.specs.Laws.Sequence.{byte_found, byte_only, packed_found, packed_only, slice_is_bytes}
 use Rattle.hdt_wire.specs.Laws.Checks.{HasSlice-front}
 use Rattle.hdt_seq.specs.Numbers.{numbers_at}
@@ -58,7 +58,7 @@ numbers_exact bytes at fits = record {
   only = λ s h.
       let reads = numbers_only bytes at s.items s.end fits h.spelled in
       let has_offsets = (numbers_found bytes at _ fits reads).has_offsets in
-      reads ∙ ap (λ (p : SequenceOffsets). Ok (record { items = s.items; offsets = p; end = s.end })) (has_offsets
+      reads ∙ ap (λ (p : SequenceShape). Ok (record { items = s.items; offsets = p; end = s.end })) (has_offsets
       ∙ sym h.offsets);
 }
 
@@ -67,5 +67,5 @@ bits_exact bytes at fits = record {
   found = λ s e. let f = bits_found bytes at s fits e in record { spelled = f.spelled; offsets = f.has_offsets };
   only = λ s h.
       bits_only bytes at s.items s.end fits h.spelled
-      ∙ ap (λ (p : SequenceOffsets). Ok (record { items = s.items; offsets = p; end = s.end })) (sym h.offsets);
+      ∙ ap (λ (p : SequenceShape). Ok (record { items = s.items; offsets = p; end = s.end })) (sym h.offsets);
 }

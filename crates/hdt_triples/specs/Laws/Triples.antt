@@ -18,7 +18,7 @@ use Rattle.hdt_wire.specs.Checks.{IsBytes}
 use Rattle.hdt_wire.specs.Laws.Checks.{bind_ok, demand_ok}
 use Rattle.hdt_wire.specs.Control.{control_at}
 use Rattle.hdt_wire.specs.Property.{property_value}
-use Rattle.hdt_seq.specs.Sequence.{SequenceOffsets, Sequence, entry_offset}
+use Rattle.hdt_seq.specs.Sequence.{SequenceShape, Sequence, entry_offset}
 use Rattle.hdt_seq.specs.Numbers.{numbers_at}
 use Rattle.hdt_seq.specs.Bits.{bits_at}
 use Rattle.hdt_seq.specs.RankSelect.{ones_before}
@@ -57,7 +57,7 @@ record EntryHolds (marks : List Bool) (xs : List ℕ) (count i : ℕ) : Type 0 w
   to : slice_index xs i ≤ count
   later : previous_in_group marks xs i < slice_index xs i
 
-entry_exact : (marks : List Bool) (xs : List ℕ) (offsets : SequenceOffsets) (count : ℕ) (range ascent : Reason) (i : ℕ)
+entry_exact : (marks : List Bool) (xs : List ℕ) (offsets : SequenceShape) (count : ℕ) (range ascent : Reason) (i : ℕ)
     → Exactly (entry_checks marks xs offsets count range ascent i) (λ _. EntryHolds marks xs count i)
 unfolding entry_checks
 entry_exact marks xs offsets count range ascent i =
@@ -134,7 +134,7 @@ record PairHolds (counts : Counts) (bitmap_y : List Bool) (array_y : List ℕ) (
   subject : ones_before bitmap_y q + 1 ≤ counts.subjects
   predicate : EntryHolds bitmap_y array_y counts.predicates q
 
-pair_exact : (counts : Counts) (bitmap_y : List Bool) (a : SequenceOffsets) (array_y : List ℕ) (b : SequenceOffsets)
+pair_exact : (counts : Counts) (bitmap_y : List Bool) (a : SequenceShape) (array_y : List ℕ) (b : SequenceShape)
     (q : ℕ) → Exactly (pair_checks counts bitmap_y a array_y b q) (λ _. PairHolds counts bitmap_y array_y q)
 unfolding pair_checks
 pair_exact counts bitmap_y a array_y b q =
@@ -146,7 +146,7 @@ pair_exact counts bitmap_y a array_y b q =
       only = λ u h. rw (le-leb (ones_before bitmap_y q + 1) counts.subjects h.subject, entry.only tt h.predicate) refl;
     }
 
-pairs_exact : (counts : Counts) (bitmap_y : List Bool) (a : SequenceOffsets) (array_y : List ℕ) (b : SequenceOffsets)
+pairs_exact : (counts : Counts) (bitmap_y : List Bool) (a : SequenceShape) (array_y : List ℕ) (b : SequenceShape)
     → length bitmap_y ≡ length array_y
     → Exactly (all_pair_checks counts bitmap_y a array_y b) (λ _. ArePairs counts bitmap_y array_y)
 pairs_exact counts bitmap_y a array_y b same =
@@ -165,7 +165,7 @@ pairs_exact counts bitmap_y a array_y b same =
           });
     }
 
-objects_exact : (bitmap_z : List Bool) (array_z : List ℕ) (offsets : SequenceOffsets) (count : ℕ)
+objects_exact : (bitmap_z : List Bool) (array_z : List ℕ) (offsets : SequenceShape) (count : ℕ)
     → length bitmap_z ≡ length array_z
     → Exactly (all_object_checks bitmap_z array_z offsets count) (λ _. AreAscendingGroups bitmap_z array_z count)
 objects_exact bitmap_z array_z offsets count same =

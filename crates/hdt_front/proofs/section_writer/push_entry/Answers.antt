@@ -17,7 +17,7 @@ unfolding encode_entry
 returns-clause-packed c =
     on_ok_weaker c.decode_over.result
     (λ made. c.in_ok-append_entry.ensures.ok
-    ∙ ap (λ (n : ℕ). c.args.packed.now.items ++ entry_with_prefix c.args.head n c.args.string.now) c.requires)
+    ∙ ap (λ (n : ℕ). c.args.packed.now.items ++ entry_with_prefix c.args.starts_block n c.args.string.now) c.requires)
     c.decode_over.ensures.ok
 
 pub returns-clause-last : goal.returns-clause-last

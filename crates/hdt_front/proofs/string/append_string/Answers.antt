@@ -5,7 +5,7 @@ use Rattle.std.proofs.Math.Nat.{mod-lt}
 use Rattle.hdt_front.specs.Strings.{strings_of}
 use Rattle.hdt_front.specs.PackedView.{block_layout}
 use Rattle.hdt_front.specs.Inside.PartialStrings.{partial_string}
-use Rattle.hdt_front.specs.Decoding.{after_entry, kept, bytes_from_suffix, suffix_of}
+use Rattle.hdt_front.specs.Decoding.{after_entry, stored_prefix_len, bytes_from_suffix, suffix_of}
 use Rattle.hdt_front.specs.Laws.StringSteps.{length-decoded_strings}
 use Rattle.hdt_front.proofs.DecodingLemmas.{unfolds_here, string_complete, append_over_prefix}
 use Rattle.hdt_front.proofs.string.append_string.Goals as goal
@@ -142,7 +142,7 @@ loop-k-preserved c =
       out = append_over_prefix c.args.out.now.items
           (partial_string p.block_size (c.args.i / p.block_size) l.k p.bytes.now) l.out.items _
           c.decode_next.new.out.items (suffix_of (nat_eq l.k 0) l.rest.now) _ c.len-start.result
-          (kept (nat_eq l.k 0) l.rest.now)
+          (stored_prefix_len (nat_eq l.k 0) l.rest.now)
           old_size l.invariant.out refl c.in_ok-rest.ensures.string u.string;
       rest = c.in_ok-rest.ensures.rest ∙ u.after;
       cost = omega (arith, l.invariant.cost, c.tick.ensures);

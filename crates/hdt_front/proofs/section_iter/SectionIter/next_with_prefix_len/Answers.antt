@@ -1,6 +1,6 @@
 use Rattle.std.proofs.Common.{◌-◌, ◌+◌, ap, sym, ◌∙◌, arith, Some, length}
 use Rattle.hdt_front.specs.PackedView.{block_layout}
-use Rattle.hdt_front.specs.Decoding.{is_head}
+use Rattle.hdt_front.specs.Decoding.{is_block_start}
 use Rattle.hdt_front.specs.Iteration.{IterState, next_offset}
 use Rattle.hdt_front.specs.Laws.IterationSteps.{ended, stays, iter_step, goes, same_checks, string_made}
 use Rattle.hdt_front.proofs.IterationLcp.{kept_first}
@@ -30,7 +30,8 @@ invariant_of-self-2 c =
     let p = block_layout s.packed in
     let m = iter_step (block_layout s.packed) s.packed.count s.next s.last.items s.rest.now c.self.invariant.0
     c.if-self.false c.self.invariant.2 in
-    let made = string_made (is_head s.packed.block_size s.next) s.last.items s.rest.now c.decode_over.new.string.items
+    let made = string_made (is_block_start s.packed.block_size s.next) s.last.items s.rest.now
+    c.decode_over.new.string.items
     c.split_entry-kept.result.1.now c.split_entry-kept.result.0 c.in_ok-decode_over.ensures.ok
     c.split_entry-kept.ensures.kept c.split_entry-kept.ensures.text in (
       omega (arith, c.self.invariant.0, c.if-self.false),
@@ -52,7 +53,8 @@ returns-clause-ok c =
     let s = c.self.inside in
     let m = iter_step (block_layout s.packed) s.packed.count s.next s.last.items s.rest.now c.self.invariant.0
     c.if-self.false c.self.invariant.2 in
-    let made = string_made (is_head s.packed.block_size s.next) s.last.items s.rest.now c.decode_over.new.string.items
+    let made = string_made (is_block_start s.packed.block_size s.next) s.last.items s.rest.now
+    c.decode_over.new.string.items
     c.split_entry-kept.result.1.now c.split_entry-kept.result.0 c.in_ok-decode_over.ensures.ok
     c.split_entry-kept.ensures.kept c.split_entry-kept.ensures.text in
     goes (block_layout s.packed) s.packed.count s.next s.last.items s.rest.now _ _ c.args.self.now m made

@@ -1,5 +1,5 @@
 use Rattle.std.proofs.Common.{◌≡◌, ◌<◌, ◌+◌, ◌-◌, ◌∙◌, ap, sym, subst, length, get_or, [], ℕ, List, arith}
-use Rattle.hdt_front.specs.Decoding.{is_head}
+use Rattle.hdt_front.specs.Decoding.{is_block_start}
 use Rattle.hdt_front.specs.SeekerState.{SeekerState, seeker_at}
 use Rattle.hdt_front.specs.Strings.{strings_of}
 use Rattle.hdt_front.specs.Laws.Strings.{count_is}
@@ -7,8 +7,8 @@ use Rattle.hdt_front.specs.Laws.IterationSteps.{string_made}
 use Rattle.hdt_front.proofs.SeekerLemmas.{passes, string_before}
 use Rattle.hdt_front.proofs.seeker.Seeker.advance.Goals as goal
 
-pub nonzero_rem-head : goal.nonzero_rem-head
-nonzero_rem-head c =
+pub nonzero_rem-starts_block : goal.nonzero_rem-starts_block
+nonzero_rem-starts_block c =
     let s = c.self.inside.section in
     let inside : c.self.inside.at < length (strings_of s) =
     subst (λ (w : SeekerState). w.at < length (strings_of w.section)) (sym c.self.view_is) c.requires in
@@ -36,7 +36,7 @@ invariant_of-self-2 c =
     subst (λ (w : SeekerState). w.at < length (strings_of w.section)) (sym c.self.view_is) c.requires in
     let p = passes s c.self.inside.at c.self.inside.last.items c.self.inside.rest.now
     (omega (arith, inside, count_is s)) c.self.invariant.1 c.self.invariant.2 in
-    let made = string_made (is_head s.packed.block_size c.self.inside.at) c.self.inside.last.items
+    let made = string_made (is_block_start s.packed.block_size c.self.inside.at) c.self.inside.last.items
     c.self.inside.rest.now c.decode_over.new.string.items c.split_entry-kept.result.1.now
     c.split_entry-kept.result.0
     c.in_ok-decode_over.ensures.ok c.split_entry-kept.ensures.kept c.split_entry-kept.ensures.text in
@@ -49,7 +49,7 @@ returns-clause-ok c =
     subst (λ (w : SeekerState). w.at < length (strings_of w.section)) (sym c.self.view_is) c.requires in
     let p = passes s c.self.inside.at c.self.inside.last.items c.self.inside.rest.now
     (omega (arith, inside, count_is s)) c.self.invariant.1 c.self.invariant.2 in
-    let made = string_made (is_head s.packed.block_size c.self.inside.at) c.self.inside.last.items
+    let made = string_made (is_block_start s.packed.block_size c.self.inside.at) c.self.inside.last.items
     c.self.inside.rest.now c.decode_over.new.string.items c.split_entry-kept.result.1.now
     c.split_entry-kept.result.0
     c.in_ok-decode_over.ensures.ok c.split_entry-kept.ensures.kept c.split_entry-kept.ensures.text in
