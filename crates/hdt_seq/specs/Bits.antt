@@ -28,11 +28,7 @@ bits_of s = bits s.packed.now s.count
 unfoldable pub bits_offsets : Bits → SequenceShape
 bits_offsets s = record { count = s.count_at; packed = s.packed_at; width = 1 }
 
--- the bits that a reader returns, and the offset after the bitmap
-abbrev pub bits_and_end : Bits × ℕ → List Bool × ℕ
-bits_and_end r = (bits_of r.0, r.1)
-
--- the same, with the offsets of the bitmap
+-- what a reader returns: the bitmap, and the offset after it
 abbrev pub bits_view : Bits × ℕ → Sequence Bool
 bits_view r = record { items = bits_of r.0; offsets = bits_offsets r.0; end = r.1 }
 

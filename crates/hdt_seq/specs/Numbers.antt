@@ -30,11 +30,7 @@ numbers_of s = entries s.packed.now s.width s.count
 unfoldable pub numbers_offsets : Numbers → SequenceShape
 numbers_offsets s = record { count = s.count_at; packed = s.packed_at; width = s.width }
 
--- the entries that a reader returns, and the offset after the sequence
-abbrev pub numbers_and_end : Numbers × ℕ → List ℕ × ℕ
-numbers_and_end r = (numbers_of r.0, r.1)
-
--- the same, with the offsets of the sequence
+-- what a reader returns: the sequence, and the offset after it
 abbrev pub numbers_view : Numbers × ℕ → Sequence ℕ
 numbers_view r = record { items = numbers_of r.0; offsets = numbers_offsets r.0; end = r.1 }
 

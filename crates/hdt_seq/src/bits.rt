@@ -24,18 +24,26 @@ pub struct Bits<'a> {
 }
 
 impl<'a> Bits<'a> {
-    ghost use Rattle.std.specs.Prelude.{Bool, List, Ok, Some, IfOk, slice_get};
-    ghost use Rattle.hdt_wire.specs.Checks.{Reads, EncodedAt};
+    ghost use Rattle.std.specs.Prelude.{Some, IfOk, slice_get};
+    ghost use Rattle.hdt_wire.specs.Checks.{Reads};
     ghost use Rattle.std.specs.Int.Count.{ones};
     ghost use Rattle.hdt_seq.specs.Sequence.{entry_offset};
     ghost use Rattle.hdt_seq.specs.RankSelect.{ones_before};
-    ghost use Rattle.hdt_seq.specs.Bits.{EncodesBits, bits_of, bits_offsets, expected_bits_offsets, bits_and_end};
-    ghost use Rattle.hdt_seq.specs.Bits.{bits_view, bits_at};
+    ghost use Rattle.hdt_seq.specs.Bits.{bits_of, bits_offsets, bits_view, bits_at};
 
-    /// Reads a bitmap in the order of the format.
+    /// Reads the bitmap at a byte offset, from 0. Returns it with the offset after it. More bytes may follow. Linear
+    /// time in the bytes of the bitmap, because of its CRC. By [`sequences_are_exact`](crate::sequences_are_exact) this
+    /// is what is encoded there, if anything is.
+    ///
+    /// # Errors
+    ///
+    /// The first of these, in this order: `BitsKind`, those of the number of bits, `Check8`, `NoTriples` if there is no
+    /// bit, `Check32`; and `Truncated` at the offset of what is cut off.
     #[tactic(auto, unfolding(crate::specs::Bits::bits_at, crate::specs::Bits::bits_of, crate::specs::Bits::bits_offsets))]
-    fn read_by_checks(bytes: &'a [u8], at: usize) -> Result<(Bits<'a>, usize), Fault>
+    pub fn read(bytes: &'a [u8], at: usize) -> Result<(Bits<'a>, usize), Fault>
+        // The result is that of the format's checks in order: the bitmap, or the first error.
         ensures exact { Reads bits_view result (bits_at bytes.now at) }
+        ensures end { IfOk result (λ r. (at < r.1) × (r.1 ≤ length bytes.now)) }
     {
         let (kind, count_at) = byte_at(bytes, at)?;
         demand(kind == 1, at, Reason::BitsKind)?;
@@ -50,28 +58,6 @@ impl<'a> Bits<'a> {
             packed_at: start,
         };
         Ok((bits, end))
-    }
-
-    /// Reads the bitmap at a byte offset, from 0. Returns it with the offset after it. More bytes may follow. Linear
-    /// time in the bytes of the bitmap, because of its CRC.
-    ///
-    /// # Errors
-    ///
-    /// The first of these, in this order: `BitsKind`, those of the number of bits, `Check8`, `NoTriples` if there is no
-    /// bit, `Check32`; and `Truncated` at the offset of what is cut off.
-    pub fn read(bytes: &'a [u8], at: usize) -> Result<(Bits<'a>, usize), Fault>
-        // What is returned is encoded there.
-        ensures found { IfOk result (λ r. EncodedAt EncodesBits bytes.now at (bits_of r.0) r.1) }
-        // Its offsets are those of the format.
-        ensures places { IfOk result (λ r. bits_offsets r.0 ≡ expected_bits_offsets at (length (bits_of r.0))) }
-        // Whatever is encoded there is returned.
-        ensures only { (xs : List Bool) (end : ℕ) → EncodedAt EncodesBits bytes.now at xs end
-            → Reads bits_and_end result (Ok (xs, end)) }
-        // Otherwise the first error is returned.
-        ensures exact { Reads bits_view result (bits_at bytes.now at) }
-        ensures end { IfOk result (λ r. (at < r.1) × (r.1 ≤ length bytes.now)) }
-    {
-        Bits::read_by_checks(bytes, at)
     }
 
     /// Returns the number of bits, at least 1.

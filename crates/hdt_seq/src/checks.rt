@@ -1,8 +1,12 @@
 //! The checks that log sequences and bitmaps share.
-ghost use Rattle.std.specs.Prelude.{◌≡◌, ◌+◌, ◌<◌, ◌≤◌, length, IfOk};
-ghost use Rattle.hdt_wire.specs.Checks.{Reads, bytes_at};
+ghost use Rattle.std.specs.Prelude.{◌≡◌, ◌+◌, ◌<◌, ◌≤◌, ℕ, List, length, IfOk};
+ghost use Rattle.hdt_wire.specs.Checks.{Reads, IsBytes, bytes_at};
+ghost use Rattle.hdt_wire.specs.Exact.{Exactly};
 ghost use Rattle.hdt_seq.specs.PackedBits.{bytes_for};
 ghost use Rattle.hdt_seq.specs.Sequence.{byte_at, crc8_at, packed_at};
+ghost use Rattle.hdt_seq.specs.Numbers.{numbers_at};
+ghost use Rattle.hdt_seq.specs.Bits.{bits_at};
+ghost use Rattle.hdt_seq.specs.ExactSequences.{IsLogSequenceAt, IsBitmapAt};
 
 use byteorder::{ByteOrder, LittleEndian};
 use hdt_wire::{Fault, Reason, bytes_at, check8, check32, demand};
@@ -60,3 +64,10 @@ pub fn packed_at(bytes: &[u8], at: usize, bits: u128) -> Result<(&[u8], usize), 
     )?;
     Ok((packed, end))
 }
+
+/// Law: the checks accept exactly the log sequences, and the bitmaps, that are encoded at the offset.
+pub fn sequences_are_exact()
+    ensures numbers { (bytes : List ℕ) (at : ℕ) → IsBytes bytes
+        → Exactly (numbers_at bytes at) (λ s. IsLogSequenceAt s bytes at) }
+    ensures bits { (bytes : List ℕ) (at : ℕ) → IsBytes bytes → Exactly (bits_at bytes at) (λ s. IsBitmapAt s bytes at) }
+{}

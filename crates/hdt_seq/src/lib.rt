@@ -32,7 +32,7 @@ mod sequence_writer;
 mod writing;
 
 pub use bits::{Bits, Steps};
-pub use checks::{byte_at, crc8_at, packed_at};
+pub use checks::{byte_at, crc8_at, packed_at, sequences_are_exact};
 pub use directory::{Directory, rank_select_inverse};
 pub use numbers::Numbers;
 pub use packing::{put_entries, width_of};

@@ -28,16 +28,24 @@ pub struct Numbers<'a> {
 }
 
 impl<'a> Numbers<'a> {
-    ghost use Rattle.std.specs.Prelude.{List, Ok, IfOk, slice_index};
-    ghost use Rattle.hdt_wire.specs.Checks.{Reads, EncodedAt};
+    ghost use Rattle.std.specs.Prelude.{IfOk, slice_index};
+    ghost use Rattle.hdt_wire.specs.Checks.{Reads};
     ghost use Rattle.hdt_seq.specs.Sequence.{entry_offset};
-    ghost use Rattle.hdt_seq.specs.Numbers.{EncodesNumbers, numbers_of, numbers_offsets, expected_numbers_offsets};
-    ghost use Rattle.hdt_seq.specs.Numbers.{numbers_and_end, numbers_view, numbers_at};
+    ghost use Rattle.hdt_seq.specs.Numbers.{numbers_of, numbers_offsets, numbers_view, numbers_at};
 
-    /// Reads a log sequence in the order of the format.
+    /// Reads the log sequence at a byte offset, from 0. Returns it with the offset after it. More bytes may follow.
+    /// Linear time in the bytes of the sequence, because of its CRC. By [`sequences_are_exact`](crate::sequences_are_exact)
+    /// this is what is encoded there, if anything is.
+    ///
+    /// # Errors
+    ///
+    /// The first of these, in this order: `SequenceKind`, `Width`, those of the number of entries, `Check8`, `Check32`;
+    /// and `Truncated` at the offset of what is cut off.
     #[tactic(auto, unfolding(crate::specs::Numbers::numbers_at, crate::specs::Numbers::numbers_of, crate::specs::Numbers::numbers_offsets))]
-    fn read_by_checks(bytes: &'a [u8], at: usize) -> Result<(Numbers<'a>, usize), Fault>
+    pub fn read(bytes: &'a [u8], at: usize) -> Result<(Numbers<'a>, usize), Fault>
+        // The result is that of the format's checks in order: the sequence, or the first error.
         ensures exact { Reads numbers_view result (numbers_at bytes.now at) }
+        ensures end { IfOk result (λ r. (at < r.1) × (r.1 ≤ length bytes.now)) }
     {
         let (kind, width_at) = byte_at(bytes, at)?;
         demand(kind == 1, at, Reason::SequenceKind)?;
@@ -55,29 +63,6 @@ impl<'a> Numbers<'a> {
             packed_at: start,
         };
         Ok((numbers, end))
-    }
-
-    /// Reads the log sequence at a byte offset, from 0. Returns it with the offset after it. More bytes may follow.
-    /// Linear time in the bytes of the sequence, because of its CRC.
-    ///
-    /// # Errors
-    ///
-    /// The first of these, in this order: `SequenceKind`, `Width`, those of the number of entries, `Check8`, `Check32`;
-    /// and `Truncated` at the offset of what is cut off.
-    pub fn read(bytes: &'a [u8], at: usize) -> Result<(Numbers<'a>, usize), Fault>
-        // What is returned is encoded there.
-        ensures found { IfOk result (λ r. EncodedAt EncodesNumbers bytes.now at (numbers_of r.0) r.1) }
-        // Its offsets are those of the format.
-        ensures places { IfOk result (λ r. numbers_offsets r.0
-            ≡ expected_numbers_offsets at (slice_index bytes.now (at + 1)) (length (numbers_of r.0))) }
-        // Whatever is encoded there is returned.
-        ensures only { (xs : List ℕ) (end : ℕ) → EncodedAt EncodesNumbers bytes.now at xs end
-            → Reads numbers_and_end result (Ok (xs, end)) }
-        // Otherwise the first error is returned.
-        ensures exact { Reads numbers_view result (numbers_at bytes.now at) }
-        ensures end { IfOk result (λ r. (at < r.1) × (r.1 ≤ length bytes.now)) }
-    {
-        Numbers::read_by_checks(bytes, at)
     }
 
     /// Returns the number of entries.
