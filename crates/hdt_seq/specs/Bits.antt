@@ -1,24 +1,17 @@
 -- Bitmaps (rdfhdt.org, "HDT binary format", Bitmap): the type byte 1, the number of bits, which is not 0, and the bits,
--- eight a byte. Padding bits may be anything.
-use Rattle.std.specs.Prelude.{◌≡◌, ◌<◌, ◌==◌, ℕ, ◌+◌, ◌^◌, List, ◌∷◌, Bool, length, nat_lt, Result, Ok}
+-- eight a byte.
+use Rattle.std.specs.Prelude.{◌<◌, ◌==◌, ℕ, ◌+◌, List, [], ◌∷◌, Bool, length, nat_lt, Result, Ok}
 use Rattle.hdt_wire.specs.declared.fault.Fault.{Fault}
 use Rattle.hdt_wire.specs.declared.fault.Reason.TheVariants.{BitsKind, NoTriples}
 use Rattle.hdt_wire.specs.Checks.{◌>>=◌, demand}
-use Rattle.hdt_wire.specs.VByte.{VByte, vbyte, vbyte_at}
+use Rattle.hdt_wire.specs.VByte.{vbyte, vbyte_at}
 use Rattle.hdt_seq.specs.declared.bits.Bits.{Bits}
-use Rattle.hdt_seq.specs.PackedBits.{bytes_for, bits, packed_bits}
-use Rattle.hdt_seq.specs.Sequence.{SequenceShape, Sequence, with_crcs, byte_at, crc8_at, packed_at}
+use Rattle.hdt_seq.specs.PackedBits.{bits, packed_bits}
+use Rattle.hdt_seq.specs.Sequence.{SequenceShape, Sequence, EncodesSequence, with_crcs, byte_at, crc8_at, packed_at}
 
--- the text encodes the bits: it has some packed bytes whose first bits are these
-pub record EncodesBits (text : List ℕ) (xs : List Bool) : Type 0 where
-  pub count : List ℕ
-  pub packed : List ℕ
-  pub some : 0 < length xs
-  pub counted : length xs < 2 ^ 64
-  pub counts : VByte count (length xs)
-  pub size : length packed ≡ bytes_for (length xs)
-  pub holds : bits packed (length xs) ≡ xs
-  pub whole : text ≡ with_crcs (1 ∷ count) packed
+-- the text encodes the bits, of which there is at least one
+abbrev pub EncodesBits : List ℕ → List Bool → Type 0
+EncodesBits text xs = (0 < length xs) × EncodesSequence bits 1 (1 ∷ []) text xs
 
 -- the bits of a bitmap
 unfoldable pub bits_of : Bits → List Bool

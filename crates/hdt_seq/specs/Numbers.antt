@@ -1,26 +1,19 @@
 -- Log sequences (rdfhdt.org, "HDT binary format", Log sequence): the type byte 1, a width of 0 to 64 bits, the number
--- of entries, and the entries packed in that width. Padding bits may be anything.
-use Rattle.std.specs.Prelude.{◌≡◌, ◌≤◌, ◌<◌, ◌==◌, ℕ, ◌+◌, ◌*◌, ◌^◌, List, ◌∷◌, length, nat_le, Result, Ok}
+-- of entries, and the entries packed in that width.
+use Rattle.std.specs.Prelude.{◌≤◌, ◌==◌, ℕ, ◌+◌, ◌*◌, List, [], ◌∷◌, length, nat_le, Result, Ok}
 use Rattle.hdt_wire.specs.declared.fault.Fault.{Fault}
 use Rattle.hdt_wire.specs.declared.fault.Reason.TheVariants.{SequenceKind, Width}
 use Rattle.hdt_wire.specs.Checks.{◌>>=◌, demand}
-use Rattle.hdt_wire.specs.VByte.{VByte, vbyte, vbyte_at}
+use Rattle.hdt_wire.specs.VByte.{vbyte, vbyte_at}
 use Rattle.hdt_seq.specs.declared.numbers.Numbers.{Numbers}
-use Rattle.hdt_seq.specs.PackedBits.{bytes_for, entries, packed}
+use Rattle.hdt_seq.specs.PackedBits.{entries, packed}
 use Rattle.hdt_seq.specs.Width.{width_of}
-use Rattle.hdt_seq.specs.Sequence.{SequenceShape, Sequence, with_crcs, byte_at, crc8_at, packed_at}
+use Rattle.hdt_seq.specs.Sequence.{SequenceShape, Sequence, EncodesSequence, with_crcs, byte_at, crc8_at, packed_at}
 
--- the text encodes the numbers: it has some width and some packed bytes whose first entries are these
-pub record EncodesNumbers (text : List ℕ) (xs : List ℕ) : Type 0 where
-  pub width : ℕ
-  pub count : List ℕ
-  pub packed : List ℕ
-  pub narrow : width ≤ 64
-  pub counted : length xs < 2 ^ 64
-  pub counts : VByte count (length xs)
-  pub size : length packed ≡ bytes_for (width * length xs)
-  pub holds : entries packed width (length xs) ≡ xs
-  pub whole : text ≡ with_crcs (1 ∷ width ∷ count) packed
+-- the text encodes the numbers, in some width
+abbrev pub EncodesNumbers : List ℕ → List ℕ → Type 0
+EncodesNumbers text xs = (width : ℕ) × (width ≤ 64)
+    × EncodesSequence (λ bytes n. entries bytes width n) width (1 ∷ width ∷ []) text xs
 
 -- the entries of a log sequence
 unfoldable pub numbers_of : Numbers → List ℕ

@@ -1,16 +1,28 @@
 -- What log sequences and bitmaps share (rdfhdt.org, "HDT binary format", Log sequence, Bitmap): a preamble of a type
 -- byte and numbers, its CRC-8, packed bytes, and their CRC-32C.
-use Rattle.std.specs.Prelude.{ℕ, ◌+◌, ◌*◌, ◌/◌, ◌==◌, List, ◌∷◌, ◌++◌, slice_index, slice_range, Result, Ok}
+use Rattle.std.specs.Prelude.{◌≡◌, ◌<◌, ℕ, ◌+◌, ◌*◌, ◌/◌, ◌^◌, ◌==◌, List, ◌∷◌, ◌++◌, length, slice_index, slice_range}
+use Rattle.std.specs.Prelude.{Result, Ok}
 use Rattle.byteorder.specs.Endian.{little_number, little_bytes}
 use Rattle.hdt_wire.specs.declared.fault.Fault.{Fault}
 use Rattle.hdt_wire.specs.declared.fault.Reason.TheVariants.{Check8, Check32}
 use Rattle.hdt_wire.specs.Crc.{crc8, crc32}
 use Rattle.hdt_wire.specs.Checks.{◌>>=◌, demand, bytes_at}
+use Rattle.hdt_wire.specs.VByte.{vbyte}
 use Rattle.hdt_seq.specs.PackedBits.{bytes_for}
 
 -- the bytes of a sequence: its preamble with its CRC-8, and its packed bytes with their CRC-32C, little-endian
 abbrev pub with_crcs : List ℕ → List ℕ → List ℕ
 with_crcs preamble packed = preamble ++ crc8 preamble ∷ (packed ++ little_bytes 4 (crc32 packed))
+
+-- The text encodes the entries: `start`, which is what is before their number, that number, and some packed bytes, of
+-- which `unpack` makes these entries. Padding bits may be anything.
+pub record EncodesSequence {X : Type 0} (unpack : List ℕ → ℕ → List X) (width : ℕ) (start text : List ℕ)
+    (xs : List X) : Type 0 where
+  pub packed : List ℕ
+  pub counted : length xs < 2 ^ 64
+  pub size : length packed ≡ bytes_for (width * length xs)
+  pub holds : unpack packed (length xs) ≡ xs
+  pub whole : text ≡ with_crcs (start ++ vbyte (length xs)) packed
 
 -- the byte offsets of the number of entries and of the packed bytes in the input, and the width of an entry in bits
 pub record SequenceShape : Type 0 where

@@ -9,7 +9,7 @@ use Rattle.hdt_wire.specs.Checks.{IsBytes, HasSlice, EncodedAt}
 use Rattle.hdt_wire.specs.Laws.Checks.{demand_ok, bind_ok, HasSlice-then, HasSlice-front, HasSlice-back, HasSlice-after}
 use Rattle.hdt_wire.specs.VByte.{VByte, vbyte, vbyte_at}
 use Rattle.hdt_wire.specs.Laws.VByte.{vbyte_found, vbyte_only, vbyte_bounded, vbyte_unique, vbyte_encodes}
-use Rattle.hdt_seq.specs.PackedBits.{bits, packed_bits}
+use Rattle.hdt_seq.specs.PackedBits.{bytes_for, bits, packed_bits}
 use Rattle.hdt_seq.specs.Laws.LittleEndian.{length-bits}
 use Rattle.hdt_seq.specs.Laws.Packing.{length-packed_bits, IsBytes-packed_bits, bits_packed}
 use Rattle.hdt_seq.specs.Sequence.{Sequence, with_crcs, byte_at, crc8_at, packed_at}
@@ -51,19 +51,19 @@ together bytes at kind count start packed fits one some e1 e3 e4 e5 =
     let s4 = crc8_found bytes at (1 ∷ text) count.1 start head e4 in
     let f = with_crcs_found n bytes at (1 ∷ text) count.1 start packed fits head e4 e5 in
     let size = length-bits packed.0 n in
-    let is : EncodesBits (with_crcs (1 ∷ text) packed.0) (bits packed.0 n) = record {
-      count = text;
-      packed = packed.0;
-      some = rw size some;
-      counted = rw size b.value;
-      counts = rw size v.spelled;
-      size = rw size f.1;
-      holds = rw size refl;
-      whole = refl;
-    } in
+    let number : text ≡ vbyte n = vbyte_unique text n b.value v.spelled in
+    let is : EncodesBits (with_crcs (1 ∷ text) packed.0) (bits packed.0 n) = (
+      rw size some,
+      record {
+        packed = packed.0;
+        counted = rw size b.value;
+        size = omega (arith, size, f.1);
+        holds = rw size refl;
+        whole = ap (λ (t : List ℕ). with_crcs (1 ∷ t) packed.0) (number ∙ ap vbyte (sym size));
+      },
+    ) in
     let p1 : kind.1 ≡ at + 1 = s1.end_is in
-    let p3 : start ≡ at + 2 + length (vbyte n) =
-    omega (arith, p1, s3.end_is, s4.end_is, ap length (vbyte_unique text n b.value v.spelled)) in
+    let p3 : start ≡ at + 2 + length (vbyte n) = omega (arith, p1, s3.end_is, s4.end_is, ap length number) in
     record {
       spelled = encoded_if_has_slice EncodesBits bytes at _ _ packed.1 f.0 is;
       has_offsets = rw (size, p1, p3) refl;
@@ -83,21 +83,23 @@ bits_found bytes at s fits e =
 
 -- what is encoded there is returned
 encoding_read : (bytes : List ℕ) (at : ℕ) (text : List ℕ) (xs : List Bool) (end : ℕ) (s : EncodesBits text xs)
-    → IsBytes s.packed → HasSlice bytes at text end
+    → IsBytes s.1.packed → HasSlice bytes at text end
     → bits_at bytes at ≡ Ok (record { items = xs; offsets = expected_bits_offsets at (length xs); end = end })
 unfolding bits_at
 encoding_read bytes at text xs end s fits h =
-    let head : List ℕ = 1 ∷ s.count in
-    let slice = subst (λ (t : List ℕ). HasSlice bytes at t end) s.whole h in
-    let f = with_crcs_only (length xs) bytes at head s.packed end fits s.size slice in
-    let r1 = byte_only bytes at 1 (at + 1) (HasSlice-front bytes at (1 ∷ []) s.count _ f.head_is) in
-    let t1 = HasSlice-back bytes at (1 ∷ []) s.count _ f.head_is in
-    let r3 = vbyte_only bytes (at + 1) (length xs) (at + length head) s.counted
-    (encoded_if_has_slice VByte bytes (at + 1) s.count (length xs) _ t1 s.counts) in
-    let p3 : at + length head + 1 ≡ at + 2 + length (vbyte (length xs)) =
-    omega (arith, ap length (vbyte_unique s.count (length xs) s.counted s.counts)) in
-    let some : ltb 0 (length xs) ≡ true = lt-ltb 0 (length xs) s.some in
-    rw (r1, r3, f.code_is, some, f.packed_is, s.holds, p3) refl
+    let e = s.1 in
+    let count : List ℕ = vbyte (length xs) in
+    let head : List ℕ = 1 ∷ count in
+    let slice = subst (λ (t : List ℕ). HasSlice bytes at t end) e.whole h in
+    let size : length e.packed ≡ bytes_for (length xs) = omega (arith, e.size) in
+    let f = with_crcs_only (length xs) bytes at head e.packed end fits size slice in
+    let r1 = byte_only bytes at 1 (at + 1) (HasSlice-front bytes at (1 ∷ []) count _ f.head_is) in
+    let t1 = HasSlice-back bytes at (1 ∷ []) count _ f.head_is in
+    let r3 = vbyte_only bytes (at + 1) (length xs) (at + length head) e.counted
+    (encoded_if_has_slice VByte bytes (at + 1) count (length xs) _ t1 (vbyte_encodes (length xs) e.counted)) in
+    let p3 : at + length head + 1 ≡ at + 2 + length (vbyte (length xs)) = omega arith in
+    let some : ltb 0 (length xs) ≡ true = lt-ltb 0 (length xs) s.0 in
+    rw (r1, r3, f.code_is, some, f.packed_is, e.holds, p3) refl
 
 pub bits_only : (bytes : List ℕ) (at : ℕ) (xs : List Bool) (end : ℕ) → IsBytes bytes
     → EncodedAt EncodesBits bytes at xs end
@@ -105,24 +107,24 @@ pub bits_only : (bytes : List ℕ) (at : ℕ) (xs : List Bool) (end : ℕ) → I
 bits_only bytes at xs end fits h =
     let s = h.spelled in
     let here = has_slice_if_encoded EncodesBits bytes at xs end h in
-    let whole = subst (λ (t : List ℕ). HasSlice bytes at t end) s.whole here in
-    encoding_read bytes at _ xs end s (packed_bytes bytes at (1 ∷ s.count) s.packed end fits whole) here
+    let whole = subst (λ (t : List ℕ). HasSlice bytes at t end) s.1.whole here in
+    encoding_read bytes at _ xs end s (packed_bytes bytes at (1 ∷ vbyte (length xs)) s.1.packed end fits whole) here
 
 -- ---- what was written
 
 -- the canonical encoding encodes the bits
 pub bits_encodes : (xs : List Bool) → 0 < length xs → length xs < 2 ^ 64 → EncodesBits (bits_encoding xs) xs
 unfolding bits_encoding
-bits_encodes xs some lt = record {
-  count = vbyte (length xs);
-  packed = packed_bits xs;
-  some = some;
-  counted = lt;
-  counts = vbyte_encodes (length xs) lt;
-  size = length-packed_bits xs;
-  holds = bits_packed xs;
-  whole = refl;
-}
+bits_encodes xs some lt = (
+  some,
+  record {
+    packed = packed_bits xs;
+    counted = lt;
+    size = omega (arith, length-packed_bits xs);
+    holds = bits_packed xs;
+    whole = refl;
+  },
+)
 
 -- it is read back, whatever precedes and follows it
 pub bits_again : (before after : List ℕ) (xs : List Bool) → 0 < length xs → length xs < 2 ^ 64

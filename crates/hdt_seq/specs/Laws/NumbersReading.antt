@@ -57,21 +57,21 @@ together bytes at kind width count start packed fits one narrow e1 e2 e3 e4 e5 =
     let s4 = crc8_found bytes at (1 ∷ w ∷ text) count.1 start head e4 in
     let f = with_crcs_found (w * n) bytes at (1 ∷ w ∷ text) count.1 start packed fits head e4 e5 in
     let size = length-entries packed.0 w n in
-    let is : EncodesNumbers (with_crcs (1 ∷ w ∷ text) packed.0) (entries packed.0 w n) = record {
-      width = w;
-      count = text;
-      packed = packed.0;
-      narrow = narrow;
-      counted = rw size b.value;
-      counts = rw size v.spelled;
-      size = rw size f.1;
-      holds = rw size refl;
-      whole = refl;
-    } in
+    let number : text ≡ vbyte n = vbyte_unique text n b.value v.spelled in
+    let is : EncodesNumbers (with_crcs (1 ∷ w ∷ text) packed.0) (entries packed.0 w n) = (
+      w,
+      narrow,
+      record {
+        packed = packed.0;
+        counted = rw size b.value;
+        size = rw size f.1;
+        holds = rw size refl;
+        whole = ap (λ (t : List ℕ). with_crcs (1 ∷ w ∷ t) packed.0) (number ∙ ap vbyte (sym size));
+      },
+    ) in
     let p1 : kind.1 ≡ at + 1 = s1.end_is in
     let p2 : width.1 ≡ at + 2 = omega (arith, p1, s2.end_is) in
-    let p3 : start ≡ at + 3 + length (vbyte n) =
-    omega (arith, p2, s3.end_is, s4.end_is, ap length (vbyte_unique text n b.value v.spelled)) in
+    let p3 : start ≡ at + 3 + length (vbyte n) = omega (arith, p2, s3.end_is, s4.end_is, ap length number) in
     let wide : w ≡ get_or bytes (at + 1) 0 = sym (byte_is bytes kind.1 w width.1 s2)
     ∙ ap (λ (i : ℕ). get_or bytes i 0) p1 in
     record {
@@ -94,61 +94,63 @@ numbers_found bytes at s fits e =
     subst (NumbersFound bytes at) (same_sequence _ _ e) made)))))))
 
 -- what is encoded there is returned
-encoding_read : (bytes : List ℕ) (at : ℕ) (text xs : List ℕ) (end : ℕ) (s : EncodesNumbers text xs) → IsBytes s.packed
+encoding_read : (bytes : List ℕ) (at : ℕ) (text xs : List ℕ) (end : ℕ) (s : EncodesNumbers text xs) → IsBytes s.2.packed
     → HasSlice bytes at text end
     → numbers_at bytes at ≡ Ok (record {
       items = xs;
-      offsets = expected_numbers_offsets at s.width (length xs);
+      offsets = expected_numbers_offsets at s.0 (length xs);
       end =
           end;
     })
 unfolding numbers_at
 encoding_read bytes at text xs end s fits h =
-    let head : List ℕ = 1 ∷ s.width ∷ s.count in
-    let slice = subst (λ (t : List ℕ). HasSlice bytes at t end) s.whole h in
-    let f = with_crcs_only (s.width * length xs) bytes at head s.packed end fits s.size slice in
-    let r1 = byte_only bytes at 1 (at + 1) (HasSlice-front bytes at (1 ∷ []) (s.width ∷ s.count) _ f.head_is) in
-    let t1 = HasSlice-back bytes at (1 ∷ []) (s.width ∷ s.count) _ f.head_is in
-    let r2 = byte_only bytes (at + 1) s.width (at + 1 + 1)
-    (HasSlice-front bytes (at + 1) (s.width ∷ []) s.count _ t1) in
-    let t2 = HasSlice-back bytes (at + 1) (s.width ∷ []) s.count _ t1 in
-    let r3 = vbyte_only bytes (at + 1 + 1) (length xs) (at + length head) s.counted
-    (encoded_if_has_slice VByte bytes (at + 1 + 1) s.count (length xs) _ t2 s.counts) in
+    let e = s.2 in
+    let count : List ℕ = vbyte (length xs) in
+    let head : List ℕ = 1 ∷ s.0 ∷ count in
+    let slice = subst (λ (t : List ℕ). HasSlice bytes at t end) e.whole h in
+    let f = with_crcs_only (s.0 * length xs) bytes at head e.packed end fits e.size slice in
+    let r1 = byte_only bytes at 1 (at + 1) (HasSlice-front bytes at (1 ∷ []) (s.0 ∷ count) _ f.head_is) in
+    let t1 = HasSlice-back bytes at (1 ∷ []) (s.0 ∷ count) _ f.head_is in
+    let r2 = byte_only bytes (at + 1) s.0 (at + 1 + 1) (HasSlice-front bytes (at + 1) (s.0 ∷ []) count _ t1) in
+    let t2 = HasSlice-back bytes (at + 1) (s.0 ∷ []) count _ t1 in
+    let r3 = vbyte_only bytes (at + 1 + 1) (length xs) (at + length head) e.counted
+    (encoded_if_has_slice VByte bytes (at + 1 + 1) count (length xs) _ t2 (vbyte_encodes (length xs) e.counted)) in
     let p2 : at + 1 + 1 ≡ at + 2 = omega arith in
-    let p3 : at + length head + 1 ≡ at + 3 + length (vbyte (length xs)) =
-    omega (arith, ap length (vbyte_unique s.count (length xs) s.counted s.counts)) in
-    let narrow : leb s.width 64 ≡ true = le-leb s.width 64 s.narrow in
-    rw (r1, r2, narrow, r3, f.code_is, f.packed_is, s.holds, p2, p3) refl
+    let p3 : at + length head + 1 ≡ at + 3 + length (vbyte (length xs)) = omega arith in
+    let narrow : leb s.0 64 ≡ true = le-leb s.0 64 s.1 in
+    let holds : entries e.packed s.0 (length xs) ≡ xs = e.holds in
+    rw (r1, r2, narrow, r3, f.code_is, f.packed_is, holds, p2, p3) refl
 
 pub numbers_only : (bytes : List ℕ) (at : ℕ) (xs : List ℕ) (end : ℕ) → IsBytes bytes
     → (h : EncodedAt EncodesNumbers bytes at xs end)
     → numbers_at bytes at ≡ Ok (record {
       items = xs;
-      offsets = expected_numbers_offsets at h.spelled.width (length xs);
+      offsets = expected_numbers_offsets at h.spelled.0 (length xs);
       end = end;
     })
 numbers_only bytes at xs end fits h =
     let s = h.spelled in
     let here = has_slice_if_encoded EncodesNumbers bytes at xs end h in
-    let whole = subst (λ (t : List ℕ). HasSlice bytes at t end) s.whole here in
-    encoding_read bytes at _ xs end s (packed_bytes bytes at (1 ∷ s.width ∷ s.count) s.packed end fits whole) here
+    let whole = subst (λ (t : List ℕ). HasSlice bytes at t end) s.2.whole here in
+    encoding_read bytes at _ xs end s
+    (packed_bytes bytes at (1 ∷ s.0 ∷ vbyte (length xs)) s.2.packed end fits whole) here
 
 -- ---- what was written
 
 -- the canonical encoding encodes the numbers
 pub numbers_encodes : (xs : List ℕ) → length xs < 2 ^ 64 → EachFits 64 xs → EncodesNumbers (numbers_encoding xs) xs
 unfolding numbers_encoding
-numbers_encodes xs lt fits = record {
-  width = width_of xs;
-  count = vbyte (length xs);
-  packed = packed (width_of xs) xs;
-  narrow = width_narrow xs fits;
-  counted = lt;
-  counts = vbyte_encodes (length xs) lt;
-  size = length-packed (width_of xs) xs;
-  holds = entries_packed (width_of xs) xs (width_fits xs);
-  whole = refl;
-}
+numbers_encodes xs lt fits = (
+  width_of xs,
+  width_narrow xs fits,
+  record {
+    packed = packed (width_of xs) xs;
+    counted = lt;
+    size = length-packed (width_of xs) xs;
+    holds = entries_packed (width_of xs) xs (width_fits xs);
+    whole = refl;
+  },
+)
 
 -- it is read back, whatever precedes and follows it
 pub numbers_again : (before after xs : List ℕ) → length xs < 2 ^ 64 → EachFits 64 xs
