@@ -233,8 +233,8 @@ own_form_rewritten b bytes g size h own = record {
 few_triples : (bytes : List ℕ) (g : GraphParts) → IsLayout bytes g → length g.triples < 2 ^ 64
 few_triples bytes g h =
     let f = bitmap_triples h.file.triples in
-    let same : triples_of f ≡ g.triples = ap (λ (k : GraphParts). k.triples) h.of in
-    let many = h.is.triples.array_z.spelled.spelled.counted in
+    let same : triples_of f ≡ g.triples = ap (λ (k : GraphParts). k.triples) h.denotes in
+    let many = h.encoded.triples.array_z.spelled.spelled.counted in
     omega (arith, many, length-triples f, ap (λ (ts : List Triple). length ts) same)
 
 -- a canonical file has the triples of the graph, each once
@@ -332,10 +332,11 @@ head_is a b e = cc
 pub header_is : (bytes header : List ℕ) (head : HeadParts) (g : GraphParts) → IsLayout bytes g → header ≡ head.body
     → ((h : HeadParts) → IsHead h bytes → (let r : Result HeadParts Fault = Ok h in r) ≡ Ok head) → header ≡ g.header
 header_is bytes header head g layout is only =
-    is ∙ ap (λ (h : HeadParts). h.body) (sym (head_is layout.file.head head (only layout.file.head layout.is.head)))
-    ∙ ap (λ (o : GraphParts). o.header) layout.of
+    let file = layout.file in
+    is ∙ ap (λ (h : HeadParts). h.body) (sym (head_is file.head head (only file.head layout.encoded.head)))
+    ∙ ap (λ (o : GraphParts). o.header) layout.denotes
 
 -- a file has a head
 pub some_head : (bytes : List ℕ) (g : GraphParts) (fault : Fault) → IsLayout bytes g
     → ((h : HeadParts) → IsHead h bytes → (let r : Result HeadParts Fault = Ok h in r) ≡ Err fault) → ⊥
-some_head bytes g fault layout none = let e = none layout.file.head layout.is.head in absurd cc
+some_head bytes g fault layout none = let e = none layout.file.head layout.encoded.head in absurd cc

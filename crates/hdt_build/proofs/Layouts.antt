@@ -134,7 +134,7 @@ module _ (header : List ℕ) (graph : List StringTriple) (b : ℕ) (d : SectionL
             format = refl;
             properties_at = refl;
           };
-          length = states_length (length header) short;
+          stated = states_length (length header) short;
           body = body;
         };
         dictionary = dictionary_encoded b d bytes at (at + length D) from low sections small dict;
@@ -159,9 +159,9 @@ module _ (header : List ℕ) (graph : List StringTriple) (b : ℕ) (d : SectionL
       → IsLayout (canonical_file header b d ts) (graph_parts_of header d ts)
   layout sections from low small many = record {
     file = file_of header b d ts;
-    is = file_stands (canonical_file header b d ts) (0 + length (canonical_file header b d ts)) sections from low small
-        many (omega arith) (all_of (canonical_file header b d ts));
-    of = file_graph;
+    encoded = file_stands (canonical_file header b d ts) (0 + length (canonical_file header b d ts)) sections from low
+        small many (omega arith) (all_of (canonical_file header b d ts));
+    denotes = file_graph;
   }
 
 module _ (header : List ℕ) (graph : List StringTriple) (b : ℕ) (bytes : List ℕ)

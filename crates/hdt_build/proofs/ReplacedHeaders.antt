@@ -104,7 +104,7 @@ module _ (body bytes : List ℕ) (file : FileParts) (is : IsFile file bytes) (sm
       format = refl;
       properties_at = refl;
     };
-    length = new_length (length body) (length file.head.body) file.head.header.properties small is.head.length;
+    stated = new_length (length body) (length file.head.body) file.head.header.properties small is.head.stated;
     body = h.body_is;
   }
 
@@ -128,14 +128,14 @@ module _ (body bytes : List ℕ) (file : FileParts) (is : IsFile file bytes) (sm
   pub new_layout : IsLayout (with_new_header file.head body bytes) (graph_with_header (graph_of_file file) body)
   new_layout = record {
     file = new_file;
-    is = file_stands (with_new_header file.head body bytes) parts;
-    of = refl;
+    encoded = file_stands (with_new_header file.head body bytes) parts;
+    denotes = refl;
   }
 
 -- A file with a new header is a file of the graph with this header.
 pub replaced_layout : (body bytes made : List ℕ) (graph : GraphParts) → length body < 2 ^ 64
     → ReplacesHeader body bytes graph made → IsLayout made (graph_with_header graph body)
 replaced_layout body bytes made graph small h =
-    subst (λ (g : GraphParts). IsLayout made (graph_with_header g body)) h.of
-    (subst (λ (l : List ℕ). IsLayout l (graph_with_header (graph_of_file h.file) body)) (sym h.made_is)
-    (new_layout body bytes h.file h.is small))
+    subst (λ (g : GraphParts). IsLayout made (graph_with_header g body)) h.layout.denotes
+    (subst (λ (l : List ℕ). IsLayout l (graph_with_header (graph_of_file h.layout.file) body)) (sym h.made_is)
+    (new_layout body bytes h.layout.file h.layout.encoded small))

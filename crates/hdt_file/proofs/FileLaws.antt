@@ -57,8 +57,8 @@ layout_exact bytes fits small =
     let file = file_exact bytes fits small in
     record {
       found = λ g e. bind_ok (decode_file bytes) _ _ e
-          (λ x e1 e. record { file = x; is = file.found x e1; of = ok_is (graph_of_file x) g e });
-      only = λ g h. rw (file.only h.file h.is) (ap (λ (y : GraphParts). Ok y) h.of);
+          (λ x e1 e. record { file = x; encoded = file.found x e1; denotes = ok_is (graph_of_file x) g e });
+      only = λ g h. rw (file.only h.file h.encoded) (ap (λ (y : GraphParts). Ok y) h.denotes);
     }
 
 -- bytes encode at most one file
@@ -114,4 +114,4 @@ file_graph bytes file h =
     }
 
 pub layout_graph : (bytes : List ℕ) (g : GraphParts) → IsLayout bytes g → IsGraph g
-layout_graph bytes g h = subst IsGraph h.of (file_graph bytes h.file h.is)
+layout_graph bytes g h = subst IsGraph h.denotes (file_graph bytes h.file h.encoded)

@@ -99,8 +99,8 @@ info_exact bytes fits small = record {
       bind_ok (decode_parts bytes) _ info e (λ parts e1 _.
       bind_ok (decode_file bytes) _ parts e1 (λ file e2 _.
       let is = (file_exact bytes fits small).found file e2 in
-      record { file = file; is = is; info_is = ok_is info _ (sym e ∙ file_info_is file bytes fits small is) }));
-  only = λ info h. file_info_is h.file bytes fits small h.is ∙ ap (λ (x : FileInfo). done x) (sym h.info_is);
+      record { file = file; encoded = is; info_is = ok_is info _ (sym e ∙ file_info_is file bytes fits small is) }));
+  only = λ info h. file_info_is h.file bytes fits small h.encoded ∙ ap (λ (x : FileInfo). done x) (sym h.info_is);
 }
 
 no_fault : (bytes : List ℕ) → IsBytes bytes → length bytes < 2 ^ 64 → (fault : Fault) (r : Result FileParts Fault)

@@ -163,10 +163,10 @@ pub verdict_is : (bytes : List ℕ) (l : Layout) (verdict : TermVerdict) → IsB
     → AreNonTerms (parts_dictionary (parts_of_layout l)) verdict.non_terms.items → IsTermVerdict bytes verdict
 verdict_is bytes l verdict fits small found parts are h = record {
   file = found.file;
-  is = found.is;
-  counts = are ∙ ap graph_counts (sym found.of);
+  encoded = found.encoded;
+  counts = are ∙ ap graph_counts (sym found.denotes);
   non_terms = subst (λ (d : DictionaryParts). AreNonTerms d verdict.non_terms.items)
-      (same_dictionary bytes found.file (parts_of_layout l) fits small found.is parts) h;
+      (same_dictionary bytes found.file (parts_of_layout l) fits small found.encoded parts) h;
 }
 
 pub is_none : (role : Role) (x y : List ℕ) (b : Bool) → b ≡ false → y ≡ x → IsTermFlag role y b → HasNoTerm role x

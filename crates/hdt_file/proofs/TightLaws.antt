@@ -132,17 +132,17 @@ tight_exact bytes fits small =
           bind_ok (check_strings_used file.dictionary (triples_of (bitmap_triples file.triples))) _ _ e (λ u e2 e.
           let same = ok_is (graph_of_file file) g e in
           record {
-            layout = record { file = file; is = exact.found file e1; of = same };
+            layout = record { file = file; encoded = exact.found file e1; denotes = same };
             tight = subst IsTight same
                 ((strings_exact file.dictionary (triples_of (bitmap_triples file.triples))).found u e2);
           }));
       only = λ g h.
           let file = h.layout.file in
           rw (
-            exact.only file h.layout.is,
+            exact.only file h.layout.encoded,
             all_only file.dictionary (triples_of (bitmap_triples file.triples))
-                (subst IsTight (sym h.layout.of) h.tight),
-          ) (ap (λ (y : GraphParts). Ok y) h.layout.of);
+                (subst IsTight (sym h.layout.denotes) h.tight),
+          ) (ap (λ (y : GraphParts). Ok y) h.layout.denotes);
     }
 
 pub tight_or_fault : (bytes : List ℕ) → IsBytes bytes → length bytes < 2 ^ 64

@@ -19,7 +19,7 @@ pub record FileParts : Type 0 where
   pub dictionary : DictionaryParts
   pub triples : TripleParts
 
--- the number of strings of each role
+-- the number of strings of each role, given the sections
 abbrev pub role_counts : SectionLists → Counts
 role_counts d = record {
   subjects = length (role_strings d Subject);
@@ -27,7 +27,7 @@ role_counts d = record {
   objects = length (role_strings d Object);
 }
 
--- the number of strings of each role: the IDs of a role are 1 to this number
+-- those of a decoded dictionary: the IDs of a role are 1 to its number
 abbrev pub dictionary_counts : DictionaryParts → Counts
 dictionary_counts d = role_counts (lists_of_dictionary d)
 
@@ -66,8 +66,8 @@ graph_of_file file = record {
 -- the bytes are a valid encoding of the graph
 pub record IsLayout (bytes : List ℕ) (graph : GraphParts) : Type 0 where
   pub file : FileParts
-  pub is : IsFile file bytes
-  pub of : graph_of_file file ≡ graph
+  pub encoded : IsFile file bytes
+  pub denotes : graph_of_file file ≡ graph
 
 -- decodes a file and returns its graph, or the first error: the first check that fails
 unfoldable pub decode_graph : List ℕ → Result GraphParts Fault

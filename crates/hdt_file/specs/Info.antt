@@ -49,8 +49,8 @@ file_info bytes p at = record {
 -- the bytes encode a file whose parts have these sizes
 pub record IsFileInfo (info : FileInfo) (bytes : List ℕ) : Type 0 where
   pub file : FileParts
-  pub is : IsFile file bytes
-  pub info_is : info ≡ file_info (length bytes) (parts_of_file file) is.dictionary.control.end
+  pub encoded : IsFile file bytes
+  pub info_is : info ≡ file_info (length bytes) (parts_of_file file) encoded.dictionary.control.end
 
 -- the sizes of the parts of the file, or its first error
 unfoldable pub decode_info : List ℕ → Result FileInfo Fault

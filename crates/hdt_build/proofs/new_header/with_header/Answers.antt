@@ -37,13 +37,11 @@ replaces : (body bytes made : List ℕ) (graph : GraphParts) (head : HeadParts)
     → ((h : HeadParts) → IsHead h bytes → done h ≡ done head) → ((triples : List Triple) × Document body triples)
     → made ≡ with_new_header head body bytes → IsLayout bytes graph → ReplacesHeader body bytes graph made
 replaces body bytes made graph head one document is h = record {
-  file = h.file;
-  is = h.is;
-  of = h.of;
+  layout = h;
   triples = document.0;
   document = document.1;
   made_is = is ∙ ap (λ (x : HeadParts). with_new_header x body bytes)
-      (sym (one_value h.file.head head (one h.file.head h.is.head)));
+      (sym (one_value h.file.head head (one h.file.head h.encoded.head)));
 }
 
 pub returns-in_err-head-clause-fault : goal.returns-in_err-head-clause-fault
