@@ -6,13 +6,18 @@ use Rattle.hdt_wire.specs.declared.control.Kind.TheVariants as kinds
 use Rattle.hdt_wire.specs.Checks.{HasSlice}
 use Rattle.hdt_wire.specs.Control.{control, expected_control_info}
 use Rattle.hdt_wire.specs.Laws.Checks.{HasSlice-after, HasSlice-back, HasSlice-front}
-use Rattle.hdt_dict.specs.Dictionary.{IsDictionaryAt}
+use Rattle.hdt_dict.specs.Dictionary.{IsDictionaryAt, lists_of_dictionary}
+use Rattle.hdt_triples.specs.TripleSequences.{BitmapTriples}
 use Rattle.hdt_file.specs.Head.{HeadParts, IsHead}
-use Rattle.hdt_file.specs.File.{FileParts, GraphParts, IsFile, IsLayout, dictionary_counts, graph_of_file}
+use Rattle.hdt_file.specs.File.{FileParts, GraphParts, IsFile, IsLayout, graph_of_file, role_counts}
 use Rattle.hdt_build.specs.NewHeader.{ReplacesHeader, graph_with_header, new_control, with_length, with_new_header}
 use Rattle.hdt_build.proofs.HeaderProperties.{new_length, new_no_zero}
 use Rattle.hdt_build.proofs.MovedParts as moving
 use Rattle.hdt_build.proofs.MovedParts.{SameFrom, moved, moved_dictionary, moved_triples}
+
+-- what a file keeps of its triples
+abbrev Kept : Type 0
+Kept = BitmapTriples × (ℕ × ℕ) × ℕ
 
 whole : (text : List ℕ) → HasSlice text 0 text (0 + length text)
 whole text = subst (λ (l : List ℕ). HasSlice l 0 text (0 + length text)) (append-nil text) (HasSlice-after [] text [])
@@ -87,7 +92,8 @@ module _ (body bytes : List ℕ) (file : FileParts) (is : IsFile file bytes) (sm
   new_file = record {
     head = new_head;
     dictionary = moved_dictionary file.head.end end file.dictionary;
-    triples = moved_triples file.head.end end file.triples;
+    triples = file.triples;
+    widths = file.widths;
   }
 
   head_stands : (new : List ℕ) → Parts new → IsHead new_head new
@@ -114,15 +120,26 @@ module _ (body bytes : List ℕ) (file : FileParts) (is : IsFile file bytes) (sm
       let s = same new h in
       let start : moved k end k ≡ end = omega arith in
       let after = moving.after_dictionary bytes k new end s file.dictionary k is.dictionary in
-      let last = moving.after_triples bytes k new end s (dictionary_counts file.dictionary) file.triples
-      file.dictionary.objects.end is.triples in
+      let counts = role_counts (lists_of_dictionary file.dictionary) in
+      let section = is.section in
+      let last = moving.after_triples bytes k new end s counts section file.dictionary.objects.end is.triples in
+      let whole : moved k end section.array_z.end ≡ length new = omega (
+        arith,
+        ap (λ (v : Kept). v.2) is.view,
+        moving.lens bytes k new end s,
+        s.old_has,
+        s.new_has,
+        after,
+        last,
+      ) in
       record {
         head = head_stands new h;
         dictionary = subst (λ (a : ℕ). IsDictionaryAt (moved_dictionary k end file.dictionary) new a) start
             (moving.dictionary bytes k new end s file.dictionary k (omega arith) is.dictionary);
-        triples = moving.triples bytes k new end s (dictionary_counts file.dictionary) file.triples
-            file.dictionary.objects.end after is.triples;
-        end = omega (arith, is.end, moving.lens bytes k new end s, s.old_has, s.new_has, after, last);
+        section = moved_triples k end section;
+        triples = moving.triples bytes k new end s counts section file.dictionary.objects.end after is.triples;
+        view = ap (λ (v : Kept). (let w : Kept = (v.0, v.1, moved k end section.array_z.end) in w)) is.view
+            ∙ ap (λ (n : ℕ). (let w : Kept = (file.triples, file.widths, n) in w)) whole;
       }
 
   pub new_layout : IsLayout (with_new_header file.head body bytes) (graph_with_header (graph_of_file file) body)

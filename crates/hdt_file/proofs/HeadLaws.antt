@@ -14,9 +14,9 @@ use Rattle.hdt_wire.specs.Laws.ExactPrimitives.{control_exact}
 use Rattle.hdt_wire.specs.Property.{property_value}
 use Rattle.hdt_file.specs.Head.{IsDecimalOf, decimal_number, HeadParts, IsHead, StatesLength, body_length, decode_head}
 use Rattle.hdt_file.proofs.DecimalLaws.{decimal_found, decimal_only}
-use Rattle.hdt_dict.specs.Dictionary.{dictionary_at}
+use Rattle.hdt_dict.specs.Dictionary.{DictionaryParts, dictionary_at}
 use Rattle.hdt_dict.specs.Laws.Dictionary.{dictionary_exact}
-use Rattle.hdt_file.specs.Dictionary.{HeadAndDictionary, IsHeadAndDictionary, decode_head_and_dictionary}
+use Rattle.hdt_file.specs.Dictionary.{IsHeadAndDictionary, decode_head_and_dictionary}
 
 -- ---- the length of the body
 
@@ -78,12 +78,10 @@ front_exact bytes fits small = record {
   found = λ f e.
       bind_ok (decode_head bytes) _ _ e (λ head e1 e.
       bind_ok (dictionary_at bytes head.end) _ _ e (λ dictionary e2 e.
-      holds_of_ok (λ (f : HeadAndDictionary). IsHeadAndDictionary f bytes) _ _ e (record {
-        head = (head_exact bytes fits small).found head e1;
-        dictionary = (dictionary_exact bytes head.end fits).found dictionary e2;
-      })));
+      holds_of_ok (λ (f : HeadParts × DictionaryParts). IsHeadAndDictionary f bytes) _ _ e
+      ((head_exact bytes fits small).found head e1, (dictionary_exact bytes head.end fits).found dictionary e2)));
   only = λ f h.
-      let r1 = (head_exact bytes fits small).only f.head h.head in
-      let r2 = (dictionary_exact bytes f.head.end fits).only f.dictionary h.dictionary in
+      let r1 = (head_exact bytes fits small).only f.0 h.0 in
+      let r2 = (dictionary_exact bytes f.0.end fits).only f.1 h.1 in
       rw (r1, r2) refl;
 }

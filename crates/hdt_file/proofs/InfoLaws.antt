@@ -19,9 +19,8 @@ use Rattle.hdt_file.specs.declared.fault.OpenFault.{OpenFault}
 use Rattle.hdt_file.specs.declared.fault.OpenFault.TheVariants as opens
 use Rattle.hdt_file.specs.declared.info.FileInfo.{FileInfo}
 use Rattle.hdt_file.specs.File.{FileParts, IsFile, decode_file, decode_graph}
-use Rattle.hdt_file.specs.Graph.{decode_parts, parts_of_file}
 use Rattle.hdt_file.specs.Info.{IsFileInfo, decode_info, file_info, total_len}
-use Rattle.hdt_file.proofs.FileLaws.{file_exact, file_parts}
+use Rattle.hdt_file.proofs.FileLaws.{file_exact}
 
 -- ---- the lengths of the strings of a section
 
@@ -82,10 +81,10 @@ all_summed s w total i le h = omega (arith, h.all, none_left w.ahead (omega (ari
 -- ---- the file
 
 file_info_is : (file : FileParts) (bytes : List ℕ) → IsBytes bytes → length bytes < 2 ^ 64 → (is : IsFile file bytes)
-    → decode_info bytes ≡ Ok (file_info (length bytes) (parts_of_file file) is.dictionary.control.end)
+    → decode_info bytes ≡ Ok (file_info (length bytes) file is.dictionary.control.end)
 unfolding decode_info
 file_info_is file bytes fits small is =
-    let parts = file_parts bytes file fits small is in
+    let parts = (file_exact bytes fits small).only file is in
     let control = (control_exact kinds.Dictionary bytes file.head.end fits).only is.dictionary.control
     is.dictionary.block in
     rw (parts, control) refl
@@ -96,10 +95,9 @@ pub info_exact : (bytes : List ℕ) → IsBytes bytes → length bytes < 2 ^ 64
 unfolding decode_info
 info_exact bytes fits small = record {
   found = λ info e.
-      bind_ok (decode_parts bytes) _ info e (λ parts e1 _.
-      bind_ok (decode_file bytes) _ parts e1 (λ file e2 _.
-      let is = (file_exact bytes fits small).found file e2 in
-      record { file = file; encoded = is; info_is = ok_is info _ (sym e ∙ file_info_is file bytes fits small is) }));
+      bind_ok (decode_file bytes) _ info e (λ file e1 _.
+      let is = (file_exact bytes fits small).found file e1 in
+      record { file = file; encoded = is; info_is = ok_is info _ (sym e ∙ file_info_is file bytes fits small is) });
   only = λ info h. file_info_is h.file bytes fits small h.encoded ∙ ap (λ (x : FileInfo). done x) (sym h.info_is);
 }
 

@@ -4,8 +4,8 @@ ghost use Rattle.hdt_wire.specs.Checks.{ReadsUnlessOom};
 ghost use Rattle.hdt_front.specs.Strings.{section_of, strings_of};
 ghost use Rattle.hdt_dict.specs.Views.{dictionary_of};
 ghost use Rattle.hdt_file.specs.Faults.{open_fault_of};
-ghost use Rattle.hdt_file.specs.File.{decode_graph};
-ghost use Rattle.hdt_file.specs.Graph.{decode_parts, parts_of_layout};
+ghost use Rattle.hdt_file.specs.File.{decode_file, decode_graph};
+ghost use Rattle.hdt_file.specs.Graph.{parts_of_layout};
 ghost use Rattle.hdt_file.specs.Info.{IsFileInfo, total_len, section_info, dictionary_info, file_info, decode_info};
 
 use crate::fault::OpenFault;
@@ -147,7 +147,7 @@ fn part_sizes(
 /// The sizes of the parts of a file that was read from these bytes, one check after another.
 #[tactic(auto, unfolding(crate::specs::Info::decode_info, crate::specs::Graph::parts_of_layout, crate::specs::Head::head_parts, hdt_wire::specs::Control::control_view))]
 fn info_by_checks(alloc: Global, layout: &Layout<'_>, bytes: &[u8]) -> Result<FileInfo, OpenFault>
-    requires { decode_parts bytes.now ≡ Ok (parts_of_layout layout.now) }
+    requires { decode_file bytes.now ≡ Ok (parts_of_layout layout.now) }
     ensures { ReadsUnlessOom open_fault_of (λ info. info) result (decode_info bytes.now) }
 {
     let control = read_control(bytes, layout.head.end(), Kind::Dictionary)?;
@@ -160,7 +160,7 @@ fn info_by_checks(alloc: Global, layout: &Layout<'_>, bytes: &[u8]) -> Result<Fi
 ///
 /// [`OpenFault::OutOfMemory`].
 pub fn layout_info(alloc: Global, layout: &Layout<'_>, bytes: &[u8]) -> Result<FileInfo, OpenFault>
-    requires { decode_parts bytes.now ≡ Ok (parts_of_layout layout.now) }
+    requires { decode_file bytes.now ≡ Ok (parts_of_layout layout.now) }
     ensures found { IfOk result (λ info. IsFileInfo info bytes.now) }
     ensures err { IfErr result (λ e. IfSome (open_fault_of e) (λ fault. decode_graph bytes.now ≡ Err fault)) }
 {

@@ -5,12 +5,12 @@ use Rattle.hdt_file.proofs.layout.Layout.read_by_checks.Goals as goal
 
 pub read-requires-clause-subjects : goal.read-requires-clause-subjects
 read-requires-clause-subjects c =
-    omega (arith, ap (λ (n : Counts). n.subjects) c.dictionary_counts.ensures, c.in_ok-head.ensures.few Subject)
+    omega (arith, ap (λ (n : Counts). n.subjects) c.role_counts.ensures, c.in_ok-dictionary.ensures.few Subject)
 
 pub read-requires-clause-predicates : goal.read-requires-clause-predicates
 read-requires-clause-predicates c =
-    omega (arith, ap (λ (n : Counts). n.predicates) c.dictionary_counts.ensures, c.in_ok-head.ensures.few Predicate)
+    omega (arith, ap (λ (n : Counts). n.predicates) c.role_counts.ensures, c.in_ok-dictionary.ensures.few Predicate)
 
 pub read-requires-clause-objects : goal.read-requires-clause-objects
 read-requires-clause-objects c =
-    omega (arith, ap (λ (n : Counts). n.objects) c.dictionary_counts.ensures, c.in_ok-head.ensures.few Object)
+    omega (arith, ap (λ (n : Counts). n.objects) c.role_counts.ensures, c.in_ok-dictionary.ensures.few Object)
