@@ -7,10 +7,10 @@ use Rattle.hdt_wire.specs.declared.fault.Fault.{Fault}
 use Rattle.hdt_wire.specs.Checks.{IsBytes, ReadsUnlessOom}
 use Rattle.hdt_wire.specs.Laws.Checks.{bind_ok, demand_ok}
 use Rattle.hdt_wire.specs.Exact.{Exactly, UniqueValue, UniqueFault, viewed}
-use Rattle.hdt_wire.specs.Laws.Exact.{ok_is, holds_of_ok, one_value, value_or_fault}
+use Rattle.hdt_wire.specs.Laws.Exact.{done, ok_is, holds_of_ok, one_value, value_or_fault}
 use Rattle.hdt_triples.specs.Laws.Order.{triples_ascend, triples_in_range}
 use Rattle.hdt_triples.specs.Laws.TripleSequences.{length-triples}
-use Rattle.hdt_triples.specs.Triples.{bitmap_triples, decode_triple_parts}
+use Rattle.hdt_triples.specs.Triples.{TripleParts, bitmap_triples, decode_triple_parts}
 use Rattle.hdt_triples.specs.Laws.Triples.{triples_exact}
 use Rattle.hdt_dict.specs.Dictionary.{dictionary_at, lists_of_dictionary}
 use Rattle.hdt_dict.specs.Laws.Dictionary.{dictionary_exact}
@@ -55,9 +55,12 @@ file_exact bytes fits small = record {
       let counts = role_counts (lists_of_dictionary d) in
       let r1 = (head_exact bytes fits small).only file.head h.head in
       let r2 = (dictionary_exact bytes file.head.end fits).only d h.dictionary in
-      let r3 = (triples_exact counts bytes d.objects.end fits).only h.section h.triples in
+      let r3 : decode_triples counts bytes d.objects.end ≡ done (file.triples, file.widths, length bytes) =
+      ap (λ (r : Result TripleParts Fault). viewed triple_parts_view r)
+      ((triples_exact counts bytes d.objects.end fits).only h.section h.triples)
+      ∙ ap (λ (k : Kept). done k) h.view in
       let t1 : eqb (length bytes) (length bytes) ≡ true = (Decides-eqb _ _).1 refl in
-      rw (r1, r2, r3, h.view, t1) refl;
+      rw (r1, r2, r3, t1) refl;
 }
 
 -- the checks return the graph of a valid file

@@ -10,7 +10,7 @@ use Rattle.hdt_wire.specs.declared.Role.TheVariants.{Subject, Predicate, Object}
 use Rattle.hdt_wire.specs.Checks.{◌>>=◌, IsBytes}
 use Rattle.hdt_wire.specs.Laws.Checks.{bind_ok}
 use Rattle.hdt_wire.specs.Exact.{Exactly, UniqueValue, UniqueFault}
-use Rattle.hdt_wire.specs.Laws.Exact.{ok_is, each_check, all_checks, holds_if_ok, ok_if_holds, value_or_fault}
+use Rattle.hdt_wire.specs.Laws.Exact.{done, ok_is, each_check, all_checks, holds_if_ok, ok_if_holds, value_or_fault}
 use Rattle.hdt_front.specs.Section.{string_offset}
 use Rattle.hdt_dict.specs.Dictionary.{DictionaryParts, lists_of_dictionary, role_strings, section_by_id}
 use Rattle.hdt_triples.specs.TripleSequences.{Triple, triples_of}
@@ -162,6 +162,20 @@ unfolding decode_graph decode_tight_graph
 tight_fault bytes f h = same_fault (decode_file bytes) f h
 
 -- ---- a layout
+
+-- the strings of the graph of a tight file pass the checks
+pub tight_only : (g : Graph) (graph : GraphParts) → done graph ≡ done (graph_view g) → IsTight graph
+    → check_strings_used (parts_of_graph g).dictionary (graph_view g).triples ≡ Ok tt
+unfolding graph_view
+tight_only g graph same tight =
+    let p = parts_of_graph g in
+    all_only p.dictionary (triples_of p.triples) (subst IsTight (ok_is graph (graph_view g) same) tight)
+
+-- a graph is tight if its strings pass the checks
+pub tight_found : (g : Graph) → check_strings_used (parts_of_graph g).dictionary (graph_view g).triples ≡ Ok tt
+    → IsTight (graph_view g)
+unfolding graph_view
+tight_found g e = let p = parts_of_graph g in (strings_exact p.dictionary (triples_of p.triples)).found tt e
 
 decided : (d : DictionaryParts) (ts : List Triple) (r : Result (Unit {0}) Fault) → r ≡ check_strings_used d ts
     → IsTrue (is_ok r) ↔ AllUsed d ts

@@ -1,12 +1,8 @@
 -- The sizes of a file's parts.
-use Rattle.std.specs.Prelude.{◌≡◌, ℕ, ◌+◌, ◌-◌, List, [], ◌∷◌, length, Result, Ok}
-use Rattle.hdt_wire.specs.declared.fault.Fault.{Fault}
-use Rattle.hdt_wire.specs.declared.control.Kind.TheVariants as kinds
-use Rattle.hdt_wire.specs.Checks.{◌>>=◌}
-use Rattle.hdt_wire.specs.Control.{control_at}
+use Rattle.std.specs.Prelude.{◌≡◌, ℕ, ◌+◌, ◌-◌, List, [], ◌∷◌, length}
 use Rattle.hdt_front.specs.Section.{SectionParts}
 use Rattle.hdt_dict.specs.Dictionary.{DictionaryParts}
-use Rattle.hdt_file.specs.File.{FileParts, IsFile, decode_file, graph_of_file}
+use Rattle.hdt_file.specs.File.{FileParts, IsFile, graph_of_file}
 use Rattle.hdt_file.specs.declared.info.SectionInfo.{SectionInfo}
 use Rattle.hdt_file.specs.declared.info.DictionaryInfo.{DictionaryInfo}
 use Rattle.hdt_file.specs.declared.info.FileInfo.{FileInfo}
@@ -50,10 +46,3 @@ pub record IsFileInfo (info : FileInfo) (bytes : List ℕ) : Type 0 where
   pub file : FileParts
   pub encoded : IsFile file bytes
   pub info_is : info ≡ file_info (length bytes) file encoded.dictionary.control.end
-
--- the sizes of the parts of the file, or its first error
-unfoldable pub decode_info : List ℕ → Result FileInfo Fault
-decode_info bytes = do
-  file ← decode_file bytes
-  control ← control_at kinds.Dictionary bytes file.head.end
-  Ok (file_info (length bytes) file control.end)

@@ -73,7 +73,7 @@ pub fn verify(alloc: Global, bytes: &[u8]) -> Result<[u64; 5], OpenFault>
 }
 
 /// Bytes encode at most one graph. Either they encode one, or they have a first error.
-#[tactic(auto, using(crate::proofs::FileLaws::layout_exact, crate::proofs::FileLaws::layout_unique, crate::proofs::FileLaws::file_exact, crate::proofs::FileLaws::file_unique, crate::proofs::FileLaws::layout_or_fault))]
+#[tactic(auto, using(crate::proofs::FileLaws::layout_exact, crate::proofs::FileLaws::file_exact, crate::proofs::FileLaws::layout_or_fault))]
 pub fn one_layout()
     ensures exact { (bytes : List ℕ) → IsBytes bytes → length bytes < 2 ^ 64
         → Exactly (decode_graph bytes) (IsLayout bytes) }
