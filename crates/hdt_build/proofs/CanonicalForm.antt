@@ -17,8 +17,7 @@ use Rattle.hdt_dict.specs.Laws.Members.{Contains-map}
 use Rattle.hdt_dict.specs.Split.{IsSplit}
 use Rattle.hdt_dict.specs.Strings.{SameMembers}
 use Rattle.hdt_dict.specs.Writing.{AreSections}
-use Rattle.hdt_triples.specs.TripleSequences.{Triple, triples_of}
-use Rattle.hdt_triples.specs.Triples.{bitmap_triples}
+use Rattle.hdt_triples.specs.TripleSequences.{BitmapTriples, Triple, triples_of}
 use Rattle.hdt_triples.specs.Uses.{role_component}
 use Rattle.hdt_triples.specs.Laws.TripleSequences.{length-triples}
 use Rattle.hdt_file.specs.Denoted.{denoted_triple}
@@ -232,10 +231,10 @@ own_form_rewritten b bytes g size h own = record {
 -- a file has fewer than 2 ^ 64 triples
 few_triples : (bytes : List ℕ) (g : GraphParts) → IsLayout bytes g → length g.triples < 2 ^ 64
 few_triples bytes g h =
-    let f = bitmap_triples h.file.triples in
-    let same : triples_of f ≡ g.triples = ap (λ (k : GraphParts). k.triples) h.of in
-    let many = h.is.triples.array_z.spelled.spelled.counted in
-    omega (arith, many, length-triples f, ap (λ (ts : List Triple). length ts) same)
+    let same : triples_of h.file.triples ≡ g.triples = ap (λ (k : GraphParts). k.triples) h.denotes in
+    let kept = ap (λ (k : BitmapTriples × (ℕ × ℕ) × ℕ). length k.0.array_z) h.encoded.view in
+    let many = h.encoded.triples.array_z.spelled.spelled.counted in
+    omega (arith, many, kept, length-triples h.file.triples, ap (λ (ts : List Triple). length ts) same)
 
 -- a canonical file has the triples of the graph, each once
 few_canonical : (b : ℕ) (bytes : List ℕ) (h : IsRewrittenAs b bytes) → length h.rewritten.file.triples < 2 ^ 64
@@ -332,10 +331,11 @@ head_is a b e = cc
 pub header_is : (bytes header : List ℕ) (head : HeadParts) (g : GraphParts) → IsLayout bytes g → header ≡ head.body
     → ((h : HeadParts) → IsHead h bytes → (let r : Result HeadParts Fault = Ok h in r) ≡ Ok head) → header ≡ g.header
 header_is bytes header head g layout is only =
-    is ∙ ap (λ (h : HeadParts). h.body) (sym (head_is layout.file.head head (only layout.file.head layout.is.head)))
-    ∙ ap (λ (o : GraphParts). o.header) layout.of
+    let file = layout.file in
+    is ∙ ap (λ (h : HeadParts). h.body) (sym (head_is file.head head (only file.head layout.encoded.head)))
+    ∙ ap (λ (o : GraphParts). o.header) layout.denotes
 
 -- a file has a head
 pub some_head : (bytes : List ℕ) (g : GraphParts) (fault : Fault) → IsLayout bytes g
     → ((h : HeadParts) → IsHead h bytes → (let r : Result HeadParts Fault = Ok h in r) ≡ Err fault) → ⊥
-some_head bytes g fault layout none = let e = none layout.file.head layout.is.head in absurd cc
+some_head bytes g fault layout none = let e = none layout.file.head layout.encoded.head in absurd cc

@@ -8,7 +8,7 @@ use Rattle.hdt_wire.specs.Laws.Checks.{HasSlice-after, HasSlice-front, HasSlice-
 use Rattle.hdt_seq.specs.Bits.{bits_encoding}
 use Rattle.hdt_seq.specs.Numbers.{numbers_encoding}
 use Rattle.hdt_front.specs.Canonical.{canonical, canonical_parts}
-use Rattle.hdt_dict.specs.Dictionary.{SectionLists}
+use Rattle.hdt_dict.specs.Dictionary.{SectionLists, lists_of_dictionary}
 use Rattle.hdt_dict.specs.Writing.{AreSections, mapping, canonical_dictionary, canonical_dictionary_parts}
 use Rattle.hdt_dict.specs.Laws.Writing.{dictionary_encoded}
 use Rattle.hdt_triples.specs.TripleSequences.{Triple, BitmapTriples}
@@ -16,9 +16,9 @@ use Rattle.hdt_triples.specs.Order.{AreAtMostCounts, CountsFit64}
 use Rattle.hdt_triples.specs.Writing.{order_property, sequences_of, canonical_sequences, sequences_parts}
 use Rattle.hdt_triples.specs.Writing.{canonical_triples, canonical_triples_parts}
 use Rattle.hdt_triples.specs.Laws.Writing.{triples_stand, triples_are}
-use Rattle.hdt_file.specs.File.{FileParts, GraphParts, IsFile, IsLayout, dictionary_counts, graph_of_file, role_counts}
+use Rattle.hdt_file.specs.File.{FileParts, GraphParts, IsFile, IsLayout, graph_of_file, role_counts}
 use Rattle.hdt_file.specs.Tight.{IsTight}
-use Rattle.hdt_triples.specs.Triples.{IsTriplesAt}
+use Rattle.hdt_triples.specs.Triples.{IsTriplesAt, bitmap_triples}
 use Rattle.hdt_build.specs.Canonical.{canonical_head, canonical_file, IsCanonical}
 use Rattle.hdt_file.specs.Denoted.{StringTriple}
 use Rattle.hdt_build.specs.Graph.{IsEncodedGraph}
@@ -64,7 +64,8 @@ triples_end f at =
     )
 
 -- the counts of a canonical dictionary
-counts_are : (b : ℕ) (d : SectionLists) (at : ℕ) → dictionary_counts (canonical_dictionary_parts b d at) ≡ role_counts d
+counts_are : (b : ℕ) (d : SectionLists) (at : ℕ)
+    → role_counts (lists_of_dictionary (canonical_dictionary_parts b d at)) ≡ role_counts d
 unfolding canonical_dictionary_parts canonical_parts
 counts_are b d at = refl
 
@@ -76,6 +77,7 @@ unfoldable file_of : (header : List ℕ) (b : ℕ) (d : SectionLists) (ts : List
 file_of header b d ts =
     let g : ℕ = 0 + length (control kinds.Global []) in
     let at : ℕ = 0 + length (canonical_head header) in
+    let section = canonical_triples_parts ts (canonical_dictionary_parts b d at).objects.end in
     record {
       head = record {
         global = expected_control_info kinds.Global [] 0 g;
@@ -85,7 +87,8 @@ file_of header b d ts =
         end = at;
       };
       dictionary = canonical_dictionary_parts b d at;
-      triples = canonical_triples_parts ts (canonical_dictionary_parts b d at).objects.end;
+      triples = bitmap_triples section;
+      widths = (section.array_y.offsets.width, section.array_z.offsets.width);
     }
 
 module _ (header : List ℕ) (graph : List StringTriple) (b : ℕ) (d : SectionLists) (ts : List Triple)
@@ -117,6 +120,7 @@ module _ (header : List ℕ) (graph : List StringTriple) (b : ℕ) (d : SectionL
       let dict = HasSlice-front bytes at D T end behind in
       let last = HasSlice-back bytes at D T end behind in
       let place = dictionary_end b d at in
+      let section = canonical_triples_parts ts (canonical_dictionary_parts b d at).objects.end in
       let short : length header < 2 ^ 64 = omega (arith, body.end_is, body.within, small) in
       record {
         head = record {
@@ -134,20 +138,20 @@ module _ (header : List ℕ) (graph : List StringTriple) (b : ℕ) (d : SectionL
             format = refl;
             properties_at = refl;
           };
-          length = states_length (length header) short;
+          stated = states_length (length header) short;
           body = body;
         };
         dictionary = dictionary_encoded b d bytes at (at + length D) from low sections small dict;
+        section = section;
         triples =
-            subst (λ counts. IsTriplesAt counts
-            (canonical_triples_parts ts (canonical_dictionary_parts b d at).objects.end) bytes
-            (canonical_dictionary_parts b d at).objects.end) (sym (counts_are b d at))
+            subst (λ counts. IsTriplesAt counts section bytes (canonical_dictionary_parts b d at).objects.end) (sym (counts_are b d at))
             (triples_stand ts (role_counts d) bytes (canonical_dictionary_parts b d at).objects.end end
             (writable d ts form (some_triple graph d ts form some)) within
             (few bytes at (at + length D) small dict) many
             (subst (λ (a : ℕ). HasSlice bytes a T end) (sym place) last));
-        end = triples_end (sequences_of ts) (canonical_dictionary_parts b d at).objects.end
-            ∙ ap (λ (a : ℕ). a + length T) place ∙ sym last.end_is ∙ whole;
+        view = ap (λ (n : ℕ). (bitmap_triples section, (section.array_y.offsets.width, section.array_z.offsets.width), n))
+            (triples_end (sequences_of ts) (canonical_dictionary_parts b d at).objects.end
+            ∙ ap (λ (a : ℕ). a + length T) place ∙ sym last.end_is ∙ whole);
       }
 
   file_graph : graph_of_file (file_of header b d ts) ≡ graph_parts_of header d ts
@@ -159,9 +163,9 @@ module _ (header : List ℕ) (graph : List StringTriple) (b : ℕ) (d : SectionL
       → IsLayout (canonical_file header b d ts) (graph_parts_of header d ts)
   layout sections from low small many = record {
     file = file_of header b d ts;
-    is = file_stands (canonical_file header b d ts) (0 + length (canonical_file header b d ts)) sections from low small
-        many (omega arith) (all_of (canonical_file header b d ts));
-    of = file_graph;
+    encoded = file_stands (canonical_file header b d ts) (0 + length (canonical_file header b d ts)) sections from low
+        small many (omega arith) (all_of (canonical_file header b d ts));
+    denotes = file_graph;
   }
 
 module _ (header : List ℕ) (graph : List StringTriple) (b : ℕ) (bytes : List ℕ)

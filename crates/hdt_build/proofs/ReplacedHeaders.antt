@@ -6,13 +6,18 @@ use Rattle.hdt_wire.specs.declared.control.Kind.TheVariants as kinds
 use Rattle.hdt_wire.specs.Checks.{HasSlice}
 use Rattle.hdt_wire.specs.Control.{control, expected_control_info}
 use Rattle.hdt_wire.specs.Laws.Checks.{HasSlice-after, HasSlice-back, HasSlice-front}
-use Rattle.hdt_dict.specs.Dictionary.{IsDictionaryAt}
+use Rattle.hdt_dict.specs.Dictionary.{IsDictionaryAt, lists_of_dictionary}
+use Rattle.hdt_triples.specs.TripleSequences.{BitmapTriples}
 use Rattle.hdt_file.specs.Head.{HeadParts, IsHead}
-use Rattle.hdt_file.specs.File.{FileParts, GraphParts, IsFile, IsLayout, dictionary_counts, graph_of_file}
+use Rattle.hdt_file.specs.File.{FileParts, GraphParts, IsFile, IsLayout, graph_of_file, role_counts}
 use Rattle.hdt_build.specs.NewHeader.{ReplacesHeader, graph_with_header, new_control, with_length, with_new_header}
 use Rattle.hdt_build.proofs.HeaderProperties.{new_length, new_no_zero}
 use Rattle.hdt_build.proofs.MovedParts as moving
 use Rattle.hdt_build.proofs.MovedParts.{SameFrom, moved, moved_dictionary, moved_triples}
+
+-- what a file keeps of its triples
+abbrev Kept : Type 0
+Kept = BitmapTriples × (ℕ × ℕ) × ℕ
 
 whole : (text : List ℕ) → HasSlice text 0 text (0 + length text)
 whole text = subst (λ (l : List ℕ). HasSlice l 0 text (0 + length text)) (append-nil text) (HasSlice-after [] text [])
@@ -87,7 +92,8 @@ module _ (body bytes : List ℕ) (file : FileParts) (is : IsFile file bytes) (sm
   new_file = record {
     head = new_head;
     dictionary = moved_dictionary file.head.end end file.dictionary;
-    triples = moved_triples file.head.end end file.triples;
+    triples = file.triples;
+    widths = file.widths;
   }
 
   head_stands : (new : List ℕ) → Parts new → IsHead new_head new
@@ -104,7 +110,7 @@ module _ (body bytes : List ℕ) (file : FileParts) (is : IsFile file bytes) (sm
       format = refl;
       properties_at = refl;
     };
-    length = new_length (length body) (length file.head.body) file.head.header.properties small is.head.length;
+    stated = new_length (length body) (length file.head.body) file.head.header.properties small is.head.stated;
     body = h.body_is;
   }
 
@@ -114,28 +120,39 @@ module _ (body bytes : List ℕ) (file : FileParts) (is : IsFile file bytes) (sm
       let s = same new h in
       let start : moved k end k ≡ end = omega arith in
       let after = moving.after_dictionary bytes k new end s file.dictionary k is.dictionary in
-      let last = moving.after_triples bytes k new end s (dictionary_counts file.dictionary) file.triples
-      file.dictionary.objects.end is.triples in
+      let counts = role_counts (lists_of_dictionary file.dictionary) in
+      let section = is.section in
+      let last = moving.after_triples bytes k new end s counts section file.dictionary.objects.end is.triples in
+      let whole : moved k end section.array_z.end ≡ length new = omega (
+        arith,
+        ap (λ (v : Kept). v.2) is.view,
+        moving.lens bytes k new end s,
+        s.old_has,
+        s.new_has,
+        after,
+        last,
+      ) in
       record {
         head = head_stands new h;
         dictionary = subst (λ (a : ℕ). IsDictionaryAt (moved_dictionary k end file.dictionary) new a) start
             (moving.dictionary bytes k new end s file.dictionary k (omega arith) is.dictionary);
-        triples = moving.triples bytes k new end s (dictionary_counts file.dictionary) file.triples
-            file.dictionary.objects.end after is.triples;
-        end = omega (arith, is.end, moving.lens bytes k new end s, s.old_has, s.new_has, after, last);
+        section = moved_triples k end section;
+        triples = moving.triples bytes k new end s counts section file.dictionary.objects.end after is.triples;
+        view = ap (λ (v : Kept). (let w : Kept = (v.0, v.1, moved k end section.array_z.end) in w)) is.view
+            ∙ ap (λ (n : ℕ). (let w : Kept = (file.triples, file.widths, n) in w)) whole;
       }
 
   pub new_layout : IsLayout (with_new_header file.head body bytes) (graph_with_header (graph_of_file file) body)
   new_layout = record {
     file = new_file;
-    is = file_stands (with_new_header file.head body bytes) parts;
-    of = refl;
+    encoded = file_stands (with_new_header file.head body bytes) parts;
+    denotes = refl;
   }
 
 -- A file with a new header is a file of the graph with this header.
 pub replaced_layout : (body bytes made : List ℕ) (graph : GraphParts) → length body < 2 ^ 64
     → ReplacesHeader body bytes graph made → IsLayout made (graph_with_header graph body)
 replaced_layout body bytes made graph small h =
-    subst (λ (g : GraphParts). IsLayout made (graph_with_header g body)) h.of
-    (subst (λ (l : List ℕ). IsLayout l (graph_with_header (graph_of_file h.file) body)) (sym h.made_is)
-    (new_layout body bytes h.file h.is small))
+    subst (λ (g : GraphParts). IsLayout made (graph_with_header g body)) h.layout.denotes
+    (subst (λ (l : List ℕ). IsLayout l (graph_with_header (graph_of_file h.layout.file) body)) (sym h.made_is)
+    (new_layout body bytes h.layout.file h.layout.encoded small))

@@ -12,7 +12,7 @@ use Rattle.hdt_terms.specs.declared.triple.Triple.{Triple}
 use Rattle.hdt_terms.specs.Documents.{FaultInDocument}
 use Rattle.hdt_terms.specs.Lines.{Document}
 use Rattle.hdt_file.specs.Head.{HeadParts}
-use Rattle.hdt_file.specs.File.{FileParts, GraphParts, IsFile, IsLayout, decode_graph, graph_of_file}
+use Rattle.hdt_file.specs.File.{GraphParts, IsLayout, decode_graph}
 use Rattle.hdt_file.specs.declared.fault.OpenFault.{OpenFault}
 use Rattle.hdt_file.specs.declared.fault.OpenFault.TheVariants as opens
 use Rattle.hdt_build.specs.declared.fault.HeaderFault.{HeaderFault}
@@ -43,12 +43,10 @@ graph_with_header g body = record { header = body; dictionary = g.dictionary; tr
 
 -- The bytes are a file of the graph, and the new ones are the same file with this header body, which is a document.
 pub record ReplacesHeader (body bytes : List ℕ) (graph : GraphParts) (made : List ℕ) : Type 0 where
-  pub file : FileParts
-  pub is : IsFile file bytes
-  pub of : graph_of_file file ≡ graph
+  pub layout : IsLayout bytes graph
   pub triples : List Triple
   pub document : Document body triples
-  pub made_is : made ≡ with_new_header file.head body bytes
+  pub made_is : made ≡ with_new_header layout.file.head body bytes
 
 -- The error is the first one of the body.
 abbrev pub IsBodyFault : List ℕ → HeaderFault → Type 0

@@ -12,11 +12,11 @@ use Rattle.hdt_wire.specs.Exact.{Exactly}
 use Rattle.hdt_wire.specs.Laws.Exact.{holds_of_ok, one_value}
 use Rattle.hdt_wire.specs.Laws.ExactPrimitives.{control_exact}
 use Rattle.hdt_wire.specs.Property.{property_value}
-use Rattle.hdt_file.specs.Head.{Decimal, decimal_number, HeadParts, IsHead, StatesLength, body_length, decode_head}
+use Rattle.hdt_file.specs.Head.{IsDecimalOf, decimal_number, HeadParts, IsHead, StatesLength, body_length, decode_head}
 use Rattle.hdt_file.proofs.DecimalLaws.{decimal_found, decimal_only}
-use Rattle.hdt_dict.specs.Dictionary.{dictionary_at}
+use Rattle.hdt_dict.specs.Dictionary.{DictionaryParts, dictionary_at}
 use Rattle.hdt_dict.specs.Laws.Dictionary.{dictionary_exact}
-use Rattle.hdt_file.specs.Dictionary.{HeadAndDictionary, IsHeadAndDictionary, decode_head_and_dictionary}
+use Rattle.hdt_file.specs.Dictionary.{IsHeadAndDictionary, decode_head_and_dictionary}
 
 -- ---- the length of the body
 
@@ -24,12 +24,12 @@ given : {A : Type 0} (o : Option A) (d : Fault) (y : A) → ok_or o d ≡ Ok y �
 given None d y e = absurd cc
 given (Some x) d y e = cc
 
-stated : (value : Option (List ℕ)) (d : Fault) (n : ℕ) → ok_or (option_and_then decimal_number value) d ≡ Ok n
-    → IsSomeAnd value (λ text. Decimal text n)
-stated None d n e = absurd cc
-stated (Some text) d n e = (decimal_found text n (given (decimal_number text) d n e)).0
+states : (value : Option (List ℕ)) (d : Fault) (n : ℕ) → ok_or (option_and_then decimal_number value) d ≡ Ok n
+    → IsSomeAnd value (λ text. IsDecimalOf text n)
+states None d n e = absurd cc
+states (Some text) d n e = (decimal_found text n (given (decimal_number text) d n e)).0
 
-read_again : (value : Option (List ℕ)) (d : Fault) (n : ℕ) → n < 2 ^ 64 → IsSomeAnd value (λ text. Decimal text n)
+read_again : (value : Option (List ℕ)) (d : Fault) (n : ℕ) → n < 2 ^ 64 → IsSomeAnd value (λ text. IsDecimalOf text n)
     → ok_or (option_and_then decimal_number value) d ≡ Ok n
 read_again None d n lt h = absurd h
 read_again (Some text) d n lt h = rw (decimal_only text n lt h) refl
@@ -49,8 +49,8 @@ head_exact bytes fits small = record {
       holds_of_ok (λ (h : HeadParts). IsHead h bytes) _ _ e (record {
         global = (control_exact Global bytes 0 fits).found global e1;
         header = (control_exact Header bytes global.end fits).found header e2;
-        length = subst (StatesLength header.properties) (sym b.1)
-            (stated (property_value header.properties (codes "length")) _ count e3);
+        stated = subst (StatesLength header.properties) (sym b.1)
+            (states (property_value header.properties (codes "length")) _ count e3);
         body = b.0;
       })))));
   only = λ head h.
@@ -58,7 +58,7 @@ head_exact bytes fits small = record {
       let header = (control_exact Header bytes head.global.end fits).only head.header h.header in
       let below : length head.body < 2 ^ 64 = omega (arith, h.body.end_is, h.body.within, small) in
       let count : body_length head.header ≡ Ok (length head.body) =
-      read_again (property_value head.header.properties (codes "length")) _ (length head.body) below h.length in
+      read_again (property_value head.header.properties (codes "length")) _ (length head.body) below h.stated in
       let body = bytes_only (length head.body) bytes head.header.end head.body head.end h.body refl in
       rw (global, header, count, body) refl;
 }
@@ -78,12 +78,10 @@ front_exact bytes fits small = record {
   found = λ f e.
       bind_ok (decode_head bytes) _ _ e (λ head e1 e.
       bind_ok (dictionary_at bytes head.end) _ _ e (λ dictionary e2 e.
-      holds_of_ok (λ (f : HeadAndDictionary). IsHeadAndDictionary f bytes) _ _ e (record {
-        head = (head_exact bytes fits small).found head e1;
-        dictionary = (dictionary_exact bytes head.end fits).found dictionary e2;
-      })));
+      holds_of_ok (λ (f : HeadParts × DictionaryParts). IsHeadAndDictionary f bytes) _ _ e
+      ((head_exact bytes fits small).found head e1, (dictionary_exact bytes head.end fits).found dictionary e2)));
   only = λ f h.
-      let r1 = (head_exact bytes fits small).only f.head h.head in
-      let r2 = (dictionary_exact bytes f.head.end fits).only f.dictionary h.dictionary in
+      let r1 = (head_exact bytes fits small).only f.0 h.0 in
+      let r2 = (dictionary_exact bytes f.0.end fits).only f.1 h.1 in
       rw (r1, r2) refl;
 }

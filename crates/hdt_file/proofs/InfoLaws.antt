@@ -1,12 +1,11 @@
--- The checks of the sizes of a file's parts return those of the file that the bytes encode, or its first error.
+-- The sizes of a file's parts.
 use Rattle.std.proofs.Common.{◌≡◌, ℕ, ◌+◌, ◌*◌, ◌<◌, ◌≤◌, ◌^◌, List, [], ◌∷◌, length, Result, Ok, Err, refl, sym, ap}
 use Rattle.std.proofs.Common.{◌∙◌, arith}
 use Rattle.hdt_wire.specs.declared.fault.Fault.{Fault}
 use Rattle.hdt_wire.specs.declared.control.Kind.TheVariants as kinds
-use Rattle.std.specs.Prelude.{IfErr, IfSome}
+use Rattle.std.specs.Prelude.{IfErr, IfOk, IfSome}
 use Rattle.hdt_wire.specs.Checks.{IsBytes, ReadsUnlessOom}
-use Rattle.hdt_wire.specs.Exact.{Exactly}
-use Rattle.hdt_wire.specs.Laws.Checks.{bind_ok}
+use Rattle.hdt_wire.specs.Control.{ControlInfo, control_at}
 use Rattle.hdt_wire.specs.Laws.Exact.{done, ok_is}
 use Rattle.hdt_wire.specs.Laws.ExactPrimitives.{control_exact}
 use Rattle.hdt_front.specs.declared.section.Section.{Section}
@@ -18,10 +17,9 @@ use Rattle.hdt_file.specs.Faults.{open_fault_of}
 use Rattle.hdt_file.specs.declared.fault.OpenFault.{OpenFault}
 use Rattle.hdt_file.specs.declared.fault.OpenFault.TheVariants as opens
 use Rattle.hdt_file.specs.declared.info.FileInfo.{FileInfo}
-use Rattle.hdt_file.specs.File.{FileParts, IsFile, decode_file, decode_graph}
-use Rattle.hdt_file.specs.Graph.{decode_parts, parts_of_file}
-use Rattle.hdt_file.specs.Info.{IsFileInfo, decode_info, file_info, total_len}
-use Rattle.hdt_file.proofs.FileLaws.{file_exact, file_parts}
+use Rattle.hdt_file.specs.File.{FileParts, IsFile, IsLayout, decode_file, decode_graph, graph_of_file}
+use Rattle.hdt_file.specs.Info.{IsFileInfo, file_info, total_len}
+use Rattle.hdt_file.proofs.FileLaws.{file_exact, file_unique, layout_exact}
 
 -- ---- the lengths of the strings of a section
 
@@ -81,43 +79,53 @@ all_summed s w total i le h = omega (arith, h.all, none_left w.ahead (omega (ari
 
 -- ---- the file
 
-file_info_is : (file : FileParts) (bytes : List ℕ) → IsBytes bytes → length bytes < 2 ^ 64 → (is : IsFile file bytes)
-    → decode_info bytes ≡ Ok (file_info (length bytes) (parts_of_file file) is.dictionary.control.end)
-unfolding decode_info
-file_info_is file bytes fits small is =
-    let parts = file_parts bytes file fits small is in
-    let control = (control_exact kinds.Dictionary bytes file.head.end fits).only is.dictionary.control
-    is.dictionary.block in
-    rw (parts, control) refl
+-- where the control information of the dictionary ends
+control_is : (file : FileParts) (bytes : List ℕ) → IsBytes bytes → (is : IsFile file bytes)
+    → control_at kinds.Dictionary bytes file.head.end ≡ Ok is.dictionary.control
+control_is file bytes fits is =
+    (control_exact kinds.Dictionary bytes file.head.end fits).only is.dictionary.control is.dictionary.block
 
--- the checks return the sizes of the parts of the file that the bytes encode
-pub info_exact : (bytes : List ℕ) → IsBytes bytes → length bytes < 2 ^ 64
-    → Exactly (decode_info bytes) (λ info. IsFileInfo info bytes)
-unfolding decode_info
-info_exact bytes fits small = record {
-  found = λ info e.
-      bind_ok (decode_parts bytes) _ info e (λ parts e1 _.
-      bind_ok (decode_file bytes) _ parts e1 (λ file e2 _.
-      let is = (file_exact bytes fits small).found file e2 in
-      record { file = file; is = is; info_is = ok_is info _ (sym e ∙ file_info_is file bytes fits small is) }));
-  only = λ info h. file_info_is h.file bytes fits small h.is ∙ ap (λ (x : FileInfo). done x) (sym h.info_is);
-}
+-- the bytes that a layout was read from have that control information
+pub some_control : (file : FileParts) (bytes : List ℕ) (fault : Fault) → IsBytes bytes → length bytes < 2 ^ 64
+    → decode_file bytes ≡ Ok file → control_at kinds.Dictionary bytes file.head.end ≡ Err fault → ⊥
+some_control file bytes fault fits small read e =
+    let k = control_is file bytes fits ((file_exact bytes fits small).found file read) in absurd cc
 
-no_fault : (bytes : List ℕ) → IsBytes bytes → length bytes < 2 ^ 64 → (fault : Fault) (r : Result FileParts Fault)
-    → decode_file bytes ≡ r → decode_info bytes ≡ Err fault → decode_graph bytes ≡ Err fault
-unfolding decode_info decode_graph
-no_fault bytes fits small fault (Ok file) d e =
-    let k = sym (file_info_is file bytes fits small ((file_exact bytes fits small).found file d)) ∙ e in
-    absurd (cc)
-no_fault bytes fits small fault (Err f) d e =
-    let info : decode_info bytes ≡ Err f = rw d refl in
-    let graph : decode_graph bytes ≡ Err f = rw d refl in
-    cc
+-- the sizes of a layout are those of the file that it was read from
+pub info_found : (file : FileParts) (bytes : List ℕ) (control : ControlInfo) (info : FileInfo) → IsBytes bytes
+    → length bytes < 2 ^ 64 → decode_file bytes ≡ Ok file
+    → control_at kinds.Dictionary bytes file.head.end ≡ Ok control
+    → info ≡ file_info (length bytes) file control.end → IsFileInfo info bytes
+info_found file bytes control info fits small read e sizes =
+    let is = (file_exact bytes fits small).found file read in
+    let same = ok_is control is.dictionary.control (sym e ∙ control_is file bytes fits is) in
+    record {
+      file = file;
+      encoded = is;
+      info_is = sizes ∙ ap (λ (c : ControlInfo). file_info (length bytes) file c.end) same;
+    }
 
--- an error of the checks is that of the file
-pub info_fault : (bytes : List ℕ) → IsBytes bytes → length bytes < 2 ^ 64 → (r : Result FileInfo OpenFault)
-    → ReadsUnlessOom open_fault_of (λ (x : FileInfo). x) r (decode_info bytes)
-    → IfErr r (λ e. IfSome (open_fault_of e) (λ fault. decode_graph bytes ≡ Err fault))
-info_fault bytes fits small (Ok info) h = tt
-info_fault bytes fits small (Err (opens.Fault fault)) h = no_fault bytes fits small fault (decode_file bytes) refl h
-info_fault bytes fits small (Err opens.OutOfMemory) h = tt
+-- a file has one list of sizes
+pub one_info : (bytes : List ℕ) (a b : FileInfo) → IsBytes bytes → length bytes < 2 ^ 64 → IsFileInfo a bytes
+    → IsFileInfo b bytes → a ≡ b
+one_info bytes a b fits small p q =
+    let files = file_unique bytes p.file q.file fits small p.encoded q.encoded in
+    let there = ap (λ (f : FileParts). control_at kinds.Dictionary bytes f.head.end) files in
+    let controls = ok_is p.encoded.dictionary.control q.encoded.dictionary.control
+    (sym (control_is p.file bytes fits p.encoded) ∙ there ∙ control_is q.file bytes fits q.encoded) in
+    p.info_is
+    ∙ ap (λ (f : FileParts). file_info (length bytes) f p.encoded.dictionary.control.end) files
+    ∙ ap (λ (c : ControlInfo). file_info (length bytes) q.file c.end) controls
+    ∙ sym q.info_is
+
+-- a result that is the sizes of the file or its error is that of any file that the bytes encode
+pub info_only : (bytes : List ℕ) (r : Result FileInfo OpenFault) → IsBytes bytes → length bytes < 2 ^ 64
+    → IfOk r (λ i. IsFileInfo i bytes)
+    → IfErr r (λ e. IfSome (open_fault_of e) (λ fault. decode_graph bytes ≡ Err fault)) → (info : FileInfo)
+    → IsFileInfo info bytes → ReadsUnlessOom open_fault_of (λ (x : FileInfo). x) r (Ok info)
+info_only bytes (Ok i) fits small found err info h =
+    ap (λ (x : FileInfo). done x) (one_info bytes info i fits small h found)
+info_only bytes (Err (opens.Fault fault)) fits small found err info h =
+    let layout : IsLayout bytes (graph_of_file h.file) = record { file = h.file; encoded = h.encoded; denotes = refl } in
+    let k = sym ((layout_exact bytes fits small).only (graph_of_file h.file) layout) ∙ err in absurd cc
+info_only bytes (Err opens.OutOfMemory) fits small found err info h = tt

@@ -12,13 +12,12 @@ use Rattle.hdt_wire.specs.Laws.Exact.{ok_is}
 use Rattle.hdt_front.specs.Strings.{section_of}
 use Rattle.hdt_dict.specs.Dictionary.{DictionaryParts}
 use Rattle.hdt_dict.specs.Views.{dictionary_of}
-use Rattle.hdt_file.specs.File.{FileParts, IsFile, IsLayout}
-use Rattle.hdt_file.specs.Graph.{graph_counts, LayoutParts, decode_parts, parts_dictionary, parts_of_file}
-use Rattle.hdt_file.specs.Graph.{parts_of_layout, layout_view}
+use Rattle.hdt_file.specs.File.{FileParts, IsFile, IsLayout, decode_file}
+use Rattle.hdt_file.specs.Graph.{graph_counts, parts_of_layout, layout_view}
 use Rattle.hdt_file.specs.TermFlags.{IsTermFlag}
 use Rattle.hdt_file.specs.declared.layout.Layout.{Layout}
 use Rattle.hdt_file.specs.declared.non_terms.TermVerdict.{TermVerdict}
-use Rattle.hdt_file.proofs.FileLaws.{file_parts}
+use Rattle.hdt_file.proofs.FileLaws.{file_exact}
 use Rattle.hdt_file.specs.NonTerms.{AreNonTerms, AreNonTermsFrom, AreNonTermsOf, IsTermVerdict}
 use Rattle.hdt_file.specs.Text.{HasTerm, HasNoTerm}
 use Rattle.hdt_file.specs.declared.non_terms.NonTerm.{NonTerm}
@@ -142,7 +141,7 @@ unfolding dictionary_of section_of
 objects_fit l lens is = omega (arith, shared_count l lens is, l.dictionary.objects_fit)
 
 pub for_layout : (l : Layout) (found : List NonTerm) → AreNonTerms (dictionary_of l.dictionary) found
-    → AreNonTerms (parts_dictionary (parts_of_layout l)) found
+    → AreNonTerms (parts_of_layout l).dictionary found
 unfolding parts_of_layout
 for_layout l found h = h
 
@@ -152,21 +151,21 @@ five none a b c d e x1 x2 x3 x4 x5 z p q r s t = rw (t, s, r, q, p, z) refl
 
 -- ---- the strings of a file
 
-same_dictionary : (bytes : List ℕ) (file : FileParts) (p : LayoutParts) → IsBytes bytes → length bytes < 2 ^ 64
-    → IsFile file bytes → decode_parts bytes ≡ Ok p → parts_dictionary p ≡ file.dictionary
+same_dictionary : (bytes : List ℕ) (file p : FileParts) → IsBytes bytes → length bytes < 2 ^ 64
+    → IsFile file bytes → decode_file bytes ≡ Ok p → p.dictionary ≡ file.dictionary
 same_dictionary bytes file p fits small is parts =
-    ap parts_dictionary (ok_is p (parts_of_file file) (sym parts ∙ file_parts bytes file fits small is))
+    ap (λ (f : FileParts). f.dictionary) (ok_is p file (sym parts ∙ (file_exact bytes fits small).only file is))
 
 pub verdict_is : (bytes : List ℕ) (l : Layout) (verdict : TermVerdict) → IsBytes bytes
-    → length bytes < 2 ^ 64 → IsLayout bytes (layout_view l) → decode_parts bytes ≡ Ok (parts_of_layout l)
+    → length bytes < 2 ^ 64 → IsLayout bytes (layout_view l) → decode_file bytes ≡ Ok (parts_of_layout l)
     → verdict.counts ≡ graph_counts (layout_view l)
-    → AreNonTerms (parts_dictionary (parts_of_layout l)) verdict.non_terms.items → IsTermVerdict bytes verdict
+    → AreNonTerms (parts_of_layout l).dictionary verdict.non_terms.items → IsTermVerdict bytes verdict
 verdict_is bytes l verdict fits small found parts are h = record {
   file = found.file;
-  is = found.is;
-  counts = are ∙ ap graph_counts (sym found.of);
+  encoded = found.encoded;
+  counts = are ∙ ap graph_counts (sym found.denotes);
   non_terms = subst (λ (d : DictionaryParts). AreNonTerms d verdict.non_terms.items)
-      (same_dictionary bytes found.file (parts_of_layout l) fits small found.is parts) h;
+      (same_dictionary bytes found.file (parts_of_layout l) fits small found.encoded parts) h;
 }
 
 pub is_none : (role : Role) (x y : List ℕ) (b : Bool) → b ≡ false → y ≡ x → IsTermFlag role y b → HasNoTerm role x

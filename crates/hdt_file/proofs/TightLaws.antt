@@ -10,11 +10,10 @@ use Rattle.hdt_wire.specs.declared.Role.TheVariants.{Subject, Predicate, Object}
 use Rattle.hdt_wire.specs.Checks.{◌>>=◌, IsBytes}
 use Rattle.hdt_wire.specs.Laws.Checks.{bind_ok}
 use Rattle.hdt_wire.specs.Exact.{Exactly, UniqueValue, UniqueFault}
-use Rattle.hdt_wire.specs.Laws.Exact.{ok_is, each_check, all_checks, holds_if_ok, ok_if_holds, value_or_fault}
+use Rattle.hdt_wire.specs.Laws.Exact.{done, ok_is, each_check, all_checks, holds_if_ok, ok_if_holds, value_or_fault}
 use Rattle.hdt_front.specs.Section.{string_offset}
 use Rattle.hdt_dict.specs.Dictionary.{DictionaryParts, lists_of_dictionary, role_strings, section_by_id}
 use Rattle.hdt_triples.specs.TripleSequences.{Triple, triples_of}
-use Rattle.hdt_triples.specs.Triples.{bitmap_triples}
 use Rattle.hdt_triples.specs.Uses.{Uses, uses}
 use Rattle.hdt_triples.specs.Laws.Uses.{uses_found, uses_only}
 use Rattle.hdt_dict.specs.declared.dictionary.SectionId.{SectionId}
@@ -24,8 +23,7 @@ use Rattle.hdt_file.proofs.FileLaws.{file_exact}
 use Rattle.hdt_file.specs.Tight.{IsTight, IsTightLayout, is_used, check_string_used, check_section_used}
 use Rattle.hdt_file.specs.Tight.{check_strings_used, decode_tight_graph}
 use Rattle.std.specs.Prelude.{◌↔◌, IsTrue, is_ok}
-use Rattle.hdt_file.specs.Graph.{LayoutParts, graph_view, layout_view, parts_dictionary, parts_of_graph}
-use Rattle.hdt_file.specs.Graph.{parts_of_layout}
+use Rattle.hdt_file.specs.Graph.{graph_view, layout_view, parts_of_graph, parts_of_layout}
 use Rattle.hdt_file.specs.declared.graph.Graph.{Graph}
 use Rattle.hdt_file.specs.declared.layout.Layout.{Layout}
 
@@ -129,20 +127,20 @@ tight_exact bytes fits small =
     record {
       found = λ g e.
           bind_ok (decode_file bytes) _ _ e (λ file e1 e.
-          bind_ok (check_strings_used file.dictionary (triples_of (bitmap_triples file.triples))) _ _ e (λ u e2 e.
+          bind_ok (check_strings_used file.dictionary (triples_of file.triples)) _ _ e (λ u e2 e.
           let same = ok_is (graph_of_file file) g e in
           record {
-            layout = record { file = file; is = exact.found file e1; of = same };
+            layout = record { file = file; encoded = exact.found file e1; denotes = same };
             tight = subst IsTight same
-                ((strings_exact file.dictionary (triples_of (bitmap_triples file.triples))).found u e2);
+                ((strings_exact file.dictionary (triples_of file.triples)).found u e2);
           }));
       only = λ g h.
           let file = h.layout.file in
           rw (
-            exact.only file h.layout.is,
-            all_only file.dictionary (triples_of (bitmap_triples file.triples))
-                (subst IsTight (sym h.layout.of) h.tight),
-          ) (ap (λ (y : GraphParts). Ok y) h.layout.of);
+            exact.only file h.layout.encoded,
+            all_only file.dictionary (triples_of file.triples)
+                (subst IsTight (sym h.layout.denotes) h.tight),
+          ) (ap (λ (y : GraphParts). Ok y) h.layout.denotes);
     }
 
 pub tight_or_fault : (bytes : List ℕ) → IsBytes bytes → length bytes < 2 ^ 64
@@ -154,7 +152,7 @@ tight_or_fault bytes fits small =
 -- the error of a file without the checks of used strings is also its error with them
 
 same_fault : (r : Result FileParts Fault) (f : Fault) → (r >>= λ file. Ok (graph_of_file file)) ≡ Err f
-    → (r >>= λ file. check_strings_used file.dictionary (triples_of (bitmap_triples file.triples)) >>= λ _. Ok
+    → (r >>= λ file. check_strings_used file.dictionary (triples_of file.triples) >>= λ _. Ok
     (graph_of_file file)) ≡ Err f
 same_fault (Ok file) f h = absurd (cc)
 same_fault (Err e) f h = h
@@ -165,16 +163,30 @@ tight_fault bytes f h = same_fault (decode_file bytes) f h
 
 -- ---- a layout
 
+-- the strings of the graph of a tight file pass the checks
+pub tight_only : (g : Graph) (graph : GraphParts) → done graph ≡ done (graph_view g) → IsTight graph
+    → check_strings_used (parts_of_graph g).dictionary (graph_view g).triples ≡ Ok tt
+unfolding graph_view
+tight_only g graph same tight =
+    let p = parts_of_graph g in
+    all_only p.dictionary (triples_of p.triples) (subst IsTight (ok_is graph (graph_view g) same) tight)
+
+-- a graph is tight if its strings pass the checks
+pub tight_found : (g : Graph) → check_strings_used (parts_of_graph g).dictionary (graph_view g).triples ≡ Ok tt
+    → IsTight (graph_view g)
+unfolding graph_view
+tight_found g e = let p = parts_of_graph g in (strings_exact p.dictionary (triples_of p.triples)).found tt e
+
 decided : (d : DictionaryParts) (ts : List Triple) (r : Result (Unit {0}) Fault) → r ≡ check_strings_used d ts
     → IsTrue (is_ok r) ↔ AllUsed d ts
 decided d ts (Ok u) is = (λ t. (strings_exact d ts).found u (sym is), λ h. refl)
 decided d ts (Err e) is = (λ t. absurd cc, λ h. let k = is ∙ all_only d ts h in absurd cc)
 
 pub layout_decided : (l : Layout) (g : Graph) (r : Result (Unit {0}) Fault) → parts_of_graph g ≡ parts_of_layout l
-    → r ≡ check_strings_used (parts_dictionary (parts_of_graph g)) (graph_view g).triples
+    → r ≡ check_strings_used (parts_of_graph g).dictionary (graph_view g).triples
     → IsTrue (is_ok r) ↔ IsTight (layout_view l)
 unfolding graph_view layout_view
 layout_decided l g r same is =
     let p = parts_of_layout l in
     decided p.dictionary (triples_of p.triples) r
-    (is ∙ ap (λ (q : LayoutParts). check_strings_used q.dictionary (triples_of q.triples)) same)
+    (is ∙ ap (λ (q : FileParts). check_strings_used q.dictionary (triples_of q.triples)) same)

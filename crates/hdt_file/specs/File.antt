@@ -5,21 +5,23 @@ use Rattle.hdt_wire.specs.declared.fault.Fault.{Fault}
 use Rattle.hdt_wire.specs.declared.fault.Reason.TheVariants.{TrailingBytes}
 use Rattle.hdt_wire.specs.Checks.{◌>>=◌, demand}
 use Rattle.hdt_wire.specs.Exact.{viewed}
-use Rattle.hdt_dict.specs.Dictionary.{DictionaryParts, SectionLists, IsDictionaryAt, lists_of_dictionary, role_strings}
+use Rattle.hdt_dict.specs.Dictionary.{DictionaryParts, SectionLists, IsDictionaryAt, dictionary_at}
+use Rattle.hdt_dict.specs.Dictionary.{lists_of_dictionary, role_strings}
 use Rattle.hdt_wire.specs.declared.Role.TheVariants.{Subject, Predicate, Object}
-use Rattle.hdt_triples.specs.TripleSequences.{Triple, triples_of}
+use Rattle.hdt_triples.specs.TripleSequences.{BitmapTriples, Triple, triples_of}
 use Rattle.hdt_triples.specs.declared.pattern.Counts.{Counts}
-use Rattle.hdt_triples.specs.Triples.{TripleParts, bitmap_triples, IsTriplesAt, decode_triple_parts}
-use Rattle.hdt_file.specs.Head.{HeadParts, IsHead}
-use Rattle.hdt_file.specs.Dictionary.{decode_head_and_dictionary}
+use Rattle.hdt_triples.specs.Triples.{TripleParts, IsTriplesAt}
+use Rattle.hdt_triples.specs.Views.{decode_triples, triple_parts_view}
+use Rattle.hdt_file.specs.Head.{HeadParts, IsHead, decode_head}
 
--- a file, decoded
+-- a file, decoded: the bitmaps and arrays of its triples, and the width in bits of an entry of either array
 pub record FileParts : Type 0 where
   pub head : HeadParts
   pub dictionary : DictionaryParts
-  pub triples : TripleParts
+  pub triples : BitmapTriples
+  pub widths : ℕ × ℕ
 
--- the number of strings of each role
+-- the number of strings of each role: the IDs of a role are 1 to this number
 abbrev pub role_counts : SectionLists → Counts
 role_counts d = record {
   subjects = length (role_strings d Subject);
@@ -27,24 +29,22 @@ role_counts d = record {
   objects = length (role_strings d Object);
 }
 
--- the number of strings of each role: the IDs of a role are 1 to this number
-abbrev pub dictionary_counts : DictionaryParts → Counts
-dictionary_counts d = role_counts (lists_of_dictionary d)
-
 -- the bytes, all of them, encode the file
 pub record IsFile (file : FileParts) (bytes : List ℕ) : Type 0 where
   pub head : IsHead file.head bytes
   pub dictionary : IsDictionaryAt file.dictionary bytes file.head.end
-  pub triples : IsTriplesAt (dictionary_counts file.dictionary) file.triples bytes file.dictionary.objects.end
-  pub end : file.triples.array_z.end ≡ length bytes
+  pub section : TripleParts
+  pub triples : IsTriplesAt (role_counts (lists_of_dictionary file.dictionary)) section bytes file.dictionary.objects.end
+  pub view : triple_parts_view section ≡ (file.triples, file.widths, length bytes)
 
 -- decodes a file, or returns the first error
 unfoldable pub decode_file : List ℕ → Result FileParts Fault
 decode_file bytes = do
-  front ← decode_head_and_dictionary bytes
-  triples ← decode_triple_parts (dictionary_counts front.dictionary) bytes front.dictionary.objects.end
-  _ ← demand (triples.array_z.end == length bytes) triples.array_z.end TrailingBytes
-  Ok (record { head = front.head; dictionary = front.dictionary; triples = triples })
+  head ← decode_head bytes
+  dictionary ← dictionary_at bytes head.end
+  t ← decode_triples (role_counts (lists_of_dictionary dictionary)) bytes dictionary.objects.end
+  _ ← demand (t.2 == length bytes) t.2 TrailingBytes
+  Ok (record { head = head; dictionary = dictionary; triples = t.0; widths = t.1 })
 
 -- ---- the graph of a file
 
@@ -56,18 +56,14 @@ pub record GraphParts : Type 0 where
 
 -- the graph of a decoded file
 abbrev pub graph_of_file : FileParts → GraphParts
-graph_of_file file = record {
-  header = file.head.body;
-  dictionary = lists_of_dictionary file.dictionary;
-  triples =
-      triples_of (bitmap_triples file.triples);
-}
+graph_of_file f =
+    record { header = f.head.body; dictionary = lists_of_dictionary f.dictionary; triples = triples_of f.triples }
 
 -- the bytes are a valid encoding of the graph
 pub record IsLayout (bytes : List ℕ) (graph : GraphParts) : Type 0 where
   pub file : FileParts
-  pub is : IsFile file bytes
-  pub of : graph_of_file file ≡ graph
+  pub encoded : IsFile file bytes
+  pub denotes : graph_of_file file ≡ graph
 
 -- decodes a file and returns its graph, or the first error: the first check that fails
 unfoldable pub decode_graph : List ℕ → Result GraphParts Fault

@@ -16,7 +16,7 @@ use Rattle.std.specs.List.{list_all}
 use Rattle.std.specs.Str.Parse.{IsNumeral, digits_value}
 
 -- the text is one digit or more and has the value v; leading zeros are allowed
-pub record Decimal (text : List ℕ) (v : ℕ) : Type 0 where
+pub record IsDecimalOf (text : List ℕ) (v : ℕ) : Type 0 where
   pub digits : IsNumeral 10 text
   pub value : digits_value 10 text ≡ v
 
@@ -42,13 +42,13 @@ head_parts h = record { global = control_view h.global; header = control_view h.
 
 -- the property `length` has the value n
 abbrev pub StatesLength : List ℕ → ℕ → Type 0
-StatesLength properties n = IsSomeAnd (property_value properties (codes "length")) (λ text. Decimal text n)
+StatesLength properties n = IsSomeAnd (property_value properties (codes "length")) (λ text. IsDecimalOf text n)
 
 -- the head is encoded at the start of the bytes; anything may follow
 pub record IsHead (head : HeadParts) (bytes : List ℕ) : Type 0 where
   pub global : IsControlAt Global head.global bytes 0
   pub header : IsControlAt Header head.header bytes head.global.end
-  pub length : StatesLength head.header.properties (length head.body)
+  pub stated : StatesLength head.header.properties (length head.body)
   pub body : HasSlice bytes head.header.end head.body head.end
 
 -- the value of the property `length`, or an error if it is missing or not a decimal number below 2 ^ 64

@@ -1,13 +1,8 @@
 -- The sizes of a file's parts.
-use Rattle.std.specs.Prelude.{◌≡◌, ℕ, ◌+◌, ◌-◌, List, [], ◌∷◌, length, Result, Ok}
-use Rattle.hdt_wire.specs.declared.fault.Fault.{Fault}
-use Rattle.hdt_wire.specs.declared.control.Kind.TheVariants as kinds
-use Rattle.hdt_wire.specs.Checks.{◌>>=◌}
-use Rattle.hdt_wire.specs.Control.{control_at}
+use Rattle.std.specs.Prelude.{◌≡◌, ℕ, ◌+◌, ◌-◌, List, [], ◌∷◌, length}
 use Rattle.hdt_front.specs.Section.{SectionParts}
 use Rattle.hdt_dict.specs.Dictionary.{DictionaryParts}
-use Rattle.hdt_file.specs.File.{FileParts, IsFile}
-use Rattle.hdt_file.specs.Graph.{LayoutParts, decode_parts, graph_of_parts, parts_of_file}
+use Rattle.hdt_file.specs.File.{FileParts, IsFile, graph_of_file}
 use Rattle.hdt_file.specs.declared.info.SectionInfo.{SectionInfo}
 use Rattle.hdt_file.specs.declared.info.DictionaryInfo.{DictionaryInfo}
 use Rattle.hdt_file.specs.declared.info.FileInfo.{FileInfo}
@@ -37,24 +32,17 @@ dictionary_info d at = record {
 }
 
 -- the sizes of the parts of a file of so many bytes, the first section of which begins at the offset
-abbrev pub file_info : ℕ → LayoutParts → ℕ → FileInfo
-file_info bytes p at = record {
+abbrev pub file_info : ℕ → FileParts → ℕ → FileInfo
+file_info bytes f at = record {
   bytes = bytes;
-  header_bytes = length p.head.body;
-  triples = length (graph_of_parts p).triples;
-  dictionary = dictionary_info p.dictionary at;
-  entry_bits = record { bitmap_y = 1; bitmap_z = 1; array_y = p.widths.0; array_z = p.widths.1 };
+  header_bytes = length f.head.body;
+  triples = length (graph_of_file f).triples;
+  dictionary = dictionary_info f.dictionary at;
+  entry_bits = record { bitmap_y = 1; bitmap_z = 1; array_y = f.widths.0; array_z = f.widths.1 };
 }
 
 -- the bytes encode a file whose parts have these sizes
 pub record IsFileInfo (info : FileInfo) (bytes : List ℕ) : Type 0 where
   pub file : FileParts
-  pub is : IsFile file bytes
-  pub info_is : info ≡ file_info (length bytes) (parts_of_file file) is.dictionary.control.end
-
--- the sizes of the parts of the file, or its first error
-unfoldable pub decode_info : List ℕ → Result FileInfo Fault
-decode_info bytes = do
-  parts ← decode_parts bytes
-  control ← control_at kinds.Dictionary bytes parts.head.end
-  Ok (file_info (length bytes) parts control.end)
+  pub encoded : IsFile file bytes
+  pub info_is : info ≡ file_info (length bytes) file encoded.dictionary.control.end

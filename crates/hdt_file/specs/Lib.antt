@@ -15,7 +15,6 @@ pub mod TermFlags
 pub mod Text
 pub mod TextWriting
 pub mod Tight
-pub mod Laws
 pub mod Inside
 pub mod CachedTerms
 pub mod TextStreaming

@@ -40,6 +40,6 @@ pub record AreNonTerms (d : DictionaryParts) (found : List NonTerm) : Type 0 whe
 -- the bytes encode a file with these counts, of whose strings exactly these are not terms
 pub record IsTermVerdict (bytes : List ℕ) (verdict : TermVerdict) : Type 0 where
   pub file : FileParts
-  pub is : IsFile file bytes
+  pub encoded : IsFile file bytes
   pub counts : verdict.counts ≡ graph_counts (graph_of_file file)
   pub non_terms : AreNonTerms file.dictionary verdict.non_terms.items

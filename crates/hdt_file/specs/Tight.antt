@@ -9,8 +9,7 @@ use Rattle.hdt_wire.specs.Checks.{◌>>=◌, demand}
 use Rattle.hdt_wire.specs.ItemChecks.{checks_from}
 use Rattle.hdt_front.specs.Section.{string_offset}
 use Rattle.hdt_dict.specs.Dictionary.{DictionaryParts, section_by_id, role_strings}
-use Rattle.hdt_triples.specs.TripleSequences.{Triple, triples_of}
-use Rattle.hdt_triples.specs.Triples.{bitmap_triples}
+use Rattle.hdt_triples.specs.TripleSequences.{Triple}
 use Rattle.hdt_triples.specs.Uses.{Uses, uses}
 use Rattle.hdt_dict.specs.declared.dictionary.SectionId.{SectionId}
 use Rattle.hdt_dict.specs.declared.dictionary.SectionId.TheVariants as parts
@@ -57,5 +56,5 @@ check_strings_used d ts = do
 unfoldable pub decode_tight_graph : List ℕ → Result GraphParts Fault
 decode_tight_graph bytes = do
   file ← decode_file bytes
-  _ ← check_strings_used file.dictionary (triples_of (bitmap_triples file.triples))
+  _ ← check_strings_used file.dictionary (graph_of_file file).triples
   Ok (graph_of_file file)

@@ -3,11 +3,11 @@ ghost use Rattle.std.specs.Prelude.{◌≡◌, ◌≤◌, ℕ, List, ◌<◌, �
 ghost use Rattle.hdt_wire.specs.Checks.{ReadsUnlessOom, IsBytes};
 ghost use Rattle.hdt_wire.specs.Exact.{Exactly};
 ghost use Rattle.hdt_wire.specs.declared.Role.{Role};
-ghost use Rattle.hdt_dict.specs.Dictionary.{lists_of_dictionary, role_strings};
+ghost use Rattle.hdt_dict.specs.Dictionary.{DictionaryParts, lists_of_dictionary, role_strings};
 ghost use Rattle.hdt_dict.specs.Views.{dictionary_of};
 ghost use Rattle.hdt_file.specs.Faults.{open_fault_of};
-ghost use Rattle.hdt_file.specs.Dictionary.{HeadAndDictionary, IsHeadAndDictionary, head_and_dictionary_of};
-ghost use Rattle.hdt_file.specs.Dictionary.{decode_head_and_dictionary};
+ghost use Rattle.hdt_file.specs.Dictionary.{IsHeadAndDictionary, front_view, decode_head_and_dictionary};
+ghost use Rattle.hdt_file.specs.Head.{HeadParts};
 
 use crate::fault::OpenFault;
 use crate::head::{Head, read_head};
@@ -20,7 +20,7 @@ fn read_by_checks<'a>(
     alloc: Global,
     bytes: &'a [u8],
 ) -> Result<(Head<'a>, Dictionary<'a>, usize), OpenFault>
-    ensures exact { ReadsUnlessOom open_fault_of head_and_dictionary_of result (decode_head_and_dictionary bytes.now) }
+    ensures exact { ReadsUnlessOom open_fault_of front_view result (decode_head_and_dictionary bytes.now) }
     ensures next { IfOk result (λ r. r.2 ≡ (dictionary_of r.1).objects.end) }
     ensures few { IfOk result (λ r. (role : Role) → length (role_strings (lists_of_dictionary (dictionary_of r.1)) role)
         ≤ length bytes.now) }
@@ -46,12 +46,12 @@ pub fn read_dictionary<'a>(
     bytes: &'a [u8],
 ) -> Result<(Head<'a>, Dictionary<'a>, usize), OpenFault>
     // What is returned is encoded at the start of the file.
-    ensures found { IfOk result (λ r. IsHeadAndDictionary (head_and_dictionary_of r) bytes.now) }
+    ensures found { IfOk result (λ r. IsHeadAndDictionary (front_view r) bytes.now) }
     // What is encoded there is returned, unless memory ran out.
-    ensures only { (front : HeadAndDictionary) → IsHeadAndDictionary front bytes.now
-        → ReadsUnlessOom open_fault_of head_and_dictionary_of result (Ok front) }
+    ensures only { (front : HeadParts × DictionaryParts) → IsHeadAndDictionary front bytes.now
+        → ReadsUnlessOom open_fault_of front_view result (Ok front) }
     // Otherwise it is the first error.
-    ensures exact { ReadsUnlessOom open_fault_of head_and_dictionary_of result (decode_head_and_dictionary bytes.now) }
+    ensures exact { ReadsUnlessOom open_fault_of front_view result (decode_head_and_dictionary bytes.now) }
     ensures next { IfOk result (λ r. r.2 ≡ (dictionary_of r.1).objects.end) }
     // A role has at most as many strings as the input has bytes.
     ensures few { IfOk result (λ r. (role : Role) → length (role_strings (lists_of_dictionary (dictionary_of r.1)) role)

@@ -1,8 +1,9 @@
 //! The graph of a file.
 ghost use Rattle.std.specs.Prelude.{◌≡◌, ℕ, length, IfOk};
+ghost use Rattle.hdt_dict.specs.Dictionary.{lists_of_dictionary};
 ghost use Rattle.hdt_dict.specs.Views.{dictionary_of};
 ghost use Rattle.hdt_triples.specs.IndexViews.{string_counts, triples_listed};
-ghost use Rattle.hdt_file.specs.File.{dictionary_counts};
+ghost use Rattle.hdt_file.specs.File.{role_counts};
 
 use crate::head::Head;
 use crate::layout::Layout;
@@ -26,7 +27,7 @@ pub struct Graph<'a> {
     pub(crate) head: Head<'a>,
     pub(crate) dictionary: Dictionary<'a>,
     pub(crate) triples: ListedTriples<'a>,
-    ghost roles: { string_counts (triples_listed triples) ≡ dictionary_counts (dictionary_of dictionary) },
+    ghost roles: { string_counts (triples_listed triples) ≡ role_counts (lists_of_dictionary (dictionary_of dictionary)) },
 }
 
 #[tactic(auto, unfolding(crate::specs::Graph::graph_view, crate::specs::Graph::parts_of_graph))]
@@ -36,7 +37,7 @@ impl<'a> Graph<'a> {
     ghost use Rattle.hdt_dict.specs.Ids.{string_at_id, AppendsString};
     ghost use Rattle.hdt_dict.specs.Prefixes.{IsInRanges, RangesAscend, SomeBeginsWith};
     ghost use Rattle.hdt_triples.specs.Uses.{Uses};
-    ghost use Rattle.hdt_file.specs.Graph.{IsGraph, layout_view, parts_dictionary, parts_held, parts_of_graph};
+    ghost use Rattle.hdt_file.specs.Graph.{IsGraph, layout_view, parts_held, parts_of_graph};
     ghost use Rattle.hdt_file.specs.Graph.{parts_of_layout, graph_view};
     ghost use Rattle.hdt_dict.specs.Cost.{role_decode_cost, role_search_cost};
     ghost use Rattle.hdt_dict.specs.Dictionary.{role_strings};
@@ -130,7 +131,7 @@ impl<'a> Graph<'a> {
     pub fn number_of(&self, role: Role, x: &[u8], steps: &mut Steps) -> Option<u64>
         ensures exact { (n : ℕ) → (result ≡ Some n)
             ↔ (string_at_id (role_strings (graph_view self.now).dictionary role) n ≡ Some x.now) }
-        ensures cost { steps.new ≤ steps.old + role_search_cost (parts_dictionary (parts_of_graph self.now)) role }
+        ensures cost { steps.new ≤ steps.old + role_search_cost (parts_of_graph self.now).dictionary role }
         ensures more { steps.old ≤ steps.new }
     {
         self.dictionary.number_of(role, x, steps)
@@ -143,7 +144,7 @@ impl<'a> Graph<'a> {
         ensures exact { (n : ℕ) → IsInRanges result n
             ↔ SomeBeginsWith prefix.now (string_at_id (role_strings (graph_view self.now).dictionary role) n) }
         ensures ascend { RangesAscend result (length (role_strings (graph_view self.now).dictionary role)) }
-        ensures cost { steps.new ≤ steps.old + 2 * role_search_cost (parts_dictionary (parts_of_graph self.now)) role }
+        ensures cost { steps.new ≤ steps.old + 2 * role_search_cost (parts_of_graph self.now).dictionary role }
         ensures more { steps.old ≤ steps.new }
     {
         self.dictionary.ids_with_prefix(role, prefix, steps)
@@ -162,7 +163,7 @@ impl<'a> Graph<'a> {
             (string_at_id (role_strings (graph_view self.now).dictionary role) n) appended
             out.old.items out.new.items) }
         ensures err { OnErr result (out.new.items ≡ out.old.items) }
-        ensures cost { steps.new ≤ steps.old + role_decode_cost (parts_dictionary (parts_of_graph self.now)) role }
+        ensures cost { steps.new ≤ steps.old + role_decode_cost (parts_of_graph self.now).dictionary role }
         ensures absent { string_at_id (role_strings (graph_view self.now).dictionary role) n ≡ None → IsOk result }
         ensures more { steps.old ≤ steps.new }
     {
@@ -188,7 +189,7 @@ impl<'a> Graph<'a> {
             out.old.items out.new.items ends.old.items ends.new.items) }
         ensures err { OnErr result ((out.new.items ≡ out.old.items) × (ends.new.items ≡ ends.old.items)) }
         ensures cost { steps.new ≤ steps.old + length numbers.now * role_decode_cost
-            (parts_dictionary (parts_of_graph self.now)) role }
+            (parts_of_graph self.now).dictionary role }
         ensures once { (n : ℕ) → AscendTo numbers.now n → steps.new ≤ steps.old + n }
         ensures more { steps.old ≤ steps.new }
         ensures absent { (AreIds (role_strings (graph_view self.now).dictionary role) numbers.now → ⊥) → IsOk result }

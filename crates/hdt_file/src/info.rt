@@ -4,9 +4,9 @@ ghost use Rattle.hdt_wire.specs.Checks.{ReadsUnlessOom};
 ghost use Rattle.hdt_front.specs.Strings.{section_of, strings_of};
 ghost use Rattle.hdt_dict.specs.Views.{dictionary_of};
 ghost use Rattle.hdt_file.specs.Faults.{open_fault_of};
-ghost use Rattle.hdt_file.specs.File.{decode_graph};
-ghost use Rattle.hdt_file.specs.Graph.{decode_parts, parts_of_layout};
-ghost use Rattle.hdt_file.specs.Info.{IsFileInfo, total_len, section_info, dictionary_info, file_info, decode_info};
+ghost use Rattle.hdt_file.specs.File.{decode_file, decode_graph};
+ghost use Rattle.hdt_file.specs.Graph.{parts_of_layout};
+ghost use Rattle.hdt_file.specs.Info.{IsFileInfo, total_len, section_info, dictionary_info, file_info};
 
 use crate::fault::OpenFault;
 use crate::layout::Layout;
@@ -144,35 +144,19 @@ fn part_sizes(
     })
 }
 
-/// The sizes of the parts of a file that was read from these bytes, one check after another.
-#[tactic(auto, unfolding(crate::specs::Info::decode_info, crate::specs::Graph::parts_of_layout, crate::specs::Head::head_parts, hdt_wire::specs::Control::control_view))]
-fn info_by_checks(alloc: Global, layout: &Layout<'_>, bytes: &[u8]) -> Result<FileInfo, OpenFault>
-    requires { decode_parts bytes.now ≡ Ok (parts_of_layout layout.now) }
-    ensures { ReadsUnlessOom open_fault_of (λ info. info) result (decode_info bytes.now) }
-{
-    let control = read_control(bytes, layout.head.end(), Kind::Dictionary)?;
-    Ok(part_sizes(alloc, layout, bytes.len() as u64, control.end())?)
-}
-
 /// Returns what [`file_info`] returns for the bytes that a layout was read from, which are not verified again.
 ///
 /// # Errors
 ///
 /// [`OpenFault::OutOfMemory`].
+#[tactic(auto, unfolding(crate::specs::Graph::parts_of_layout, crate::specs::Head::head_parts, hdt_wire::specs::Control::control_view))]
 pub fn layout_info(alloc: Global, layout: &Layout<'_>, bytes: &[u8]) -> Result<FileInfo, OpenFault>
-    requires { decode_parts bytes.now ≡ Ok (parts_of_layout layout.now) }
+    requires { decode_file bytes.now ≡ Ok (parts_of_layout layout.now) }
     ensures found { IfOk result (λ info. IsFileInfo info bytes.now) }
     ensures err { IfErr result (λ e. IfSome (open_fault_of e) (λ fault. decode_graph bytes.now ≡ Err fault)) }
 {
-    info_by_checks(alloc, layout, bytes)
-}
-
-/// Reads a file, one check after another.
-#[tactic(auto, unfolding(crate::specs::Info::decode_info))]
-fn read_by_checks(alloc: Global, bytes: &[u8]) -> Result<FileInfo, OpenFault>
-    ensures { ReadsUnlessOom open_fault_of (λ info. info) result (decode_info bytes.now) }
-{
-    info_by_checks(alloc, &Layout::read(alloc, bytes)?, bytes)
+    let control = read_control(bytes, layout.head.end(), Kind::Dictionary)?;
+    Ok(part_sizes(alloc, layout, bytes.len() as u64, control.end())?)
 }
 
 /// Verifies a file as [`verify`](crate::verify) does, and returns the sizes of its parts.
@@ -197,5 +181,5 @@ pub fn file_info(alloc: Global, bytes: &[u8]) -> Result<FileInfo, OpenFault>
     // Otherwise it is the first error of the file.
     ensures err { IfErr result (λ e. IfSome (open_fault_of e) (λ fault. decode_graph bytes.now ≡ Err fault)) }
 {
-    read_by_checks(alloc, bytes)
+    layout_info(alloc, &Layout::read(alloc, bytes)?, bytes)
 }

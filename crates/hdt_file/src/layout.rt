@@ -1,12 +1,12 @@
 //! A file without indexes.
 ghost use Rattle.std.specs.Prelude.{◌≡◌, ℕ, length, IfOk, Ok};
+ghost use Rattle.hdt_dict.specs.Dictionary.{lists_of_dictionary};
 ghost use Rattle.hdt_dict.specs.Views.{dictionary_of};
 ghost use Rattle.hdt_triples.specs.IndexViews.{string_counts};
-ghost use Rattle.hdt_file.specs.File.{dictionary_counts};
+ghost use Rattle.hdt_file.specs.File.{role_counts};
 
-use crate::dictionary::read_dictionary;
 use crate::fault::OpenFault;
-use crate::head::Head;
+use crate::head::{Head, read_head};
 use hdt_dict::{Dictionary, PrefixRanges, Role, RoleIter, RoleSeeker};
 use hdt_seq::Steps;
 use hdt_triples::{Counts, Matches, Pattern, Triples};
@@ -28,12 +28,12 @@ pub struct Layout<'a> {
     pub(crate) head: Head<'a>,
     pub(crate) dictionary: Dictionary<'a>,
     pub(crate) triples: Triples<'a>,
-    ghost roles: { string_counts triples ≡ dictionary_counts (dictionary_of dictionary) },
+    ghost roles: { string_counts triples ≡ role_counts (lists_of_dictionary (dictionary_of dictionary)) },
 }
 
 /// The number of strings of each role of a dictionary.
-fn dictionary_counts(dictionary: &Dictionary<'_>) -> Counts
-    ensures { result ≡ dictionary_counts (dictionary_of dictionary.now) }
+fn role_counts(dictionary: &Dictionary<'_>) -> Counts
+    ensures { result ≡ role_counts (lists_of_dictionary (dictionary_of dictionary.now)) }
 {
     Counts {
         subjects: dictionary.count(Role::Subject),
@@ -52,22 +52,22 @@ impl<'a> Layout<'a> {
     ghost use Rattle.hdt_triples.specs.Remaining.{remaining_matches, step_limit};
     ghost use Rattle.hdt_triples.specs.Patterns.{matches};
     ghost use Rattle.hdt_file.specs.Faults.{open_fault_of};
-    ghost use Rattle.hdt_file.specs.File.{GraphParts, IsLayout, decode_graph};
-    ghost use Rattle.hdt_file.specs.Graph.{layout_view, parts_bitmap, parts_dictionary, decode_parts, parts_of_layout};
+    ghost use Rattle.hdt_file.specs.File.{GraphParts, IsLayout, decode_file, decode_graph};
+    ghost use Rattle.hdt_file.specs.Graph.{layout_view, parts_of_layout};
     ghost use Rattle.hdt_file.specs.Graph.{graph_counts};
     ghost use Rattle.hdt_dict.specs.Cost.{role_decode_cost, role_search_cost};
-    ghost use Rattle.hdt_file.specs.Laws.LayoutParts.{parts_by_checks};
     ghost use Rattle.hdt_file.specs.Search.{IsPatternPart, IsPattern, pattern_steps, part_steps};
     ghost use Rattle.hdt_file.specs.TextWriting.{matches_if_given};
     ghost use Rattle.hdt_dict.specs.Dictionary.{role_strings};
 
     /// Reads a file, one check after another.
-    #[tactic(auto, unfolding(crate::specs::Laws::LayoutParts::parts_by_checks, crate::specs::Graph::parts_of_layout))]
+    #[tactic(auto, unfolding(crate::specs::File::decode_file, crate::specs::Graph::parts_of_layout))]
     fn read_by_checks(alloc: Global, bytes: &'a [u8]) -> Result<Layout<'a>, OpenFault>
-        ensures { ReadsUnlessOom open_fault_of parts_of_layout result (parts_by_checks bytes.now) }
+        ensures { ReadsUnlessOom open_fault_of parts_of_layout result (decode_file bytes.now) }
     {
-        let (head, dictionary, at) = read_dictionary(alloc, bytes)?;
-        let (triples, end) = Triples::read(bytes, at, dictionary_counts(&dictionary))?;
+        let head = read_head(bytes)?;
+        let (dictionary, at) = Dictionary::read(alloc, bytes, head.end())?;
+        let (triples, end) = Triples::read(bytes, at, role_counts(&dictionary))?;
         demand(end == bytes.len(), end, Reason::TrailingBytes)?;
         Ok(Layout {
             head,
@@ -87,7 +87,7 @@ impl<'a> Layout<'a> {
         // Otherwise it is the first error.
         ensures exact { ReadsUnlessOom open_fault_of layout_view result (decode_graph bytes.now) }
         // Its parts are those that the bytes encode.
-        ensures parts { ReadsUnlessOom open_fault_of parts_of_layout result (decode_parts bytes.now) }
+        ensures parts { ReadsUnlessOom open_fault_of parts_of_layout result (decode_file bytes.now) }
     {
         Layout::read_by_checks(alloc, bytes)
     }
@@ -132,7 +132,7 @@ impl<'a> Layout<'a> {
     pub fn number_of(&self, role: Role, x: &[u8], steps: &mut Steps) -> Option<u64>
         ensures exact { (n : ℕ) → (result ≡ Some n)
             ↔ (string_at_id (role_strings (layout_view self.now).dictionary role) n ≡ Some x.now) }
-        ensures cost { steps.new ≤ steps.old + role_search_cost (parts_dictionary (parts_of_layout self.now)) role }
+        ensures cost { steps.new ≤ steps.old + role_search_cost (parts_of_layout self.now).dictionary role }
         ensures more { steps.old ≤ steps.new }
     {
         self.dictionary.number_of(role, x, steps)
@@ -145,7 +145,7 @@ impl<'a> Layout<'a> {
         ensures exact { (n : ℕ) → IsInRanges result n
             ↔ SomeBeginsWith prefix.now (string_at_id (role_strings (layout_view self.now).dictionary role) n) }
         ensures ascend { RangesAscend result (length (role_strings (layout_view self.now).dictionary role)) }
-        ensures cost { steps.new ≤ steps.old + 2 * role_search_cost (parts_dictionary (parts_of_layout self.now)) role }
+        ensures cost { steps.new ≤ steps.old + 2 * role_search_cost (parts_of_layout self.now).dictionary role }
         ensures more { steps.old ≤ steps.new }
     {
         self.dictionary.ids_with_prefix(role, prefix, steps)
@@ -164,7 +164,7 @@ impl<'a> Layout<'a> {
             (string_at_id (role_strings (layout_view self.now).dictionary role) n) appended
             out.old.items out.new.items) }
         ensures err { OnErr result (out.new.items ≡ out.old.items) }
-        ensures cost { steps.new ≤ steps.old + role_decode_cost (parts_dictionary (parts_of_layout self.now)) role }
+        ensures cost { steps.new ≤ steps.old + role_decode_cost (parts_of_layout self.now).dictionary role }
         ensures absent { string_at_id (role_strings (layout_view self.now).dictionary role) n ≡ None → IsOk result }
         ensures more { steps.old ≤ steps.new }
     {
@@ -177,7 +177,7 @@ impl<'a> Layout<'a> {
         ensures exact { (n : Option ℕ) → (result ≡ Some n)
             ↔ IsPatternPart (role_strings (layout_view self.now).dictionary role) given.entry n }
         ensures cost { steps.new ≤ steps.old + part_steps
-            (parts_dictionary (parts_of_layout self.now)) role given.entry }
+            (parts_of_layout self.now).dictionary role given.entry }
         ensures more { steps.old ≤ steps.new }
     {
         match given {
@@ -191,7 +191,7 @@ impl<'a> Layout<'a> {
     pub fn pattern(&self, given: [Option<&[u8]>; 3], steps: &mut Steps) -> Option<Pattern>
         // It is p if and only if p has the IDs of the given strings.
         ensures exact { (p : Pattern) → (result ≡ Some p) ↔ IsPattern (layout_view self.now) given.entry p }
-        ensures cost { steps.new ≤ steps.old + pattern_steps (parts_dictionary (parts_of_layout self.now)) given.entry }
+        ensures cost { steps.new ≤ steps.old + pattern_steps (parts_of_layout self.now).dictionary given.entry }
         ensures more { steps.old ≤ steps.new }
     {
         let [s, p, o] = given;
@@ -229,7 +229,7 @@ impl<'a> Layout<'a> {
     /// steps each, until `most` are counted, unless nothing is given. It allocates nothing.
     pub fn matching_up_to(&self, pattern: Pattern, most: u64, steps: &mut Steps) -> u64
         ensures is { result ≡ min most (length (matches pattern (layout_view self.now).triples)) }
-        ensures cost { steps.new ≤ steps.old + scan_steps (parts_bitmap (parts_of_layout self.now)) pattern }
+        ensures cost { steps.new ≤ steps.old + scan_steps (parts_of_layout self.now).triples pattern }
         ensures more { steps.old ≤ steps.new }
     {
         self.triples.matching_up_to(pattern, most, steps)
@@ -239,7 +239,7 @@ impl<'a> Layout<'a> {
     /// given. It allocates nothing.
     pub fn matching(&self, pattern: Pattern, steps: &mut Steps) -> u64
         ensures is { result ≡ length (matches pattern (layout_view self.now).triples) }
-        ensures cost { steps.new ≤ steps.old + scan_steps (parts_bitmap (parts_of_layout self.now)) pattern }
+        ensures cost { steps.new ≤ steps.old + scan_steps (parts_of_layout self.now).triples pattern }
         ensures more { steps.old ≤ steps.new }
     {
         self.triples.matching(pattern, steps)

@@ -4,7 +4,7 @@ ghost use Rattle.hdt_file.specs.Faults.{open_fault_of};
 ghost use Rattle.hdt_file.specs.File.{decode_graph};
 ghost use Rattle.hdt_dict.specs.Dictionary.{section_by_id};
 ghost use Rattle.hdt_dict.specs.Views.{dictionary_of};
-ghost use Rattle.hdt_file.specs.Graph.{graph_counts, layout_view, parts_dictionary, parts_of_layout};
+ghost use Rattle.hdt_file.specs.Graph.{graph_counts, layout_view, parts_of_layout};
 ghost use Rattle.hdt_file.specs.declared.non_terms.NonTerm.{NonTerm as NonTermOf};
 ghost use Rattle.hdt_file.specs.NonTerms.{AreNonTerms, AreNonTermsOf, IsTermVerdict};
 ghost use Rattle.hdt_file.specs.Tight.{IsTightLayout, decode_tight_graph};
@@ -73,7 +73,7 @@ fn append_non_terms(
 /// The strings of a file that are not terms which their roles allow. Linear time: each string of each role is decoded
 /// once.
 fn non_terms(alloc: Global, layout: &Layout<'_>) -> Result<Vec<NonTerm>, AllocError>
-    ensures { IfOk result (λ found. AreNonTerms (parts_dictionary (parts_of_layout layout.now)) found.items) }
+    ensures { IfOk result (λ found. AreNonTerms (parts_of_layout layout.now).dictionary found.items) }
 {
     let [_, shared, _, _, _] = layout.lens();
     let dictionary = &layout.dictionary;
@@ -89,7 +89,7 @@ fn non_terms(alloc: Global, layout: &Layout<'_>) -> Result<Vec<NonTerm>, AllocEr
 /// The counts of a file that was read, and its strings that are not terms.
 fn term_verdict(alloc: Global, layout: &Layout<'_>) -> Result<TermVerdict, AllocError>
     ensures counts { IfOk result (λ verdict. verdict.counts ≡ graph_counts (layout_view layout.now)) }
-    ensures found { IfOk result (λ verdict. AreNonTerms (parts_dictionary (parts_of_layout layout.now))
+    ensures found { IfOk result (λ verdict. AreNonTerms (parts_of_layout layout.now).dictionary
         verdict.non_terms.items) }
 {
     Ok(TermVerdict {

@@ -4,9 +4,9 @@ ghost use Rattle.hdt_wire.specs.Exact.{Exactly, UniqueFault, UniqueValue, IsView
 ghost use Rattle.hdt_wire.specs.Checks.{ReadsUnlessOom, IsBytes};
 ghost use Rattle.hdt_file.specs.Faults.{open_fault_of};
 ghost use Rattle.hdt_file.specs.declared.fault.OpenFault.TheVariants as opens;
-ghost use Rattle.hdt_file.specs.File.{FileParts, IsFile, GraphParts, IsLayout, decode_graph};
-ghost use Rattle.hdt_file.specs.Graph.{IsGraph, layout_view, graph_of_parts, parts_of_file, decode_parts};
-ghost use Rattle.hdt_file.specs.Graph.{parts_of_graph, parts_of_layout, graph_view, graph_counts};
+ghost use Rattle.hdt_file.specs.File.{FileParts, IsFile, GraphParts, IsLayout, decode_file, decode_graph};
+ghost use Rattle.hdt_file.specs.Graph.{IsGraph, layout_view, parts_of_graph, parts_of_layout, graph_view};
+ghost use Rattle.hdt_file.specs.Graph.{graph_counts};
 
 use crate::fault::OpenFault;
 use crate::graph::Graph;
@@ -51,7 +51,7 @@ pub fn open<'a>(alloc: Global, bytes: &'a [u8]) -> Result<Graph<'a>, OpenFault>
     // Otherwise it is the first error.
     ensures exact { ReadsUnlessOom open_fault_of graph_view result (decode_graph bytes.now) }
     // Its parts are those that the bytes encode; the costs of its calls depend on them.
-    ensures parts { ReadsUnlessOom open_fault_of parts_of_graph result (decode_parts bytes.now) }
+    ensures parts { ReadsUnlessOom open_fault_of parts_of_graph result (decode_file bytes.now) }
 {
     let layout = Layout::read(alloc, bytes)?;
     Ok(index_layout(alloc, layout)?)
@@ -72,9 +72,8 @@ pub fn verify(alloc: Global, bytes: &[u8]) -> Result<[u64; 5], OpenFault>
     Ok(layout.lens())
 }
 
-/// Bytes encode at most one graph. Either they encode one, or they have a first error. The parts of a file are those of
-/// its graph.
-#[tactic(auto, using(crate::proofs::FileLaws::layout_exact, crate::proofs::FileLaws::layout_unique, crate::proofs::FileLaws::file_unique, crate::proofs::FileLaws::layout_or_fault, crate::proofs::FileLaws::file_parts, crate::specs::Laws::LayoutParts::graph_is))]
+/// Bytes encode at most one graph. Either they encode one, or they have a first error.
+#[tactic(auto, using(crate::proofs::FileLaws::layout_exact, crate::proofs::FileLaws::file_exact, crate::proofs::FileLaws::layout_or_fault))]
 pub fn one_layout()
     ensures exact { (bytes : List ℕ) → IsBytes bytes → length bytes < 2 ^ 64
         → Exactly (decode_graph bytes) (IsLayout bytes) }
@@ -84,9 +83,8 @@ pub fn one_layout()
         → IsFile b bytes → a ≡ b }
     ensures or_fault { (bytes : List ℕ) → IsBytes bytes → length bytes < 2 ^ 64
         → UniqueValue (decode_graph bytes) (IsLayout bytes) ⊎ UniqueFault (decode_graph bytes) (IsLayout bytes) }
-    ensures of_parts { (bytes : List ℕ) → viewed graph_of_parts (decode_parts bytes) ≡ decode_graph bytes }
-    ensures file_parts { (bytes : List ℕ) (file : FileParts) → IsBytes bytes → length bytes < 2 ^ 64 → IsFile file bytes
-        → decode_parts bytes ≡ Ok (parts_of_file file) }
+    ensures file_exact { (bytes : List ℕ) → IsBytes bytes → length bytes < 2 ^ 64
+        → Exactly (decode_file bytes) (λ file. IsFile file bytes) }
 {}
 
 /// In the graph of a valid file the strings of each section are UTF-8 without zero bytes and strictly ascend; no string

@@ -7,7 +7,7 @@ ghost use Rattle.hdt_triples.specs.Remaining.{remaining_matches, step_limit, sho
 ghost use Rattle.hdt_triples.specs.Patterns.{matches};
 ghost use Rattle.hdt_file.specs.CachedTerms.{CachesTerms};
 ghost use Rattle.hdt_file.specs.Denoted.{denoted};
-ghost use Rattle.hdt_file.specs.Graph.{graph_view, parts_bitmap, parts_dictionary, parts_of_graph};
+ghost use Rattle.hdt_file.specs.Graph.{graph_view, parts_of_graph};
 ghost use Rattle.hdt_file.specs.Paging.{HasConsecutiveMatches, HasPositions, IsNextMatch};
 ghost use Rattle.hdt_file.specs.Search.{IsPattern, pattern_steps};
 ghost use Rattle.hdt_file.specs.StringTriples.{has_given_strings};
@@ -58,10 +58,10 @@ impl<'a> Graph<'a> {
         ensures items { remaining_matches result ≡ matches pattern (graph_view self.now).triples }
         ensures fits { length (remaining_matches result) < 2 ^ 64 }
         // The steps of this call and of all its items together are at most these.
-        ensures few { step_limit result ≡ most_steps (parts_bitmap (parts_of_graph self.now)) pattern }
+        ensures few { step_limit result ≡ most_steps (parts_of_graph self.now).triples pattern }
         // They are also at most these, for a search in the shorter of two inverted lists.
         ensures short { shorter_list_step_limit result
-            ≤ shorter_list_steps (parts_bitmap (parts_of_graph self.now)) pattern }
+            ≤ shorter_list_steps (parts_of_graph self.now).triples pattern }
     {
         self.triples.find(pattern)
     }
@@ -84,9 +84,9 @@ impl<'a> Graph<'a> {
     pub fn matching_up_to(&self, pattern: Pattern, most: u64, steps: &mut Steps) -> u64
         ensures is { result ≡ min most (length (matches pattern (graph_view self.now).triples)) }
         // The steps are at most either of these two numbers.
-        ensures cost { steps.new ≤ steps.old + counting_steps (parts_bitmap (parts_of_graph self.now)) pattern }
+        ensures cost { steps.new ≤ steps.old + counting_steps (parts_of_graph self.now).triples pattern }
         ensures short { steps.new
-            ≤ steps.old + shorter_list_counting_steps (parts_bitmap (parts_of_graph self.now)) most pattern }
+            ≤ steps.old + shorter_list_counting_steps (parts_of_graph self.now).triples most pattern }
         ensures more { steps.old ≤ steps.new }
     {
         self.triples.matching_up_to(pattern, most, steps)
@@ -98,9 +98,9 @@ impl<'a> Graph<'a> {
     pub fn matching(&self, pattern: Pattern, steps: &mut Steps) -> u64
         ensures is { result ≡ length (matches pattern (graph_view self.now).triples) }
         // The steps are at most either of these two numbers.
-        ensures cost { steps.new ≤ steps.old + counting_steps (parts_bitmap (parts_of_graph self.now)) pattern }
+        ensures cost { steps.new ≤ steps.old + counting_steps (parts_of_graph self.now).triples pattern }
         ensures short { steps.new
-            ≤ steps.old + shorter_list_counting_steps (parts_bitmap (parts_of_graph self.now)) (2 ^ 64 - 1) pattern }
+            ≤ steps.old + shorter_list_counting_steps (parts_of_graph self.now).triples (2 ^ 64 - 1) pattern }
         ensures more { steps.old ≤ steps.new }
     {
         self.triples.matching(pattern, steps)
@@ -111,7 +111,7 @@ impl<'a> Graph<'a> {
     pub fn pattern(&self, given: [Option<&[u8]>; 3], steps: &mut Steps) -> Option<Pattern>
         // It is p if and only if p has the IDs of the given strings.
         ensures exact { (p : Pattern) → (result ≡ Some p) ↔ IsPattern (graph_view self.now) given.entry p }
-        ensures cost { steps.new ≤ steps.old + pattern_steps (parts_dictionary (parts_of_graph self.now)) given.entry }
+        ensures cost { steps.new ≤ steps.old + pattern_steps (parts_of_graph self.now).dictionary given.entry }
         ensures more { steps.old ≤ steps.new }
     {
         self.layout().pattern(given, steps)
@@ -131,12 +131,12 @@ impl<'a> Graph<'a> {
         ensures none { ((p : Pattern) → IsPattern (graph_view self.now) given.entry p → ⊥)
             → remaining_matches result ≡ [] }
         ensures fits { length (remaining_matches result) < 2 ^ 64 }
-        ensures cost { steps.new ≤ steps.old + pattern_steps (parts_dictionary (parts_of_graph self.now)) given.entry }
+        ensures cost { steps.new ≤ steps.old + pattern_steps (parts_of_graph self.now).dictionary given.entry }
         // The steps of the items are at most those of `search`, not counting those of the look-ups.
         ensures few { (p : Pattern) → IsPattern (graph_view self.now) given.entry p
-            → step_limit result ≡ most_steps (parts_bitmap (parts_of_graph self.now)) p }
+            → step_limit result ≡ most_steps (parts_of_graph self.now).triples p }
         ensures short { (p : Pattern) → IsPattern (graph_view self.now) given.entry p
-            → shorter_list_step_limit result ≤ shorter_list_steps (parts_bitmap (parts_of_graph self.now)) p }
+            → shorter_list_step_limit result ≤ shorter_list_steps (parts_of_graph self.now).triples p }
         ensures idle { ((p : Pattern) → IsPattern (graph_view self.now) given.entry p → ⊥) → step_limit result ≡ 0 }
         ensures more { steps.old ≤ steps.new }
     {
@@ -154,13 +154,13 @@ impl<'a> Graph<'a> {
         ensures items { remaining_matches result ≡ matches pattern (drop from (graph_view self.now).triples) }
         ensures fits { length (remaining_matches result) < 2 ^ 64 }
         // The steps of all items together are at most those of `search`,
-        ensures few { step_limit result ≤ most_steps (parts_bitmap (parts_of_graph self.now)) pattern }
+        ensures few { step_limit result ≤ most_steps (parts_of_graph self.now).triples pattern }
         ensures short { shorter_list_step_limit result
-            ≤ shorter_list_steps (parts_bitmap (parts_of_graph self.now)) pattern }
+            ≤ shorter_list_steps (parts_of_graph self.now).triples pattern }
         // none of which is taken yet,
         ensures fresh { steps_taken result ≡ 0 }
         // and those of this call at most these.
-        ensures cost { steps.new ≤ steps.old + start_cost (parts_bitmap (parts_of_graph self.now)) }
+        ensures cost { steps.new ≤ steps.old + start_cost (parts_of_graph self.now).triples }
         ensures more { steps.old ≤ steps.new }
     {
         self.triples.find_from(pattern, from, steps)
@@ -170,7 +170,7 @@ impl<'a> Graph<'a> {
     fn first_match(&self, pattern: Pattern, steps: &mut Steps) -> Option<u64>
         ensures is { IfSome result (IsNextMatch (graph_view self.now).triples pattern 0 0) }
         ensures none { result ≡ None → matches pattern (graph_view self.now).triples ≡ [] }
-        ensures cost { steps.new ≤ steps.old + start_cost (parts_bitmap (parts_of_graph self.now)) }
+        ensures cost { steps.new ≤ steps.old + start_cost (parts_of_graph self.now).triples }
         ensures more { steps.old ≤ steps.new }
     {
         let triple = self.search(pattern).next()?;
@@ -182,11 +182,11 @@ impl<'a> Graph<'a> {
         requires { HasConsecutiveMatches pattern }
         ensures items { remaining_matches result ≡ drop skip (matches pattern (graph_view self.now).triples) }
         ensures fits { length (remaining_matches result) < 2 ^ 64 }
-        ensures few { step_limit result ≤ most_steps (parts_bitmap (parts_of_graph self.now)) pattern }
+        ensures few { step_limit result ≤ most_steps (parts_of_graph self.now).triples pattern }
         ensures short { shorter_list_step_limit result
-            ≤ shorter_list_steps (parts_bitmap (parts_of_graph self.now)) pattern }
+            ≤ shorter_list_steps (parts_of_graph self.now).triples pattern }
         ensures fresh { steps_taken result ≡ 0 }
-        ensures cost { steps.new ≤ steps.old + 2 * start_cost (parts_bitmap (parts_of_graph self.now)) }
+        ensures cost { steps.new ≤ steps.old + 2 * start_cost (parts_of_graph self.now).triples }
         ensures more { steps.old ≤ steps.new }
     {
         self.is_graph();
@@ -210,11 +210,11 @@ impl<'a> Graph<'a> {
         ensures items { remaining_matches result ≡ drop skip (matches pattern (graph_view self.now).triples) }
         ensures fits { length (remaining_matches result) < 2 ^ 64 }
         // The steps of all matches together, including those of the skipped ones, are at most those of `search`,
-        ensures few { step_limit result ≤ most_steps (parts_bitmap (parts_of_graph self.now)) pattern }
+        ensures few { step_limit result ≤ most_steps (parts_of_graph self.now).triples pattern }
         ensures short { shorter_list_step_limit result
-            ≤ shorter_list_steps (parts_bitmap (parts_of_graph self.now)) pattern }
+            ≤ shorter_list_steps (parts_of_graph self.now).triples pattern }
         // and those of this call at most these.
-        ensures cost { steps.new ≤ steps.old + 2 * start_cost (parts_bitmap (parts_of_graph self.now)) }
+        ensures cost { steps.new ≤ steps.old + 2 * start_cost (parts_of_graph self.now).triples }
         // If each match has a position, none of the former are taken yet: the skipped ones take no steps.
         ensures jumps { 0 < skip → HasPositions pattern → steps_taken result ≡ 0 }
         ensures more { steps.old ≤ steps.new }
@@ -257,7 +257,7 @@ impl<'a> Graph<'a> {
         ensures last { IfOk result (λ next. next ≡ None
             → drop most (matches pattern (drop from (graph_view self.now).triples)) ≡ []) }
         ensures err { OnErr result (out.new.items ≡ out.old.items) }
-        ensures cost { steps.new ≤ steps.old + 2 * start_cost (parts_bitmap (parts_of_graph self.now)) }
+        ensures cost { steps.new ≤ steps.old + 2 * start_cost (parts_of_graph self.now).triples }
         ensures more { steps.old ≤ steps.new }
     {
         let mut matches = self.search_from(pattern, from, steps);
@@ -309,7 +309,7 @@ impl<'a> Graph<'a> {
             (ReportsFirstNonTerm (graph_view self.now)
             (take most (matches pattern (drop from (graph_view self.now).triples)))) }
         ensures left { OnErr result (out.new.items ≡ out.old.items) }
-        ensures cost { steps.new ≤ steps.old + 2 * start_cost (parts_bitmap (parts_of_graph self.now)) }
+        ensures cost { steps.new ≤ steps.old + 2 * start_cost (parts_of_graph self.now).triples }
         ensures more { steps.old ≤ steps.new }
     {
         let mut page = Vec::new(alloc);

@@ -3,7 +3,6 @@ use Rattle.std.proofs.lemmas.Result.{err_from_is_err_and}
 use Rattle.hdt_wire.specs.declared.fault.Fault.{Fault}
 use Rattle.hdt_terms.specs.declared.triple.Triple.{Triple}
 use Rattle.hdt_terms.specs.Lines.{Document}
-use Rattle.hdt_file.specs.Dictionary.{decode_head_and_dictionary}
 use Rattle.hdt_file.specs.File.{GraphParts, IsLayout, decode_file, decode_graph}
 use Rattle.hdt_file.specs.Graph.{layout_view}
 use Rattle.hdt_file.specs.Head.{HeadParts, IsHead, decode_head, head_parts}
@@ -17,7 +16,7 @@ use Rattle.hdt_build.proofs.new_header.with_header.Goals as goal
 
 -- an error of the head is the first one of the file
 head_fault : (bytes : List ℕ) (fault : Fault) → decode_head bytes ≡ Err fault → decode_graph bytes ≡ Err fault
-unfolding decode_graph decode_file decode_head_and_dictionary
+unfolding decode_graph decode_file
 head_fault bytes fault e = rw e refl
 
 body_fault : (body bytes : List ℕ) (e : HeaderFault) → ((graph : GraphParts) × IsLayout bytes graph)
@@ -37,13 +36,11 @@ replaces : (body bytes made : List ℕ) (graph : GraphParts) (head : HeadParts)
     → ((h : HeadParts) → IsHead h bytes → done h ≡ done head) → ((triples : List Triple) × Document body triples)
     → made ≡ with_new_header head body bytes → IsLayout bytes graph → ReplacesHeader body bytes graph made
 replaces body bytes made graph head one document is h = record {
-  file = h.file;
-  is = h.is;
-  of = h.of;
+  layout = h;
   triples = document.0;
   document = document.1;
   made_is = is ∙ ap (λ (x : HeadParts). with_new_header x body bytes)
-      (sym (one_value h.file.head head (one h.file.head h.is.head)));
+      (sym (one_value h.file.head head (one h.file.head h.encoded.head)));
 }
 
 pub returns-in_err-head-clause-fault : goal.returns-in_err-head-clause-fault

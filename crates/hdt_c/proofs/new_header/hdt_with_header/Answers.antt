@@ -10,7 +10,7 @@ returns-in-Ok-put c =
       new = c.in-Ok.new.items;
       graph = made.0;
       is = made.1;
-      layout = c.in-Ok.ensures.graph made.0 (record { file = made.1.file; is = made.1.is; of = made.1.of });
+      layout = c.in-Ok.ensures.graph made.0 made.1.layout;
       made = c.in-Ok-put.ensures.ok;
       verdict = c.rewritten_verdict.ensures ∙ ap rewritten_verdict made.2;
       report = c.built_report.ensures ∙ ap built_report made.2;

@@ -1,25 +1,15 @@
-use Rattle.std.proofs.Common.{arith}
-use Rattle.hdt_wire.specs.Laws.ExactReading.{reads_unless_oom_found, reads_unless_oom_only}
-use Rattle.hdt_file.specs.Faults.{open_fault_of}
-use Rattle.hdt_file.specs.declared.info.FileInfo.{FileInfo}
-use Rattle.hdt_file.specs.Info.{IsFileInfo, decode_info}
-use Rattle.hdt_file.proofs.InfoLaws.{info_exact, info_fault}
+use Rattle.std.proofs.Common.{Err, arith}
+use Rattle.std.proofs.lemmas.Result.{err_from_is_err_and}
+use Rattle.hdt_file.proofs.InfoLaws.{info_only}
 use Rattle.hdt_file.proofs.info.file_info.Goals as goal
 
-pub returns-clause-found : goal.returns-clause-found
-returns-clause-found c =
-    let bytes = c.args.bytes.now in
-    reads_unless_oom_found (λ (x : FileInfo). x) (decode_info bytes)
-    (λ info. IsFileInfo info bytes) open_fault_of c.read_by_checks.result
-    (info_exact bytes (λ i. omega (arith, c.type_inv.bytes i)) (omega arith)) c.read_by_checks.ensures
+pub returns-in_err-read-clause-only : goal.returns-in_err-read-clause-only
+returns-in_err-read-clause-only c = λ info h.
+    let p = err_from_is_err_and c.from_residual.result c.from_residual.ensures.1 in
+    rw (p.1, p.2) (info_only c.args.bytes.now (Err c.in_err-read.field-0.0) (λ i. omega (arith, c.type_inv.bytes i))
+    (omega arith) tt c.in_err-read.ensures.exact info h)
 
 pub returns-clause-only : goal.returns-clause-only
 returns-clause-only c =
-    let bytes = c.args.bytes.now in
-    reads_unless_oom_only (λ (x : FileInfo). x) (decode_info bytes)
-    (λ info. IsFileInfo info bytes) open_fault_of c.read_by_checks.result
-    (info_exact bytes (λ i. omega (arith, c.type_inv.bytes i)) (omega arith)) c.read_by_checks.ensures
-
-pub returns-clause-err : goal.returns-clause-err
-returns-clause-err c = info_fault c.args.bytes.now (λ i. omega (arith, c.type_inv.bytes i))
-    (omega arith) c.read_by_checks.result c.read_by_checks.ensures
+    info_only c.args.bytes.now c.layout_info.result (λ i. omega (arith, c.type_inv.bytes i)) (omega arith)
+    c.layout_info.ensures.found c.layout_info.ensures.err

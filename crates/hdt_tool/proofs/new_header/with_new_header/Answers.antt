@@ -10,7 +10,7 @@ returns-clause-ok g c =
     record {
       graph = made.0;
       replaces = made.1;
-      layout = c.in_ok-file.ensures.graph made.0 (record { file = made.1.file; is = made.1.is; of = made.1.of });
+      layout = c.in_ok-file.ensures.graph made.0 made.1.layout;
       printed = c.in_ok-line.ensures ∙ ap rewritten_line made.2;
     } in
     record {
