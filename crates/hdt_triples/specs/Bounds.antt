@@ -50,7 +50,7 @@ predicate_cost f p = record { base = 0; each = lookup_cost f; counted = of_predi
 unfoldable pub object_cost : ℕ → CostBound
 object_cost o = record { base = 0; each = 20; counted = of_object o }
 
--- Nothing: 4 for each triple.
+-- Nothing: 4 for each triple, whatever matches.
 unfoldable pub scan_cost : BitmapTriples → Pattern → CostBound
 scan_cost f m = record { base = 4 * length f.array_z; each = 0; counted = m }
 
@@ -62,10 +62,11 @@ pair_search_cost f = 2 * lookup_cost f + digits (length f.array_z)
 abbrev pub match_count : Pattern → BitmapTriples → ℕ
 match_count p f = length (matches p (triples_of f))
 
+-- The number of steps that a bound allows.
 unfoldable pub step_bound : CostBound → BitmapTriples → ℕ
 step_bound c f = c.base + c.each * (1 + match_count c.counted f)
 
--- The table of a search: its bound, by which of subject, predicate and object the pattern m gives.
+-- The table of bounds of a search, by which of subject, predicate and object its pattern m gives.
 abbrev pub cost_of_parts : BitmapTriples → Pattern → Option ℕ → Option ℕ → Option ℕ → CostBound
 cost_of_parts f m (Some s) None o = subject_cost f s
 cost_of_parts f m (Some s) (Some p) o = pair_cost f m
@@ -76,7 +77,7 @@ cost_of_parts f m None None None = scan_cost f m
 abbrev pub cost_of : BitmapTriples → Pattern → CostBound
 cost_of f m = cost_of_parts f m m.s m.p m.o
 
--- The most steps of a search.
+-- The maximal number of steps of a search.
 unfoldable pub most_steps : BitmapTriples → Pattern → ℕ
 most_steps f m = step_bound (cost_of f m) f
 

@@ -79,7 +79,7 @@ abbrev pub all_object_checks : List Bool → Sequence ℕ → ℕ → Result (Un
 all_object_checks marks objects count =
     checks_from (entry_checks marks objects count ObjectRange ObjectsNotAscending) 0 (length objects.items)
 
--- False if there is none.
+-- The last bit, or false if there is none.
 abbrev pub last_bit : List Bool → Bool
 last_bit marks = slice_index_or marks (length marks - 1) false
 
