@@ -1,6 +1,6 @@
 -- The matches from an index on, by whether its triple matches.
-use Rattle.std.proofs.Common.{◌≡◌, ℕ, ◌+◌, ◌-◌, ◌*◌, ◌^◌, ◌<◌, ◌≤◌, [], ◌∷◌, zero, suc, length, slice_index, map, ap, sym}
-use Rattle.std.proofs.Common.{◌∙◌, arith, true, false, cond}
+use Rattle.std.proofs.Common.{◌≡◌, ℕ, ◌+◌, ◌-◌, ◌*◌, ◌^◌, ◌<◌, ◌≤◌, [], ◌∷◌, zero, suc, length, slice_index, map, ap}
+use Rattle.std.proofs.Common.{sym, ◌∙◌, arith, true, false, cond}
 use Rattle.std.proofs.Math.Nat.{lt_of_not-le}
 use Rattle.std.specs.List.{filter, range_with_len}
 use Rattle.std.proofs.lemmas.List.Sums.{length-filter, count_by-le-length}

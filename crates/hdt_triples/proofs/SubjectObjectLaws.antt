@@ -7,7 +7,8 @@ use Rattle.hdt_seq.specs.Width.{digits}
 use Rattle.hdt_seq.specs.Laws.RankSelect.{ones_before_mono}
 use Rattle.hdt_triples.specs.declared.pattern.Pattern.{Pattern}
 use Rattle.hdt_triples.specs.declared.triples.TriplePosition.{TriplePosition}
-use Rattle.hdt_triples.specs.Bounds.{lookup_cost, step_bound, of_subject, IsWithinBudget, list_search_cost, subject_cost}
+use Rattle.hdt_triples.specs.Bounds.{lookup_cost, step_bound, of_subject, IsWithinBudget, list_search_cost}
+use Rattle.hdt_triples.specs.Bounds.{subject_cost}
 use Rattle.hdt_triples.specs.TripleSequences.{BitmapTriples, Triple, pair_of, subject_at, triple_at}
 use Rattle.hdt_triples.specs.Inside.Runs.{IsNextWithObject}
 use Rattle.hdt_triples.specs.InvertedIndex.{positions_of}

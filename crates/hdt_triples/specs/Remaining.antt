@@ -1,6 +1,6 @@
 -- Views of an iterator over matches: the remaining matches, the bounds on its steps by either table, and the steps so
 -- far.
-use Rattle.std.specs.Prelude.{ℕ, ◌+◌, ◌*◌, List, [], length, map, min, None}
+use Rattle.std.specs.Prelude.{ℕ, ◌+◌, ◌*◌, List, [], length, map, min}
 use Rattle.hdt_triples.specs.Bounds.{lookup_cost, step_bound, object_cost, of_predicate, pair_search_cost, pair_cost}
 use Rattle.hdt_triples.specs.Bounds.{predicate_cost, list_search_cost, subject_cost, match_count}
 use Rattle.hdt_triples.specs.TripleSequences.{Triple, triple_at}
@@ -8,37 +8,23 @@ use Rattle.hdt_triples.specs.InvertedIndex.{positions_of}
 use Rattle.hdt_triples.specs.Patterns.{matches}
 use Rattle.hdt_triples.specs.Views.{triples_view}
 use Rattle.hdt_triples.specs.Scanning.{triples_from}
-use Rattle.hdt_triples.specs.declared.pattern.Pattern.{Pattern}
 use Rattle.hdt_triples.specs.declared.matches.Matches.{Matches}
 use Rattle.hdt_triples.specs.declared.matches.Matches.TheVariants.{Empty, Scan, Subject, SubjectObject, Pair, Predicate}
 use Rattle.hdt_triples.specs.declared.matches.Matches.TheVariants.{PredicateObject, Object}
 
--- The pattern that is searched for.
-abbrev pub pattern_of : Matches → Pattern
-pattern_of Empty = record { s = None; p = None; o = None }
-pattern_of (Scan m) = m.pattern
-pattern_of (Subject m) = m.pattern
-pattern_of (SubjectObject m) = m.pattern
-pattern_of (Pair m) = m.pattern
-pattern_of (Predicate m) = of_predicate m.predicate
-pattern_of (PredicateObject m) = m.pattern
-pattern_of (Object m) = m.pattern
-
--- The triples that are still to be searched: those from the current one on, or the remaining ones of an object.
-abbrev pub candidates : Matches → List Triple
-candidates Empty = []
-candidates (Scan m) = triples_from (triples_view m.triples) m.position.at
-candidates (Subject m) = triples_from (triples_view m.triples) m.position.at
-candidates (SubjectObject m) = triples_from (triples_view m.indexed.now.triples) m.position.at
-candidates (Pair m) = triples_from (triples_view m.triples) m.at
-candidates (Predicate m) = triples_from (triples_view m.indexed.now.triples) m.cursor.at
-candidates (PredicateObject m) = triples_from (triples_view m.indexed.now.triples) m.at
-candidates (Object m) = map (triple_at (triples_view m.indexed.now.triples)) m.rest.now
-
--- The remaining matches: those among the candidates.
+-- The remaining matches: among the triples from the current one on, or among the remaining triples of an object. They
+-- need not be read: `next` ties them to the triples that it returns.
 unfoldable pub remaining_matches : Matches → List Triple
 remaining_matches Empty = []
-remaining_matches m = matches (pattern_of m) (candidates m)
+remaining_matches (Scan m) = matches m.pattern (triples_from (triples_view m.triples) m.position.at)
+remaining_matches (Subject m) = matches m.pattern (triples_from (triples_view m.triples) m.position.at)
+remaining_matches (SubjectObject m) =
+    matches m.pattern (triples_from (triples_view m.indexed.now.triples) m.position.at)
+remaining_matches (Pair m) = matches m.pattern (triples_from (triples_view m.triples) m.at)
+remaining_matches (Predicate m) =
+    matches (of_predicate m.predicate) (triples_from (triples_view m.indexed.now.triples) m.cursor.at)
+remaining_matches (PredicateObject m) = matches m.pattern (triples_from (triples_view m.indexed.now.triples) m.at)
+remaining_matches (Object m) = matches m.pattern (map (triple_at (triples_view m.indexed.now.triples)) m.rest.now)
 
 unfoldable pub step_limit : Matches → ℕ
 step_limit Empty = 0

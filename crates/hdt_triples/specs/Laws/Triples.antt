@@ -144,7 +144,8 @@ pair_exact counts bits predicates q =
       found = λ u e.
           demand_ok (leb (ones_before bits.items q + 1) counts.subjects) (entry_offset bits.offsets q) SubjectRange _ u
           e (λ h e. record { subject = leb-true _ _ h; predicate = entry.found u e });
-      only = λ u h. rw (le-leb (ones_before bits.items q + 1) counts.subjects h.subject, entry.only tt h.predicate) refl;
+      only = λ u h.
+          rw (le-leb (ones_before bits.items q + 1) counts.subjects h.subject, entry.only tt h.predicate) refl;
     }
 
 pairs_exact : (counts : Counts) (bits : Sequence Bool) (predicates : Sequence ℕ)
