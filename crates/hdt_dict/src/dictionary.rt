@@ -78,16 +78,29 @@ impl<'a> Dictionary<'a> {
     ghost use Rattle.hdt_dict.specs.Cost.{role_search_cost, role_decode_cost};
     ghost use Rattle.hdt_dict.specs.Views.{dictionary_of, block_bytes_of_two, role_block_bytes};
 
-    /// Reads a dictionary. The contract states the checks in order.
+    /// Reads the dictionary at a byte offset, from 0. Returns it with the offset after it. More bytes may follow.
+    ///
+    /// Linear time in the bytes: each string is decoded twice, to check its section and to find strings that are in two
+    /// sections. Holds at most three strings at a time, and frees them.
+    ///
+    /// # Errors
+    ///
+    /// The first error in this order: in the control information; in the sections shared, subjects, predicates and
+    /// objects; then `SectionsOverlap` at the first string of subjects that is in shared, else at the first string of
+    /// objects that is in shared or in subjects. Or [`ReadFault::OutOfMemory`].
     #[tactic(auto, unfolding(crate::specs::Dictionary::dictionary_at, crate::specs::Dictionary::checks_before_strings, crate::specs::Views::dictionary_of, hdt_front::specs::Strings::section_of, hdt_wire::specs::Control::control_view))]
-    fn read_by_checks(
+    pub fn read(
         alloc: Global,
         bytes: &'a [u8],
         at: usize,
     ) -> Result<(Dictionary<'a>, usize), ReadFault>
+        // The result is that of the checks: the dictionary that is encoded at the offset, or the first error
+        // (`dictionaries_are_exact`).
         ensures exact { ReadsUnlessOom read_fault_of (λ r. dictionary_of r.0) result (dictionary_at bytes.now at) }
+        // An error before the first string is found without allocating memory.
         ensures without_memory { (f : FaultIs) → checks_before_strings bytes.now at ≡ Err f → result ≡ Err (FaultOf f) }
         ensures next { IfOk result (λ r. r.1 ≡ (dictionary_of r.0).objects.end) }
+        // A role has at most as many strings as the input has bytes.
         ensures few { IfOk result (λ r. (role : Role)
             → length (role_strings (lists_of_dictionary (dictionary_of r.0)) role) ≤ length bytes.now) }
         ensures end { IfOk result (λ r. (at < r.1) × (r.1 ≤ length bytes.now)) }
@@ -106,39 +119,6 @@ impl<'a> Dictionary<'a> {
             objects,
         };
         Ok((dictionary, end))
-    }
-
-    /// Reads the dictionary at a byte offset, from 0. Returns it with the offset after it. More bytes may follow.
-    ///
-    /// Linear time in the bytes: each string is decoded twice, to check its section and to find strings that are in two
-    /// sections. Holds at most three strings at a time, and frees them.
-    ///
-    /// # Errors
-    ///
-    /// The first error in this order: in the control information; in the sections shared, subjects, predicates and
-    /// objects; then `SectionsOverlap` at the first string of subjects that is in shared, else at the first string of
-    /// objects that is in shared or in subjects. Or [`ReadFault::OutOfMemory`].
-    pub fn read(
-        alloc: Global,
-        bytes: &'a [u8],
-        at: usize,
-    ) -> Result<(Dictionary<'a>, usize), ReadFault>
-        // The returned dictionary is encoded at the offset.
-        ensures found { IfOk result (λ r. IsDictionaryAt (dictionary_of r.0) bytes.now at) }
-        // If a dictionary is encoded at the offset, it is returned, unless memory runs out.
-        ensures only { (d : DictionaryParts) → IsDictionaryAt d bytes.now at
-            → ReadsUnlessOom read_fault_of (λ r. dictionary_of r.0) result (Ok d) }
-        // Otherwise the first error is returned.
-        ensures exact { ReadsUnlessOom read_fault_of (λ r. dictionary_of r.0) result (dictionary_at bytes.now at) }
-        // An error before the first string is found without allocating memory.
-        ensures without_memory { (f : FaultIs) → checks_before_strings bytes.now at ≡ Err f → result ≡ Err (FaultOf f) }
-        ensures next { IfOk result (λ r. r.1 ≡ (dictionary_of r.0).objects.end) }
-        // A role has at most as many strings as the input has bytes.
-        ensures few { IfOk result (λ r. (role : Role)
-            → length (role_strings (lists_of_dictionary (dictionary_of r.0)) role) ≤ length bytes.now) }
-        ensures end { IfOk result (λ r. (at < r.1) × (r.1 ≤ length bytes.now)) }
-    {
-        Dictionary::read_by_checks(alloc, bytes, at)
     }
 
     /// Law: the strings of each section are UTF-8 without zero bytes and ascend, and no string is in two of shared,

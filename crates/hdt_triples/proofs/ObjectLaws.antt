@@ -10,7 +10,7 @@ use Rattle.hdt_triples.specs.declared.pattern.Pattern.{Pattern}
 use Rattle.hdt_triples.specs.TripleSequences.{BitmapTriples, Triple, triple_at, triples_of}
 use Rattle.hdt_triples.specs.Patterns.{agrees, matches}
 use Rattle.hdt_triples.specs.Scanning.{triples_from}
-use Rattle.hdt_triples.specs.Bounds.{of_object, object_cost, IsWithinBudget, limit}
+use Rattle.hdt_triples.specs.Bounds.{of_object, object_cost, IsWithinBudget, step_bound}
 use Rattle.hdt_triples.specs.InvertedIndex.{positions_of, positions_from, IsPositionOf}
 use Rattle.hdt_triples.proofs.PatternLaws.{other_object}
 use Rattle.hdt_triples.proofs.InvertedIndexLaws.{split_rest}
@@ -93,7 +93,7 @@ object_after f o skip next places js is least rest =
 pub object_after_budget : (f : BitmapTriples) (o skip next steps : ℕ) (places js : List ℕ)
     → places ≡ positions_of f.array_z o → next ≡ min skip (length places) → js ≡ drop next places → steps ≡ 0
     → IsWithinBudget (object_cost o) f steps (map (triple_at f) js)
-unfolding limit object_cost
+unfolding step_bound object_cost
 object_after_budget f o skip next steps places js is least rest none =
     omega (
       arith,
@@ -104,7 +104,7 @@ object_after_budget f o skip next steps places js is least rest none =
 
 pub object_budget_first : (f : BitmapTriples) (o steps : ℕ) → steps ≤ 20
     → IsWithinBudget (object_cost o) f steps (map (triple_at f) (positions_of f.array_z o))
-unfolding limit object_cost
+unfolding step_bound object_cost
 object_budget_first f o steps few = omega (arith, few, ap length (object_law (of_object o) f o refl))
 
 pub object_step : (p : Pattern) (f : BitmapTriples) (rest js : List ℕ) (at : ℕ) (b : Bool) → 0 < length rest
@@ -125,7 +125,7 @@ pub object_budget_step : (o : ℕ) (f : BitmapTriples) (rest js : List ℕ) (at 
     → at ≡ slice_index rest 0 → js ≡ drop 1 rest → IsPositionOf f.array_z o at → after ≤ steps + 20
     → IsWithinBudget (object_cost o) f steps (map (triple_at f) rest)
     → IsWithinBudget (object_cost o) f after (map (triple_at f) js)
-unfolding limit object_cost
+unfolding step_bound object_cost
 object_budget_step o f rest js at steps after h first behind position few pays =
     let own : agrees (of_object o) (triple_at f at) ≡ true = eq-eqb o (slice_index f.array_z at) (sym position.1) in
     omega (arith, few, pays, ap length (object_step (of_object o) f rest js at true h first behind own))

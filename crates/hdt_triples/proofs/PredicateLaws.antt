@@ -7,7 +7,7 @@ use Rattle.hdt_seq.specs.RankSelect.{ones_before}
 use Rattle.hdt_triples.specs.TripleSequences.{BitmapTriples, AreConsistentSequences, triple_at, subject_at, pair_of}
 use Rattle.hdt_triples.specs.Scanning.{triples_from}
 use Rattle.hdt_triples.specs.Patterns.{matches}
-use Rattle.hdt_triples.specs.Bounds.{of_predicate, predicate_cost, IsWithinBudget, limit, lookup_cost}
+use Rattle.hdt_triples.specs.Bounds.{of_predicate, predicate_cost, IsWithinBudget, step_bound, lookup_cost}
 use Rattle.hdt_triples.specs.InvertedIndex.{positions_of, positions_from}
 use Rattle.hdt_triples.specs.Inside.PredicateCursors.{IsBeforePair, IsWithinPair, IsPredicateCursor}
 use Rattle.hdt_triples.specs.declared.predicate_cursor.PredicateCursor.{PredicateCursor}
@@ -103,7 +103,7 @@ between_first f p rest is = record {
 
 pub predicate_budget_first : (f : BitmapTriples) (p steps : ℕ) → steps ≤ 20
     → IsWithinBudget (predicate_cost f p) f steps (triples_from f 0)
-unfolding limit predicate_cost lookup_cost
+unfolding step_bound predicate_cost lookup_cost
 predicate_budget_first f p steps few =
     omega (
       arith,
@@ -118,7 +118,7 @@ pub predicate_budget_step : (f : BitmapTriples) (p at start subject steps after 
     → after ≤ steps + (digits (groups f.bitmap_z) + 19)
     → IsWithinBudget (predicate_cost f p) f steps (triples_from f at)
     → IsWithinBudget (predicate_cost f p) f after (triples_from f (start + 1))
-unfolding limit predicate_cost lookup_cost
+unfolding step_bound predicate_cost lookup_cost
 predicate_budget_step f p at start subject steps after rest lookup_cost s few pays =
     let count : length (matches (of_predicate p) (triples_from f at))
     ≡ suc (length (matches (of_predicate p) (triples_from f (start + 1)))) =

@@ -11,7 +11,7 @@ use Rattle.hdt_triples.specs.TripleSequences.{subject_at, pair_of}
 use Rattle.hdt_triples.specs.Scanning.{triples_from}
 use Rattle.hdt_triples.proofs.AscentLaws.{Ascend}
 use Rattle.hdt_triples.specs.Patterns.{agrees, admits, matches}
-use Rattle.hdt_triples.specs.Bounds.{pair_cost, IsWithinBudget, limit, lookup_cost}
+use Rattle.hdt_triples.specs.Bounds.{pair_cost, IsWithinBudget, step_bound, lookup_cost}
 use Rattle.hdt_triples.specs.Inside.Runs.{IsPairOf, IsPairRange, IsRunOfTriples}
 use Rattle.hdt_seq.specs.Laws.RankSelect.{ones_before_mono, ones_before_last}
 use Rattle.hdt_triples.specs.Laws.Order.{pair_within}
@@ -246,7 +246,7 @@ pub run_budget_first : (f : BitmapTriples) (pattern : Pattern) (s p at end steps
     → IsRunOfTriples f pattern s p at end → ((i : ℕ) → i < at → agrees pattern (triple_at f i) ≡ false)
     → steps ≤ 2 * digits (groups f.bitmap_y) + 2 * digits (groups f.bitmap_z) + 35 + digits (length f.array_y) + digits
     (length f.array_z) → IsWithinBudget (pair_cost f pattern) f steps (triples_from f at)
-unfolding limit pair_cost lookup_cost
+unfolding step_bound pair_cost lookup_cost
 run_budget_first f pattern s p at end steps r none few =
     omega (arith, few, ap length (run_items f pattern s p at end r none))
 
@@ -254,7 +254,7 @@ pub run_budget_step : (f : BitmapTriples) (pattern : Pattern) (s p at end steps 
     → IsRunOfTriples f pattern s p at end → at < end → after ≤ steps + 1
     → IsWithinBudget (pair_cost f pattern) f steps (triples_from f at)
     → IsWithinBudget (pair_cost f pattern) f after (triples_from f (at + 1))
-unfolding limit pair_cost lookup_cost
+unfolding step_bound pair_cost lookup_cost
 run_budget_step f pattern s p at end steps after r h few pays =
     omega (arith, few, pays, ap length (run_taken f pattern s p at end r h))
 

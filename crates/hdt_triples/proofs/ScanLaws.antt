@@ -1,6 +1,6 @@
 -- The matches from an index on, by whether its triple matches.
-use Rattle.std.proofs.Common.{◌≡◌, ℕ, ◌+◌, ◌-◌, ◌^◌, ◌<◌, ◌≤◌, [], ◌∷◌, zero, suc, length, slice_index, map, ap, sym}
-use Rattle.std.proofs.Common.{◌∙◌, arith, true, false, cond}
+use Rattle.std.proofs.Common.{◌≡◌, ℕ, ◌+◌, ◌-◌, ◌*◌, ◌^◌, ◌<◌, ◌≤◌, [], ◌∷◌, zero, suc, length, slice_index, map, ap}
+use Rattle.std.proofs.Common.{sym, ◌∙◌, arith, true, false, cond}
 use Rattle.std.proofs.Math.Nat.{lt_of_not-le}
 use Rattle.std.specs.List.{filter, range_with_len}
 use Rattle.std.proofs.lemmas.List.Sums.{length-filter, count_by-le-length}
@@ -12,6 +12,7 @@ use Rattle.hdt_triples.specs.Laws.TripleSequences.{length-triples}
 use Rattle.hdt_triples.specs.Patterns.{agrees, matches}
 use Rattle.hdt_triples.specs.Views.{triples_view}
 use Rattle.hdt_triples.specs.Scanning.{triples_from}
+use Rattle.hdt_triples.specs.Bounds.{scan_cost, step_bound}
 
 pub not_less : (a b : ℕ) → (b < a → ⊥) → a ≤ b
 not_less a b never = omega (arith, lt_of_not-le {n = b + 1} {m = a} (λ h. never (omega (arith, h))))
@@ -101,3 +102,8 @@ matches_few p f = omega (
 pub matches_fit : (p : Pattern) (t : Triples) → length (matches p (triples_of (triples_view t))) < 2 ^ 64
 unfolding triples_view
 matches_fit p t = omega (arith, matches_few p (triples_view t), numbers_below t.array_z)
+
+-- The bound on the steps of a scan of all triples.
+pub scan_bound : (f : BitmapTriples) (p : Pattern) → step_bound (scan_cost f p) f ≡ 4 * length f.array_z
+unfolding step_bound scan_cost
+scan_bound f p = omega arith

@@ -16,7 +16,7 @@ use Rattle.hdt_triples.specs.declared.triples.TriplePosition.{TriplePosition}
 use Rattle.hdt_triples.specs.TripleSequences.{BitmapTriples, triple_at, triples_of, subject_at, pair_of}
 use Rattle.hdt_triples.specs.Scanning.{IsTriplePosition, triples_from}
 use Rattle.hdt_triples.specs.Patterns.{agrees, matches}
-use Rattle.hdt_triples.specs.Bounds.{CostBound, IsWithinBudget, limit, list_search_cost, lookup_cost, object_cost}
+use Rattle.hdt_triples.specs.Bounds.{CostBound, IsWithinBudget, step_bound, list_search_cost, lookup_cost, object_cost}
 use Rattle.hdt_triples.specs.Bounds.{of_object, of_predicate, subject_cost}
 use Rattle.hdt_triples.specs.InvertedIndex.{positions_of, positions_from}
 use Rattle.hdt_triples.specs.Inside.Runs.{IsRunOfTriples, IsObjectSearch}
@@ -121,12 +121,12 @@ fewer p f k h = omega (arith, fewer_left p f 0 k (omega arith) h, ap (λ ts. len
 
 pub within_budget : (c : CostBound) (f : BitmapTriples) (at steps : ℕ) → at ≤ length f.array_z → steps ≡ 0
     → IsWithinBudget c f steps (triples_from f at)
-unfolding limit
+unfolding step_bound
 within_budget c f at steps h none = omega (arith, none, mul-le-mul_left c.each (fewer c.counted f at h))
 
 pub object_budget : (f : BitmapTriples) (o at steps : ℕ) (js : List ℕ) → at ≤ length f.array_z
     → js ≡ positions_from f.array_z o at → steps ≡ 0 → IsWithinBudget (object_cost o) f steps (map (triple_at f) js)
-unfolding limit object_cost
+unfolding step_bound object_cost
 object_budget f o at steps js h is none =
     omega (arith, none, ap length (object_left (of_object o) f o at js refl is), fewer (of_object o) f at h)
 

@@ -8,7 +8,7 @@ use Rattle.hdt_triples.specs.TripleSequences.{BitmapTriples, AreConsistentSequen
 use Rattle.hdt_triples.specs.TripleSequences.{pair_of}
 use Rattle.hdt_triples.specs.Patterns.{matches}
 use Rattle.hdt_triples.specs.Scanning.{IsTriplePosition, triples_from}
-use Rattle.hdt_triples.specs.Bounds.{subject_cost, of_subject, IsWithinBudget, limit, lookup_cost}
+use Rattle.hdt_triples.specs.Bounds.{subject_cost, of_subject, IsWithinBudget, step_bound, lookup_cost}
 use Rattle.hdt_seq.specs.Laws.RankSelect.{ones_before_mono, ones_before_last}
 use Rattle.hdt_seq.specs.RankSelect.{ones_before}
 use Rattle.hdt_triples.specs.Laws.Order.{pair_within}
@@ -39,7 +39,7 @@ pub budget_first : (s : ℕ) (f : BitmapTriples) (j steps : ℕ) → j ≤ lengt
     → ((i : ℕ) → i < j → subject_at f (pair_of f i) ≢ s)
     → steps ≤ digits (groups f.bitmap_y) + digits (groups f.bitmap_z) + 17
     → IsWithinBudget (subject_cost f s) f steps (triples_from f j)
-unfolding limit subject_cost lookup_cost
+unfolding step_bound subject_cost lookup_cost
 budget_first s f j steps h before few =
     omega (arith, few, ap length (matches_skipped (of_subject s) s f j refl h before))
 
@@ -47,7 +47,7 @@ budget_first s f j steps h before few =
 pub budget_step : (s : ℕ) (f : BitmapTriples) (j steps after : ℕ) → j < length f.array_z
     → subject_at f (pair_of f j) ≡ s → after ≤ steps + 4 → IsWithinBudget (subject_cost f s) f steps (triples_from f j)
     → IsWithinBudget (subject_cost f s) f after (triples_from f (j + 1))
-unfolding limit subject_cost lookup_cost
+unfolding step_bound subject_cost lookup_cost
 budget_step s f j steps after h own few pays =
     omega (arith, few, pays, ap length (matches_taken (of_subject s) f j h (own_subject s (triple_at f j) own)))
 

@@ -7,7 +7,8 @@ use Rattle.hdt_seq.specs.Width.{digits}
 use Rattle.hdt_seq.specs.Laws.RankSelect.{ones_before_mono}
 use Rattle.hdt_triples.specs.declared.pattern.Pattern.{Pattern}
 use Rattle.hdt_triples.specs.declared.triples.TriplePosition.{TriplePosition}
-use Rattle.hdt_triples.specs.Bounds.{lookup_cost, limit, of_subject, IsWithinBudget, list_search_cost, subject_cost}
+use Rattle.hdt_triples.specs.Bounds.{lookup_cost, step_bound, of_subject, IsWithinBudget, list_search_cost}
+use Rattle.hdt_triples.specs.Bounds.{subject_cost}
 use Rattle.hdt_triples.specs.TripleSequences.{BitmapTriples, Triple, pair_of, subject_at, triple_at}
 use Rattle.hdt_triples.specs.Inside.Runs.{IsNextWithObject}
 use Rattle.hdt_triples.specs.InvertedIndex.{positions_of}
@@ -111,7 +112,7 @@ fewer_left p f at k l h = later_by (k - at) p f at k (omega (arith, l)) h
 pub spared : (s : ℕ) (f : BitmapTriples) (at k steps after : ℕ) → at ≤ k → k ≤ length f.array_z → after ≤ steps
     → IsWithinBudget (subject_cost f s) f steps (triples_from f at)
     → IsWithinBudget (subject_cost f s) f after (triples_from f k)
-unfolding limit subject_cost
+unfolding step_bound subject_cost
 spared s f at k steps after l h few pays = omega (arith, few, pays, fewer_left (of_subject s) f at k l h)
 
 -- ---- the bound by matches: `search_cost` is the cost of a search in the list, `most` the bound, `left` the remaining
@@ -143,7 +144,7 @@ pub first_pays : (s : ℕ) (f : BitmapTriples) (j steps : ℕ) → j ≤ length 
     → ((i : ℕ) → i < j → subject_at f (pair_of f i) ≢ s)
     → steps ≤ digits (groups f.bitmap_y) + digits (groups f.bitmap_z) + 19
     → IsWithinBudget (subject_cost f s) f (steps + 0) (triples_from f j)
-unfolding limit subject_cost lookup_cost
+unfolding step_bound subject_cost lookup_cost
 first_pays s f j steps h before few = omega (arith, few, ap length (matches_skipped (of_subject s) s f j refl h before))
 
 pub goes_short : (search_cost most steps left saved_steps : ℕ) → saved_steps ≤ search_cost

@@ -50,6 +50,10 @@ predicate_cost f p = record { base = 0; each = lookup_cost f; counted = of_predi
 unfoldable pub object_cost : ℕ → CostBound
 object_cost o = record { base = 0; each = 20; counted = of_object o }
 
+-- Nothing: 4 for each triple, whatever matches.
+unfoldable pub scan_cost : BitmapTriples → Pattern → CostBound
+scan_cost f m = record { base = 4 * length f.array_z; each = 0; counted = m }
+
 -- Finding an object in a pair: two searches by rank and select, and a binary search among the triples.
 unfoldable pub pair_search_cost : BitmapTriples → ℕ
 pair_search_cost f = 2 * lookup_cost f + digits (length f.array_z)
@@ -58,20 +62,24 @@ pair_search_cost f = 2 * lookup_cost f + digits (length f.array_z)
 abbrev pub match_count : Pattern → BitmapTriples → ℕ
 match_count p f = length (matches p (triples_of f))
 
-unfoldable pub limit : CostBound → BitmapTriples → ℕ
-limit c f = c.base + c.each * (1 + match_count c.counted f)
+-- The number of steps that a bound allows.
+unfoldable pub step_bound : CostBound → BitmapTriples → ℕ
+step_bound c f = c.base + c.each * (1 + match_count c.counted f)
 
-abbrev pub most_steps_by : BitmapTriples → Pattern → Option ℕ → Option ℕ → Option ℕ → ℕ
-most_steps_by f pattern (Some s) None o = limit (subject_cost f s) f
-most_steps_by f pattern (Some s) (Some p) o = limit (pair_cost f pattern) f
-most_steps_by f pattern None (Some p) None = limit (predicate_cost f p) f
-most_steps_by f pattern None p (Some o) = limit (object_cost o) f
--- Nothing: all triples are scanned.
-most_steps_by f pattern None None None = 4 * length f.array_z
+-- The table of bounds of a search, by which of subject, predicate and object its pattern m gives.
+abbrev pub cost_of_parts : BitmapTriples → Pattern → Option ℕ → Option ℕ → Option ℕ → CostBound
+cost_of_parts f m (Some s) None o = subject_cost f s
+cost_of_parts f m (Some s) (Some p) o = pair_cost f m
+cost_of_parts f m None (Some p) None = predicate_cost f p
+cost_of_parts f m None p (Some o) = object_cost o
+cost_of_parts f m None None None = scan_cost f m
 
--- The table of steps of a search.
+abbrev pub cost_of : BitmapTriples → Pattern → CostBound
+cost_of f m = cost_of_parts f m m.s m.p m.o
+
+-- The maximal number of steps of a search.
 unfoldable pub most_steps : BitmapTriples → Pattern → ℕ
-most_steps f p = most_steps_by f p p.s p.p p.o
+most_steps f m = step_bound (cost_of f m) f
 
 -- Finding the next triple of an object in its list: a binary search, and 20 more.
 unfoldable pub list_search_cost : BitmapTriples → ℕ → ℕ
@@ -84,7 +92,7 @@ shorter_list_steps_by f pattern None (Some p) (Some o) = pair_search_cost f * (1
 -- one more.
 shorter_list_steps_by f pattern (Some s) None (Some o) =
     lookup_cost f + 4 * list_search_cost f o * (1 + match_count pattern f)
-shorter_list_steps_by f pattern s p o = most_steps_by f pattern s p o
+shorter_list_steps_by f pattern s p o = most_steps f pattern
 
 -- The table of steps of a search that uses the shorter of two lists.
 unfoldable pub shorter_list_steps : BitmapTriples → Pattern → ℕ
@@ -133,11 +141,10 @@ unfoldable pub scan_steps : BitmapTriples → Pattern → ℕ
 scan_steps f p = scan_steps_by f p.s p.p p.o
 
 -- Finding where a search from a triple on begins: three searches by rank and select, a binary search among the pairs
--- and
--- one among the triples.
+-- and one among the triples.
 unfoldable pub start_cost : BitmapTriples → ℕ
 start_cost f = 3 * lookup_cost f + digits (length f.array_y) + digits (length f.array_z)
 
 -- The steps so far, and the bound for the remaining triples, are within the bound for the complete search.
 abbrev pub IsWithinBudget : CostBound → BitmapTriples → ℕ → List Triple → Type 0
-IsWithinBudget c f steps left = steps + c.each * length (matches c.counted left) ≤ limit c f
+IsWithinBudget c f steps left = steps + c.each * length (matches c.counted left) ≤ step_bound c f

@@ -1,7 +1,7 @@
 -- Views of an iterator over matches: the remaining matches, the bounds on its steps by either table, and the steps so
 -- far.
 use Rattle.std.specs.Prelude.{ℕ, ◌+◌, ◌*◌, List, [], length, map, min}
-use Rattle.hdt_triples.specs.Bounds.{lookup_cost, limit, object_cost, of_predicate, pair_search_cost, pair_cost}
+use Rattle.hdt_triples.specs.Bounds.{lookup_cost, step_bound, object_cost, of_predicate, pair_search_cost, pair_cost}
 use Rattle.hdt_triples.specs.Bounds.{predicate_cost, list_search_cost, subject_cost, match_count}
 use Rattle.hdt_triples.specs.TripleSequences.{Triple, triple_at}
 use Rattle.hdt_triples.specs.InvertedIndex.{positions_of}
@@ -12,7 +12,8 @@ use Rattle.hdt_triples.specs.declared.matches.Matches.{Matches}
 use Rattle.hdt_triples.specs.declared.matches.Matches.TheVariants.{Empty, Scan, Subject, SubjectObject, Pair, Predicate}
 use Rattle.hdt_triples.specs.declared.matches.Matches.TheVariants.{PredicateObject, Object}
 
--- The remaining matches: among the triples from the current one on, or among the remaining triples of an object.
+-- The remaining matches: among the triples from the current one on, or among the remaining triples of an object. They
+-- need not be read: `next` ties them to the triples that it returns.
 unfoldable pub remaining_matches : Matches → List Triple
 remaining_matches Empty = []
 remaining_matches (Scan m) = matches m.pattern (triples_from (triples_view m.triples) m.position.at)
@@ -28,21 +29,21 @@ remaining_matches (Object m) = matches m.pattern (map (triple_at (triples_view m
 unfoldable pub step_limit : Matches → ℕ
 step_limit Empty = 0
 step_limit (Scan m) = 4 * length (triples_view m.triples).array_z
-step_limit (Subject m) = limit (subject_cost (triples_view m.triples) m.subject) (triples_view m.triples)
+step_limit (Subject m) = step_bound (subject_cost (triples_view m.triples) m.subject) (triples_view m.triples)
 step_limit (SubjectObject m) =
-    limit (subject_cost (triples_view m.indexed.now.triples) m.subject) (triples_view m.indexed.now.triples)
-step_limit (Pair m) = limit (pair_cost (triples_view m.triples) m.pattern) (triples_view m.triples)
+    step_bound (subject_cost (triples_view m.indexed.now.triples) m.subject) (triples_view m.indexed.now.triples)
+step_limit (Pair m) = step_bound (pair_cost (triples_view m.triples) m.pattern) (triples_view m.triples)
 step_limit (Predicate m) =
-    limit (predicate_cost (triples_view m.indexed.now.triples) m.predicate) (triples_view m.indexed.now.triples)
-step_limit (PredicateObject m) = limit (object_cost m.object) (triples_view m.indexed.now.triples)
-step_limit (Object m) = limit (object_cost m.object) (triples_view m.indexed.now.triples)
+    step_bound (predicate_cost (triples_view m.indexed.now.triples) m.predicate) (triples_view m.indexed.now.triples)
+step_limit (PredicateObject m) = step_bound (object_cost m.object) (triples_view m.indexed.now.triples)
+step_limit (Object m) = step_bound (object_cost m.object) (triples_view m.indexed.now.triples)
 
 unfoldable pub shorter_list_step_limit : Matches → ℕ
 shorter_list_step_limit (PredicateObject m) =
     pair_search_cost (triples_view m.indexed.now.triples) * (1 + length
     (positions_of (triples_view m.indexed.now.triples).array_y m.predicate))
 shorter_list_step_limit (SubjectObject m) =
-    min (limit (subject_cost (triples_view m.indexed.now.triples) m.subject) (triples_view m.indexed.now.triples))
+    min (step_bound (subject_cost (triples_view m.indexed.now.triples) m.subject) (triples_view m.indexed.now.triples))
     (lookup_cost (triples_view m.indexed.now.triples) + 4 * list_search_cost
     (triples_view m.indexed.now.triples) m.object * (1 + match_count m.pattern (triples_view m.indexed.now.triples)))
 shorter_list_step_limit m = step_limit m

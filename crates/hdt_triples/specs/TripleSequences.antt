@@ -32,7 +32,7 @@ unfoldable pub triples_of : BitmapTriples → List Triple
 triples_of f = map (triple_at f) (range_with_len 0 (length f.array_z))
 
 -- The sequences are consistent: each bitmap is as long as its array and ends in a 1-bit, and bitmap Z has a 1-bit for
--- each pair. An empty bitmap is not: 0 - 1 is 0 here, where it has no bit.
+-- each pair. No bitmap is empty: 0 - 1 is 0 in ℕ, and an empty bitmap has no bit 0.
 pub record AreConsistentSequences (f : BitmapTriples) : Type 0 where
   pub pairs : length f.bitmap_y ≡ length f.array_y
   pub triples : length f.bitmap_z ≡ length f.array_z

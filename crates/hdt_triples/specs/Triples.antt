@@ -12,7 +12,7 @@ use Rattle.hdt_wire.specs.declared.control.Kind.TheVariants as kinds
 use Rattle.hdt_wire.specs.Checks.{◌>>=◌, demand}
 use Rattle.hdt_wire.specs.Control.{ControlInfo, IsControlAt, control_at}
 use Rattle.hdt_wire.specs.Property.{property_value}
-use Rattle.hdt_seq.specs.Sequence.{SequenceShape, Sequence, entry_offset}
+use Rattle.hdt_seq.specs.Sequence.{Sequence, entry_offset}
 use Rattle.hdt_seq.specs.Numbers.{numbers_at}
 use Rattle.hdt_seq.specs.Bits.{bits_at}
 use Rattle.hdt_seq.specs.RankSelect.{ones_before}
@@ -58,34 +58,34 @@ previous_in_group marks xs zero = 0
 previous_in_group marks xs (suc i) = if slice_index_or marks i false then 0 else slice_index xs i
 
 -- Entry i is from 1 to the count, and greater than the previous one of its group.
-unfoldable pub entry_checks : List Bool → List ℕ → SequenceShape → ℕ → Reason → Reason → ℕ → Result (Unit {0}) Fault
-entry_checks marks xs offsets count range ascent i = do
-  _ ← demand (nat_le 1 (slice_index xs i) && nat_le (slice_index xs i) count) (entry_offset offsets i) range
-  demand (nat_lt (previous_in_group marks xs i) (slice_index xs i)) (entry_offset offsets i) ascent
+unfoldable pub entry_checks : List Bool → Sequence ℕ → ℕ → Reason → Reason → ℕ → Result (Unit {0}) Fault
+entry_checks marks xs count range ascent i = do
+  _ ← demand (nat_le 1 (slice_index xs.items i) && nat_le (slice_index xs.items i) count) (entry_offset xs.offsets i)
+      range
+  demand (nat_lt (previous_in_group marks xs.items i) (slice_index xs.items i)) (entry_offset xs.offsets i) ascent
 
 -- The subject of pair q is within the count, and its predicate passes the checks of an entry.
-unfoldable pub pair_checks : Counts → List Bool → SequenceShape → List ℕ → SequenceShape → ℕ
-    → Result (Unit {0}) Fault
-pair_checks counts bitmap_y bitmap_y_offsets array_y array_y_offsets q = do
-  _ ← demand (nat_le (ones_before bitmap_y q + 1) counts.subjects) (entry_offset bitmap_y_offsets q) SubjectRange
-  entry_checks bitmap_y array_y array_y_offsets counts.predicates PredicateRange PredicatesNotAscending q
+unfoldable pub pair_checks : Counts → Sequence Bool → Sequence ℕ → ℕ → Result (Unit {0}) Fault
+pair_checks counts bits predicates q = do
+  _ ← demand (nat_le (ones_before bits.items q + 1) counts.subjects) (entry_offset bits.offsets q) SubjectRange
+  entry_checks bits.items predicates counts.predicates PredicateRange PredicatesNotAscending q
 
 -- All pairs pass their checks.
-abbrev pub all_pair_checks : Counts → List Bool → SequenceShape → List ℕ → SequenceShape → Result (Unit {0}) Fault
-all_pair_checks counts bitmap_y bitmap_y_offsets array_y array_y_offsets =
-    checks_from (pair_checks counts bitmap_y bitmap_y_offsets array_y array_y_offsets) 0 (length array_y)
+abbrev pub all_pair_checks : Counts → Sequence Bool → Sequence ℕ → Result (Unit {0}) Fault
+all_pair_checks counts bits predicates = checks_from (pair_checks counts bits predicates) 0 (length predicates.items)
 
 -- All objects pass the checks of an entry.
-abbrev pub all_object_checks : List Bool → List ℕ → SequenceShape → ℕ → Result (Unit {0}) Fault
-all_object_checks bitmap_z array_z offsets count =
-    checks_from (entry_checks bitmap_z array_z offsets count ObjectRange ObjectsNotAscending) 0 (length array_z)
+abbrev pub all_object_checks : List Bool → Sequence ℕ → ℕ → Result (Unit {0}) Fault
+all_object_checks marks objects count =
+    checks_from (entry_checks marks objects count ObjectRange ObjectsNotAscending) 0 (length objects.items)
 
+-- The last bit, or false if there is none.
 abbrev pub last_bit : List Bool → Bool
 last_bit marks = slice_index_or marks (length marks - 1) false
 
 -- The last bit is 1.
-abbrev pub last_bit_check : List Bool → SequenceShape → Result (Unit {0}) Fault
-last_bit_check marks offsets = demand (last_bit marks) (entry_offset offsets (length marks - 1)) LastMark
+abbrev pub last_bit_check : Sequence Bool → Result (Unit {0}) Fault
+last_bit_check bits = demand (last_bit bits.items) (entry_offset bits.offsets (length bits.items - 1)) LastMark
 
 -- The four sequences pass their checks, in this order.
 unfoldable pub sequence_checks : Counts → Sequence Bool → Sequence Bool → Sequence ℕ → Sequence ℕ
@@ -93,12 +93,12 @@ unfoldable pub sequence_checks : Counts → Sequence Bool → Sequence Bool → 
 sequence_checks counts bitmap_y bitmap_z array_y array_z = do
   _ ← demand (length bitmap_y.items == length array_y.items) array_y.offsets.count LengthsDiffer
   _ ← demand (length bitmap_z.items == length array_z.items) array_z.offsets.count LengthsDiffer
-  _ ← last_bit_check bitmap_y.items bitmap_y.offsets
-  _ ← last_bit_check bitmap_z.items bitmap_z.offsets
+  _ ← last_bit_check bitmap_y
+  _ ← last_bit_check bitmap_z
   _ ← demand (ones_before bitmap_z.items (length bitmap_z.items) == length array_y.items) bitmap_z.offsets.count
       MarkCount
-  _ ← all_pair_checks counts bitmap_y.items bitmap_y.offsets array_y.items array_y.offsets
-  all_object_checks bitmap_z.items array_z.items array_z.offsets counts.objects
+  _ ← all_pair_checks counts bitmap_y array_y
+  all_object_checks bitmap_z.items array_z counts.objects
 
 -- Decoding: the triples section at byte offset `at`, or the first error.
 unfoldable pub decode_triple_parts : Counts → List ℕ → ℕ → Result TripleParts Fault

@@ -1,9 +1,10 @@
-//! The checks of the four sequences as they are read.
+//! The checks of the four sequences as they are read. The offset after a sequence is in no check: where it is 0 here,
+//! it may be any other.
 ghost use Rattle.std.specs.Prelude.{◌≡◌, ℕ, ◌≤◌, ◌<◌, ◌+◌, ◌^◌, length, slice_index, IfOk, OnOk, codes};
 ghost use Rattle.hdt_wire.specs.Property.{property_value};
 ghost use Rattle.hdt_seq.specs.RankSelect.{ones_before};
-ghost use Rattle.hdt_seq.specs.Numbers.{numbers_of, numbers_offsets, numbers_view};
-ghost use Rattle.hdt_seq.specs.Bits.{bits_of, bits_offsets, bits_view};
+ghost use Rattle.hdt_seq.specs.Numbers.{numbers_of, numbers_view};
+ghost use Rattle.hdt_seq.specs.Bits.{bits_of, bits_view};
 ghost use Rattle.hdt_triples.specs.TripleSequences.{AreValidSequences};
 ghost use Rattle.hdt_triples.specs.Triples.{previous_in_group, entry_checks, pair_checks, all_pair_checks};
 ghost use Rattle.hdt_triples.specs.Triples.{all_object_checks, last_bit_check, is_spo_order, sequence_checks};
@@ -16,7 +17,7 @@ use hdt_wire::{Fault, Reason, demand, property};
 /// Checks that the last bit is 1.
 fn check_last_bit(marks: &Bits<'_>) -> Result<(), Fault>
     requires { 0 < length (bits_of marks.now) }
-    ensures { result ≡ last_bit_check (bits_of marks.now) (bits_offsets marks.now) }
+    ensures { result ≡ last_bit_check (bits_view (marks.now, 0)) }
 {
     let last = marks.len() - 1;
     demand(
@@ -56,8 +57,7 @@ fn check_entry(
     requires within { i < length (numbers_of xs.now) }
     requires entry_is { entry ≡ slice_index (numbers_of xs.now) i }
     requires before_is { before ≡ previous_in_group (bits_of marks.now) (numbers_of xs.now) i }
-    ensures { result ≡ entry_checks (bits_of marks.now) (numbers_of xs.now)
-        (numbers_offsets xs.now) count range ascent i }
+    ensures { result ≡ entry_checks (bits_of marks.now) (numbers_view (xs.now, 0)) count range ascent i }
 {
     demand(
         1 <= entry && entry <= count,
@@ -83,8 +83,7 @@ fn check_pair(
     requires predicate_is { predicate ≡ slice_index (numbers_of array_y.now) q }
     requires subject_is { subject ≡ ones_before (bits_of bitmap_y.now) q + 1 }
     requires before_is { before ≡ previous_in_group (bits_of bitmap_y.now) (numbers_of array_y.now) q }
-    ensures is { result ≡ pair_checks counts.now (bits_of bitmap_y.now) (bits_offsets bitmap_y.now)
-        (numbers_of array_y.now) (numbers_offsets array_y.now) q }
+    ensures is { result ≡ pair_checks counts.now (bits_view (bitmap_y.now, 0)) (numbers_view (array_y.now, 0)) q }
     ensures range { IfOk result (λ _. subject ≤ counts.now.subjects) }
 {
     demand(
@@ -109,8 +108,7 @@ fn check_pair(
 fn check_pairs(counts: &Counts, bitmap_y: &Bits<'_>, array_y: &Numbers<'_>) -> Result<(), Fault>
     requires same { length (bits_of bitmap_y.now) ≡ length (numbers_of array_y.now) }
     requires few { counts.now.subjects < 2 ^ 63 }
-    ensures { result ≡ all_pair_checks counts.now (bits_of bitmap_y.now) (bits_offsets bitmap_y.now)
-        (numbers_of array_y.now) (numbers_offsets array_y.now) }
+    ensures { result ≡ all_pair_checks counts.now (bits_view (bitmap_y.now, 0)) (numbers_view (array_y.now, 0)) }
 {
     let mut subject: u64 = 1;
     let mut before: u64 = 0;
@@ -131,8 +129,7 @@ fn check_pairs(counts: &Counts, bitmap_y: &Bits<'_>, array_y: &Numbers<'_>) -> R
 #[tactic(auto, using(hdt_wire::specs::Laws::ItemChecks::checks_after_pass, hdt_wire::specs::Laws::ItemChecks::checks_after_failure, hdt_wire::specs::Laws::ItemChecks::checks_at_end))]
 fn check_objects(bitmap_z: &Bits<'_>, array_z: &Numbers<'_>, count: u64) -> Result<(), Fault>
     requires { length (bits_of bitmap_z.now) ≡ length (numbers_of array_z.now) }
-    ensures { result ≡ all_object_checks (bits_of bitmap_z.now) (numbers_of array_z.now)
-        (numbers_offsets array_z.now) count }
+    ensures { result ≡ all_object_checks (bits_of bitmap_z.now) (numbers_view (array_z.now, 0)) count }
 {
     let mut before: u64 = 0;
     'objects: for j in 0..array_z.len() {
@@ -167,7 +164,7 @@ pub(crate) fn has_spo_order(properties: &[u8]) -> bool
 }
 
 /// Checks the four sequences against each other and against the counts.
-#[tactic(auto, unfolding(crate::specs::Triples::sequence_checks))]
+#[tactic(auto, unfolding(crate::specs::Triples::sequence_checks, crate::specs::Triples::pair_checks, crate::specs::Triples::entry_checks))]
 fn run_sequence_checks(
     counts: &Counts,
     bitmap_y: &Bits<'_>,

@@ -182,7 +182,7 @@ impl<'a> ListedTriples<'a> {
     /// but no predicate, the subject's triples are scanned, and long stretches without a match are skipped by the
     /// object's list. Given no subject, a predicate is found by its list of pairs, an object by its list of triples,
     /// and both by the list that needs fewer steps. Given nothing, all triples are scanned.
-    #[tactic(auto, using(crate::proofs::PredicateObjectLaws::shorter), unfolding(crate::specs::Bounds::most_steps, crate::specs::Bounds::shorter_list_steps))]
+    #[tactic(auto, using(crate::proofs::PredicateObjectLaws::shorter, crate::proofs::ScanLaws::scan_bound), unfolding(crate::specs::Bounds::most_steps, crate::specs::Bounds::shorter_list_steps))]
     pub fn find(&self, pattern: Pattern) -> Matches<'_>
         ensures items { remaining_matches result
             ≡ matches pattern (triples_of (triples_view (triples_listed self.now))) }
@@ -208,7 +208,7 @@ impl<'a> ListedTriples<'a> {
     }
 
     /// Finds the matches of a pattern from a triple on. The triple must exist.
-    #[tactic(auto, using(crate::proofs::PredicateObjectLaws::shorter), unfolding(crate::specs::Bounds::most_steps, crate::specs::Bounds::shorter_list_steps, crate::specs::Bounds::start_cost, crate::specs::Bounds::lookup_cost))]
+    #[tactic(auto, using(crate::proofs::PredicateObjectLaws::shorter, crate::proofs::ScanLaws::scan_bound), unfolding(crate::specs::Bounds::most_steps, crate::specs::Bounds::shorter_list_steps, crate::specs::Bounds::start_cost, crate::specs::Bounds::lookup_cost))]
     fn find_from_triple(&self, pattern: Pattern, from: u64, steps: &mut Steps) -> Matches<'_>
         requires { from < length (triples_view (triples_listed self.now)).array_z }
         ensures items { remaining_matches result

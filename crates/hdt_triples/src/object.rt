@@ -3,7 +3,7 @@ ghost use Rattle.std.specs.Prelude.{◌≡◌, ◌≤◌, ◌+◌, ◌<◌, ◌^
 ghost use Rattle.std.specs.List.{All};
 ghost use Rattle.hdt_seq.specs.Width.{digits};
 ghost use Rattle.hdt_triples.specs.Bounds.{object_cost, of_object, most_steps, shorter_list_steps, IsWithinBudget};
-ghost use Rattle.hdt_triples.specs.Bounds.{limit};
+ghost use Rattle.hdt_triples.specs.Bounds.{step_bound};
 ghost use Rattle.hdt_triples.specs.TripleSequences.{triple_at, triples_of};
 ghost use Rattle.hdt_triples.specs.InvertedIndex.{IsPositionOf};
 ghost use Rattle.hdt_triples.specs.Patterns.{matches};
@@ -48,7 +48,7 @@ impl<'a> ObjectMatches<'a> {
         ensures items { remaining_matches result
             ≡ matches pattern (triples_of (triples_view (triples_listed listed.now))) }
         ensures fits { length (remaining_matches result) < 2 ^ 64 }
-        ensures few { step_limit result ≡ limit (object_cost object) (triples_view (triples_listed listed.now)) }
+        ensures few { step_limit result ≡ step_bound (object_cost object) (triples_view (triples_listed listed.now)) }
     {
         let mut steps = steps;
         let rest = listed.positions_of(object, &mut steps);
@@ -74,7 +74,7 @@ impl<'a> ObjectMatches<'a> {
         requires within { from < length (triples_view (triples_listed listed.now)).array_z }
         ensures items { remaining_matches result
             ≡ matches pattern (triples_from (triples_view (triples_listed listed.now)) from) }
-        ensures limit { step_limit result ≡ limit (object_cost object) (triples_view (triples_listed listed.now)) }
+        ensures few { step_limit result ≡ step_bound (object_cost object) (triples_view (triples_listed listed.now)) }
         ensures fresh { steps_taken result ≡ 0 }
         ensures cost { steps.new
             ≤ steps.old + (digits (length (triples_view (triples_listed listed.now)).array_z) + 2) }

@@ -2,7 +2,7 @@
 ghost use Rattle.std.specs.Prelude.{◌≡◌, ◌≤◌, ◌<◌, ◌+◌, ◌*◌, ◌^◌, length, Some};
 ghost use Rattle.hdt_seq.specs.Directory.{groups};
 ghost use Rattle.hdt_seq.specs.Width.{digits};
-ghost use Rattle.hdt_triples.specs.Bounds.{pair_cost, IsWithinBudget, limit};
+ghost use Rattle.hdt_triples.specs.Bounds.{pair_cost, IsWithinBudget, step_bound};
 ghost use Rattle.hdt_triples.specs.TripleSequences.{triples_of};
 ghost use Rattle.hdt_triples.specs.Patterns.{matches};
 ghost use Rattle.hdt_triples.specs.Inside.Runs.{IsRunOfTriples};
@@ -49,7 +49,7 @@ impl<'a> PairMatches<'a> {
             ≡ matches pattern (triples_of (triples_view (triples_indexed indexed.now))) }
         ensures fits { length (remaining_matches result) < 2 ^ 64 }
         ensures few { step_limit result
-            ≡ limit (pair_cost (triples_view (triples_indexed indexed.now)) pattern)
+            ≡ step_bound (pair_cost (triples_view (triples_indexed indexed.now)) pattern)
             (triples_view (triples_indexed indexed.now)) }
     {
         let mut steps = Steps::new();
@@ -80,8 +80,8 @@ impl<'a> PairMatches<'a> {
         requires within { from < length (triples_view (triples_indexed indexed.now)).array_z }
         ensures items { remaining_matches result
             ≡ matches pattern (triples_from (triples_view (triples_indexed indexed.now)) from) }
-        ensures limit { step_limit result
-            ≡ limit (pair_cost (triples_view (triples_indexed indexed.now)) pattern)
+        ensures few { step_limit result
+            ≡ step_bound (pair_cost (triples_view (triples_indexed indexed.now)) pattern)
             (triples_view (triples_indexed indexed.now)) }
         ensures fresh { steps_taken result ≡ 0 }
         ensures cost { steps.new ≤ steps.old + (2 * digits

@@ -2,7 +2,7 @@
 ghost use Rattle.std.specs.Prelude.{◌≡◌, ◌≤◌, ◌<◌, ◌+◌, ◌^◌, length};
 ghost use Rattle.hdt_seq.specs.Directory.{groups};
 ghost use Rattle.hdt_seq.specs.Width.{digits};
-ghost use Rattle.hdt_triples.specs.Bounds.{of_predicate, predicate_cost, IsWithinBudget, limit};
+ghost use Rattle.hdt_triples.specs.Bounds.{of_predicate, predicate_cost, IsWithinBudget, step_bound};
 ghost use Rattle.hdt_triples.specs.TripleSequences.{triples_of};
 ghost use Rattle.hdt_triples.specs.Patterns.{matches};
 ghost use Rattle.hdt_triples.specs.Inside.PredicateCursors.{IsPredicateCursor};
@@ -39,7 +39,7 @@ impl<'a> PredicateMatches<'a> {
             ≡ matches (of_predicate predicate) (triples_of (triples_view (triples_listed listed.now))) }
         ensures fits { length (remaining_matches result) < 2 ^ 64 }
         ensures few { step_limit result
-            ≡ limit (predicate_cost (triples_view (triples_listed listed.now)) predicate)
+            ≡ step_bound (predicate_cost (triples_view (triples_listed listed.now)) predicate)
             (triples_view (triples_listed listed.now)) }
     {
         let mut steps = Steps::new();
@@ -68,8 +68,8 @@ impl<'a> PredicateMatches<'a> {
         requires { from < length (triples_view (triples_listed listed.now)).array_z }
         ensures items { remaining_matches result
             ≡ matches (of_predicate predicate) (triples_from (triples_view (triples_listed listed.now)) from) }
-        ensures limit { step_limit result
-            ≡ limit (predicate_cost (triples_view (triples_listed listed.now)) predicate)
+        ensures few { step_limit result
+            ≡ step_bound (predicate_cost (triples_view (triples_listed listed.now)) predicate)
             (triples_view (triples_listed listed.now)) }
         ensures fresh { steps_taken result ≡ 0 }
         ensures cost { steps.new ≤ steps.old + (digits

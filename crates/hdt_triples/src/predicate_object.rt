@@ -1,6 +1,6 @@
 //! Search by a predicate and an object.
 ghost use Rattle.std.specs.Prelude.{◌≡◌, ◌≤◌, ◌+◌, ◌*◌, ◌<◌, ◌^◌, Some, None, length};
-ghost use Rattle.hdt_triples.specs.Bounds.{limit, object_cost, pair_search_cost};
+ghost use Rattle.hdt_triples.specs.Bounds.{step_bound, object_cost, pair_search_cost};
 ghost use Rattle.hdt_triples.specs.TripleSequences.{triples_of};
 ghost use Rattle.hdt_triples.specs.Inside.PredicateCursors.{IsBeforePair};
 ghost use Rattle.hdt_triples.specs.InvertedIndex.{positions_of};
@@ -41,7 +41,7 @@ pub struct PredicateObjectMatches<'a> {
     pub ghost few: { pair_search_cost
         (triples_view indexed.now.triples) * (1 + length
         (positions_of (triples_view indexed.now.triples).array_y predicate))
-        ≤ limit (object_cost object) (triples_view indexed.now.triples) },
+        ≤ step_bound (object_cost object) (triples_view indexed.now.triples) },
 }
 
 impl<'a> PredicateObjectMatches<'a> {
@@ -63,7 +63,7 @@ impl<'a> PredicateObjectMatches<'a> {
         ensures items { remaining_matches result
             ≡ matches pattern (triples_of (triples_view (triples_listed listed.now))) }
         ensures fits { length (remaining_matches result) < 2 ^ 64 }
-        ensures few { step_limit result ≡ limit (object_cost object) (triples_view (triples_listed listed.now)) }
+        ensures few { step_limit result ≡ step_bound (object_cost object) (triples_view (triples_listed listed.now)) }
         ensures short { shorter_list_step_limit result
             ≤ pair_search_cost (triples_view (triples_listed listed.now)) * (1 + length
             (positions_of (triples_view (triples_listed listed.now)).array_y predicate)) }
@@ -103,7 +103,7 @@ impl<'a> PredicateObjectMatches<'a> {
         requires within { from < length (triples_view (triples_listed listed.now)).array_z }
         ensures items { remaining_matches result
             ≡ matches pattern (triples_from (triples_view (triples_listed listed.now)) from) }
-        ensures limit { step_limit result ≡ limit (object_cost object) (triples_view (triples_listed listed.now)) }
+        ensures few { step_limit result ≡ step_bound (object_cost object) (triples_view (triples_listed listed.now)) }
         ensures short { shorter_list_step_limit result
             ≤ pair_search_cost (triples_view (triples_listed listed.now)) * (1 + length
             (positions_of (triples_view (triples_listed listed.now)).array_y predicate)) }

@@ -4,7 +4,6 @@ ghost use Rattle.hdt_triples.specs.TripleSequences.{triples_of};
 ghost use Rattle.hdt_triples.specs.Patterns.{matches};
 ghost use Rattle.hdt_triples.specs.Views.{triples_view};
 ghost use Rattle.hdt_triples.specs.Scanning.{IsTriplePosition, triples_from};
-ghost use Rattle.hdt_triples.specs.Bounds.{limit};
 
 use crate::indexed::IndexedTriples;
 use crate::matches::Matches;
@@ -55,7 +54,7 @@ impl<'a> ScanMatches<'a> {
         requires { from < length (triples_view (triples_indexed indexed.now)).array_z }
         ensures items { remaining_matches result
             ≡ matches pattern (triples_from (triples_view (triples_indexed indexed.now)) from) }
-        ensures limit { step_limit result ≡ 4 * length (triples_view (triples_indexed indexed.now)).array_z }
+        ensures few { step_limit result ≡ 4 * length (triples_view (triples_indexed indexed.now)).array_z }
         ensures fresh { steps_taken result ≡ 0 }
         ensures cost { steps.new ≤ steps.old + 16 }
         ensures more { steps.old ≤ steps.new }

@@ -2,7 +2,7 @@
 ghost use Rattle.std.specs.Prelude.{◌≡◌, ◌≤◌, ◌<◌, ◌+◌, ◌^◌, length, Some};
 ghost use Rattle.hdt_seq.specs.Directory.{groups};
 ghost use Rattle.hdt_seq.specs.Width.{digits};
-ghost use Rattle.hdt_triples.specs.Bounds.{subject_cost, IsWithinBudget, limit};
+ghost use Rattle.hdt_triples.specs.Bounds.{subject_cost, IsWithinBudget, step_bound};
 ghost use Rattle.hdt_triples.specs.TripleSequences.{triples_of};
 ghost use Rattle.hdt_triples.specs.Patterns.{matches};
 ghost use Rattle.hdt_triples.specs.Views.{triples_view};
@@ -41,7 +41,7 @@ impl<'a> SubjectMatches<'a> {
             ≡ matches pattern (triples_of (triples_view (triples_indexed indexed.now))) }
         ensures fits { length (remaining_matches result) < 2 ^ 64 }
         ensures few { step_limit result
-            ≡ limit (subject_cost (triples_view (triples_indexed indexed.now)) subject)
+            ≡ step_bound (subject_cost (triples_view (triples_indexed indexed.now)) subject)
             (triples_view (triples_indexed indexed.now)) }
     {
         let mut steps = Steps::new();
@@ -68,8 +68,8 @@ impl<'a> SubjectMatches<'a> {
         requires within { from < length (triples_view (triples_indexed indexed.now)).array_z }
         ensures items { remaining_matches result
             ≡ matches pattern (triples_from (triples_view (triples_indexed indexed.now)) from) }
-        ensures limit { step_limit result
-            ≡ limit (subject_cost (triples_view (triples_indexed indexed.now)) subject)
+        ensures few { step_limit result
+            ≡ step_bound (subject_cost (triples_view (triples_indexed indexed.now)) subject)
             (triples_view (triples_indexed indexed.now)) }
         ensures fresh { steps_taken result ≡ 0 }
         ensures cost { steps.new ≤ steps.old + (digits

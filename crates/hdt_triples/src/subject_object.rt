@@ -2,7 +2,7 @@
 ghost use Rattle.std.specs.Prelude.{◌≡◌, ◌≢◌, ◌≤◌, ◌<◌, ◌+◌, ◌*◌, ◌^◌, ℕ, length, slice_index, IfSome, Some, None};
 ghost use Rattle.hdt_seq.specs.Directory.{groups};
 ghost use Rattle.hdt_seq.specs.Width.{digits};
-ghost use Rattle.hdt_triples.specs.Bounds.{lookup_cost, limit, IsWithinBudget, list_search_cost, subject_cost};
+ghost use Rattle.hdt_triples.specs.Bounds.{lookup_cost, step_bound, IsWithinBudget, list_search_cost, subject_cost};
 ghost use Rattle.hdt_triples.specs.Bounds.{match_count};
 ghost use Rattle.hdt_triples.specs.TripleSequences.{pair_of, subject_at, triples_of};
 ghost use Rattle.hdt_triples.specs.Inside.Runs.{IsNextWithObject};
@@ -80,7 +80,7 @@ impl<'a> SubjectObjectMatches<'a> {
             ≡ matches pattern (triples_of (triples_view (triples_listed listed.now))) }
         ensures fits { length (remaining_matches result) < 2 ^ 64 }
         ensures few { step_limit result
-            ≡ limit (subject_cost (triples_view (triples_listed listed.now)) subject)
+            ≡ step_bound (subject_cost (triples_view (triples_listed listed.now)) subject)
             (triples_view (triples_listed listed.now)) }
         ensures short { shorter_list_step_limit result
             ≤ lookup_cost (triples_view (triples_listed listed.now)) + 4 * list_search_cost
@@ -119,8 +119,8 @@ impl<'a> SubjectObjectMatches<'a> {
         requires within { from < length (triples_view (triples_listed listed.now)).array_z }
         ensures items { remaining_matches result
             ≡ matches pattern (triples_from (triples_view (triples_listed listed.now)) from) }
-        ensures limit { step_limit result
-            ≡ limit (subject_cost (triples_view (triples_listed listed.now)) subject)
+        ensures few { step_limit result
+            ≡ step_bound (subject_cost (triples_view (triples_listed listed.now)) subject)
             (triples_view (triples_listed listed.now)) }
         ensures short { shorter_list_step_limit result
             ≤ lookup_cost (triples_view (triples_listed listed.now)) + 4 * list_search_cost

@@ -1,5 +1,5 @@
 //! Bitmap triples.
-ghost use Rattle.std.specs.Prelude.{◌≡◌, ◌≤◌, ◌<◌, ◌^◌, length, IfOk, Ok, ◌+◌, Some, ◌-◌, ◌*◌, min, None};
+ghost use Rattle.std.specs.Prelude.{◌≡◌, ◌≤◌, ◌<◌, ◌^◌, length, IfOk, ◌+◌, Some, ◌-◌, ◌*◌, min, None};
 ghost use Rattle.hdt_wire.specs.Checks.{Reads};
 ghost use Rattle.hdt_seq.specs.Numbers.{numbers_of};
 ghost use Rattle.hdt_seq.specs.Bits.{bits_of};
@@ -59,24 +59,29 @@ pub struct Triples<'a> {
 
 #[tactic(auto, unfolding(crate::specs::Views::triples_view))]
 impl<'a> Triples<'a> {
-    ghost use Rattle.hdt_wire.specs.Exact.{IsViewOf};
     ghost use Rattle.hdt_triples.specs.TripleSequences.{triple_at};
-    ghost use Rattle.hdt_triples.specs.Triples.{TripleParts, IsTriplesAt};
     ghost use Rattle.hdt_triples.specs.IndexViews.{string_counts};
-    ghost use Rattle.hdt_triples.specs.Views.{triples_view, entry_widths, read_view, triple_parts_view, decode_triples};
+    ghost use Rattle.hdt_triples.specs.Views.{triples_view, entry_widths, read_view, decode_triples};
 
-    /// Decodes triples, one check after another.
+    /// Reads the triples section at byte offset `at`, from 0, and checks that each ID is at most the count of its role.
+    /// Returns the triples and the byte offset after them; more bytes may follow. Each count must be at most
+    /// `bytes.len()`. Linear time, no allocation: one pass over the pairs and one over the triples.
+    ///
+    /// # Errors
+    ///
+    /// The first failed check, in this order: the control information, `TripleOrder`, the encodings of the four
+    /// sequences, `LengthsDiffer`, `LastMark`, `MarkCount`, each pair (`SubjectRange`, `PredicateRange`,
+    /// `PredicatesNotAscending`), each object (`ObjectRange`, `ObjectsNotAscending`).
     #[tactic(auto, unfolding(crate::specs::Triples::decode_triple_parts, crate::specs::Views::triples_view, crate::specs::Views::entry_widths))]
-    fn read_by_checks(
-        bytes: &'a [u8],
-        at: usize,
-        counts: Counts,
-    ) -> Result<(Triples<'a>, usize), Fault>
-        requires subjects { counts.subjects < 2 ^ 63 }
-        requires predicates { counts.predicates < 2 ^ 63 }
-        requires objects { counts.objects < 2 ^ 63 }
+    pub fn read(bytes: &'a [u8], at: usize, counts: Counts) -> Result<(Triples<'a>, usize), Fault>
+        requires subjects { counts.subjects ≤ length bytes.now }
+        requires predicates { counts.predicates ≤ length bytes.now }
+        requires objects { counts.objects ≤ length bytes.now }
+        // The result is that of the checks: the triples that are encoded there, or the first error
+        // (`triples_are_exact`).
         ensures exact { Reads read_view result (decode_triples counts bytes.now at) }
         ensures end { IfOk result (λ r. r.1 ≤ length bytes.now) }
+        // The triples keep the counts they were checked against.
         ensures roles { IfOk result (λ r. string_counts r.0 ≡ counts) }
     {
         let block = read_control(bytes, at, Kind::Triples)?;
@@ -100,34 +105,6 @@ impl<'a> Triples<'a> {
             },
             end,
         ))
-    }
-
-    /// Reads the triples section at byte offset `at`, from 0, and checks that each ID is at most the count of its role.
-    /// Returns the triples and the byte offset after them; more bytes may follow. Each count must be at most
-    /// `bytes.len()`. Linear time, no allocation: one pass over the pairs and one over the triples.
-    ///
-    /// # Errors
-    ///
-    /// The first failed check, in this order: the control information, `TripleOrder`, the encodings of the four
-    /// sequences, `LengthsDiffer`, `LastMark`, `MarkCount`, each pair (`SubjectRange`, `PredicateRange`,
-    /// `PredicatesNotAscending`), each object (`ObjectRange`, `ObjectsNotAscending`).
-    pub fn read(bytes: &'a [u8], at: usize, counts: Counts) -> Result<(Triples<'a>, usize), Fault>
-        requires subjects { counts.subjects ≤ length bytes.now }
-        requires predicates { counts.predicates ≤ length bytes.now }
-        requires objects { counts.objects ≤ length bytes.now }
-        // Sound: what is returned is encoded there.
-        ensures found { IfOk result
-            (λ r. IsViewOf triple_parts_view (λ t. IsTriplesAt counts t bytes.now at) (read_view r)) }
-        // Complete: whatever is encoded there is returned.
-        ensures only { (t : TripleParts) → IsTriplesAt counts t bytes.now at
-            → Reads read_view result (Ok (triple_parts_view t)) }
-        // The result is that of the checks, so an error is the first one.
-        ensures exact { Reads read_view result (decode_triples counts bytes.now at) }
-        ensures end { IfOk result (λ r. r.1 ≤ length bytes.now) }
-        // The triples keep the counts they were checked against.
-        ensures roles { IfOk result (λ r. string_counts r.0 ≡ counts) }
-    {
-        Triples::read_by_checks(bytes, at, counts)
     }
 
     /// Returns the width in bits of an entry of array Y, and of array Z.

@@ -7,11 +7,12 @@ ghost use Rattle.hdt_triples.specs.Order.{CountsFit64, AreAtMostCounts, AreWrita
 ghost use Rattle.hdt_triples.specs.Order.{AreInRange};
 ghost use Rattle.hdt_triples.specs.Inside.SequencesView.{sequences_view};
 ghost use Rattle.hdt_triples.specs.Triples.{IsTriplesAt, decode_triple_parts};
+ghost use Rattle.hdt_triples.specs.Views.{decode_triples, triple_parts_view};
 ghost use Rattle.hdt_triples.specs.Writing.{canonical_sequences, canonical_triples, canonical_triples_parts};
 ghost use Rattle.hdt_triples.specs.Writing.{sequences_of};
 ghost use Rattle.hdt_triples.specs.Inside.Writable.{IsWritableAt};
 ghost use Rattle.hdt_wire.specs.Checks.{IsBytes, HasSlice};
-ghost use Rattle.hdt_wire.specs.Exact.{Exactly};
+ghost use Rattle.hdt_wire.specs.Exact.{Exactly, IsViewOf};
 
 use crate::sequences::{Sequences, sequences_of};
 use crate::triples::Triples;
@@ -110,11 +111,14 @@ pub fn are_writable(triples: &[(u64, u64, u64)]) -> bool
     !triples.is_empty()
 }
 
-/// The checks of triples pass exactly for the triples that are encoded at the offset.
+/// What is returned by reading triples is encoded at the offset, and what is encoded there is returned: with all parts,
+/// and as [`Triples::read`] sees them.
 #[tactic(auto, using(crate::specs::Laws::Triples::triples_exact))]
 pub fn triples_are_exact()
-    ensures { (counts : Counts) (bytes : List ℕ) (at : ℕ) → IsBytes bytes
+    ensures exact { (counts : Counts) (bytes : List ℕ) (at : ℕ) → IsBytes bytes
         → Exactly (decode_triple_parts counts bytes at) (λ t. IsTriplesAt counts t bytes at) }
+    ensures viewed { (counts : Counts) (bytes : List ℕ) (at : ℕ) → IsBytes bytes
+        → Exactly (decode_triples counts bytes at) (IsViewOf triple_parts_view (λ t. IsTriplesAt counts t bytes at)) }
 {}
 
 /// The triples of four valid sequences strictly ascend, and each ID is from 1 to the count of its role.

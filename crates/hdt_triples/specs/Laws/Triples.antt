@@ -18,7 +18,7 @@ use Rattle.hdt_wire.specs.Checks.{IsBytes}
 use Rattle.hdt_wire.specs.Laws.Checks.{bind_ok, demand_ok}
 use Rattle.hdt_wire.specs.Control.{control_at}
 use Rattle.hdt_wire.specs.Property.{property_value}
-use Rattle.hdt_seq.specs.Sequence.{SequenceShape, Sequence, entry_offset}
+use Rattle.hdt_seq.specs.Sequence.{Sequence, entry_offset}
 use Rattle.hdt_seq.specs.Numbers.{numbers_at}
 use Rattle.hdt_seq.specs.Bits.{bits_at}
 use Rattle.hdt_seq.specs.RankSelect.{ones_before}
@@ -57,22 +57,23 @@ record EntryHolds (marks : List Bool) (xs : List ℕ) (count i : ℕ) : Type 0 w
   to : slice_index xs i ≤ count
   later : previous_in_group marks xs i < slice_index xs i
 
-entry_exact : (marks : List Bool) (xs : List ℕ) (offsets : SequenceShape) (count : ℕ) (range ascent : Reason) (i : ℕ)
-    → Exactly (entry_checks marks xs offsets count range ascent i) (λ _. EntryHolds marks xs count i)
+entry_exact : (marks : List Bool) (xs : Sequence ℕ) (count : ℕ) (range ascent : Reason) (i : ℕ)
+    → Exactly (entry_checks marks xs count range ascent i) (λ _. EntryHolds marks xs.items count i)
 unfolding entry_checks
-entry_exact marks xs offsets count range ascent i =
-    let x : ℕ = slice_index xs i in
+entry_exact marks xs count range ascent i =
+    let x : ℕ = slice_index xs.items i in
     record {
       found = λ u e.
-          demand_ok (leb 1 x && leb x count) (entry_offset offsets i) range _ u e (λ h e.
+          demand_ok (leb 1 x && leb x count) (entry_offset xs.offsets i) range _ u e (λ h e.
           let both = and_parts (leb 1 x) (leb x count) h in
           record {
             from = leb-true 1 x both.0;
             to = leb-true x count both.1;
-            later =
-                ltb-true _ _ (holds_if_ok (ltb (previous_in_group marks xs i) x) (entry_offset offsets i) ascent u e);
+            later = ltb-true _ _
+                (holds_if_ok (ltb (previous_in_group marks xs.items i) x) (entry_offset xs.offsets i) ascent u e);
           });
-      only = λ u h. rw (le-leb 1 x h.from, le-leb x count h.to, lt-ltb (previous_in_group marks xs i) x h.later) refl;
+      only = λ u h.
+          rw (le-leb 1 x h.from, le-leb x count h.to, lt-ltb (previous_in_group marks xs.items i) x h.later) refl;
     }
 
 earlier_by : (marks : List Bool) (xs : List ℕ) (i : ℕ) (b : Bool) → get_or marks i false ≡ b
@@ -134,47 +135,46 @@ record PairHolds (counts : Counts) (bitmap_y : List Bool) (array_y : List ℕ) (
   subject : ones_before bitmap_y q + 1 ≤ counts.subjects
   predicate : EntryHolds bitmap_y array_y counts.predicates q
 
-pair_exact : (counts : Counts) (bitmap_y : List Bool) (a : SequenceShape) (array_y : List ℕ) (b : SequenceShape)
-    (q : ℕ) → Exactly (pair_checks counts bitmap_y a array_y b q) (λ _. PairHolds counts bitmap_y array_y q)
+pair_exact : (counts : Counts) (bits : Sequence Bool) (predicates : Sequence ℕ) (q : ℕ)
+    → Exactly (pair_checks counts bits predicates q) (λ _. PairHolds counts bits.items predicates.items q)
 unfolding pair_checks
-pair_exact counts bitmap_y a array_y b q =
-    let entry = entry_exact bitmap_y array_y b counts.predicates PredicateRange PredicatesNotAscending q in
+pair_exact counts bits predicates q =
+    let entry = entry_exact bits.items predicates counts.predicates PredicateRange PredicatesNotAscending q in
     record {
       found = λ u e.
-          demand_ok (leb (ones_before bitmap_y q + 1) counts.subjects) (entry_offset a q) SubjectRange _ u e (λ h e.
-          record { subject = leb-true _ _ h; predicate = entry.found u e });
-      only = λ u h. rw (le-leb (ones_before bitmap_y q + 1) counts.subjects h.subject, entry.only tt h.predicate) refl;
+          demand_ok (leb (ones_before bits.items q + 1) counts.subjects) (entry_offset bits.offsets q) SubjectRange _ u
+          e (λ h e. record { subject = leb-true _ _ h; predicate = entry.found u e });
+      only = λ u h.
+          rw (le-leb (ones_before bits.items q + 1) counts.subjects h.subject, entry.only tt h.predicate) refl;
     }
 
-pairs_exact : (counts : Counts) (bitmap_y : List Bool) (a : SequenceShape) (array_y : List ℕ) (b : SequenceShape)
-    → length bitmap_y ≡ length array_y
-    → Exactly (all_pair_checks counts bitmap_y a array_y b) (λ _. ArePairs counts bitmap_y array_y)
-pairs_exact counts bitmap_y a array_y b same =
-    let rows = item_checks_exact (pair_checks counts bitmap_y a array_y b) (length array_y)
-    (PairHolds counts bitmap_y array_y) (λ q lt. pair_exact counts bitmap_y a array_y b q) in
+pairs_exact : (counts : Counts) (bits : Sequence Bool) (predicates : Sequence ℕ)
+    → length bits.items ≡ length predicates.items
+    → Exactly (all_pair_checks counts bits predicates) (λ _. ArePairs counts bits.items predicates.items)
+pairs_exact counts bits predicates same =
+    let rows = item_checks_exact (pair_checks counts bits predicates) (length predicates.items)
+    (PairHolds counts bits.items predicates.items) (λ q lt. pair_exact counts bits predicates q) in
     record {
       found = λ u e. let each = rows.found u e in record {
         subjects = λ q lt. (each q lt).subject;
-        predicates = grouped_found bitmap_y array_y counts.predicates same (λ q lt. (each q lt).predicate);
+        predicates = grouped_found bits.items predicates.items counts.predicates same (λ q lt. (each q lt).predicate);
       };
       only = λ u h. rows.only u
           (λ q lt. record {
             subject = h.subjects q lt;
-            predicate =
-                grouped_only bitmap_y array_y counts.predicates same h.predicates q lt;
+            predicate = grouped_only bits.items predicates.items counts.predicates same h.predicates q lt;
           });
     }
 
-objects_exact : (bitmap_z : List Bool) (array_z : List ℕ) (offsets : SequenceShape) (count : ℕ)
-    → length bitmap_z ≡ length array_z
-    → Exactly (all_object_checks bitmap_z array_z offsets count) (λ _. AreAscendingGroups bitmap_z array_z count)
-objects_exact bitmap_z array_z offsets count same =
-    let rows = item_checks_exact (entry_checks bitmap_z array_z offsets count ObjectRange ObjectsNotAscending)
-    (length array_z) (EntryHolds bitmap_z array_z count)
-    (λ j lt. entry_exact bitmap_z array_z offsets count ObjectRange ObjectsNotAscending j) in
+objects_exact : (marks : List Bool) (objects : Sequence ℕ) (count : ℕ) → length marks ≡ length objects.items
+    → Exactly (all_object_checks marks objects count) (λ _. AreAscendingGroups marks objects.items count)
+objects_exact marks objects count same =
+    let rows = item_checks_exact (entry_checks marks objects count ObjectRange ObjectsNotAscending)
+    (length objects.items) (EntryHolds marks objects.items count)
+    (λ j lt. entry_exact marks objects count ObjectRange ObjectsNotAscending j) in
     record {
-      found = λ u e. grouped_found bitmap_z array_z count same (rows.found u e);
-      only = λ u h. rows.only u (grouped_only bitmap_z array_z count same h);
+      found = λ u e. grouped_found marks objects.items count same (rows.found u e);
+      only = λ u h. rows.only u (grouped_only marks objects.items count same h);
     }
 
 -- ---- the four sequences together
@@ -193,9 +193,8 @@ sequence_checks_exact counts bitmap_y bitmap_z array_y array_z = record {
       (λ h5 e.
       demand_ok (eqb (ones_before bitmap_z.items (length bitmap_z.items)) (length array_y.items)) bitmap_z.offsets.count
       MarkCount _ _ e (λ h6 e.
-      bind_ok (all_pair_checks counts bitmap_y.items bitmap_y.offsets array_y.items array_y.offsets) _ _ e (λ v e6 e.
-      let pairs = (pairs_exact counts bitmap_y.items bitmap_y.offsets array_y.items array_y.offsets
-      (eqb-true _ _ h2)).found v e6 in
+      bind_ok (all_pair_checks counts bitmap_y array_y) _ _ e (λ v e6 e.
+      let pairs = (pairs_exact counts bitmap_y array_y (eqb-true _ _ h2)).found v e6 in
       record {
         marked = record {
           pairs = eqb-true _ _ h2;
@@ -206,8 +205,7 @@ sequence_checks_exact counts bitmap_y bitmap_z array_y array_z = record {
         };
         subjects = pairs.subjects;
         predicates = pairs.predicates;
-        objects = (objects_exact bitmap_z.items array_z.items array_z.offsets counts.objects (eqb-true _ _ h3)).found u
-            e;
+        objects = (objects_exact bitmap_z.items array_z counts.objects (eqb-true _ _ h3)).found u e;
       }))))));
   only = λ u h.
       let m = h.marked in
@@ -217,9 +215,9 @@ sequence_checks_exact counts bitmap_y bitmap_z array_y array_z = record {
       let t5 = get_or_from_slice_get bitmap_z.items (length bitmap_z.items - 1) true false m.last_triple in
       let t6 : eqb (ones_before bitmap_z.items (length bitmap_z.items)) (length array_y.items) ≡ true =
       (Decides-eqb _ _).1 m.each_pair in
-      let r6 = (pairs_exact counts bitmap_y.items bitmap_y.offsets array_y.items array_y.offsets m.pairs).only tt
+      let r6 = (pairs_exact counts bitmap_y array_y m.pairs).only tt
       (record { subjects = h.subjects; predicates = h.predicates }) in
-      let r7 = (objects_exact bitmap_z.items array_z.items array_z.offsets counts.objects m.triples).only u h.objects in
+      let r7 = (objects_exact bitmap_z.items array_z counts.objects m.triples).only u h.objects in
       rw (t2, t3, t4, t5, t6, r6, r7) refl;
 }
 

@@ -1,6 +1,6 @@
 use Rattle.std.proofs.Common.{◌∙◌, ap, sym, arith, Some, length}
-use Rattle.hdt_seq.specs.Bits.{bits_of, bits_offsets}
-use Rattle.hdt_seq.specs.Numbers.{numbers_of, numbers_offsets}
+use Rattle.hdt_seq.specs.Bits.{bits_of, bits_view}
+use Rattle.hdt_seq.specs.Numbers.{numbers_of, numbers_view}
 use Rattle.hdt_seq.specs.Laws.RankSelect.{ones_before_at_0, ones_before_after_1_bit, ones_before_after_0_bit}
 use Rattle.hdt_triples.specs.Triples.{pair_checks}
 use Rattle.hdt_wire.specs.Laws.ItemChecks.{checks_after_pass, checks_from_start}
@@ -15,8 +15,8 @@ pairs-init c =
     record {
       subject_is = omega (arith, ones_before_at_0 bitmap_y);
       before_is = sym (earlier_first bitmap_y array_y);
-      left = checks_from_start (pair_checks c.args.counts.now bitmap_y (bits_offsets c.args.bitmap_y.now) array_y
-          (numbers_offsets c.args.array_y.now)) (length array_y);
+      left = checks_from_start (pair_checks c.args.counts.now (bits_view (c.args.bitmap_y.now, 0))
+          (numbers_view (c.args.array_y.now, 0))) (length array_y);
     }
 
 pub pairs-preserved : goal.pairs-preserved
@@ -24,9 +24,9 @@ pairs-preserved c =
     let l = c.pairs in
     let bitmap_y = bits_of c.args.bitmap_y.now in
     let array_y = numbers_of c.args.array_y.now in
-    let row = pair_checks c.args.counts.now bitmap_y (bits_offsets c.args.bitmap_y.now) array_y
-    (numbers_offsets c.args.array_y.now) in
     let within = c.len-q-end.ensures in
+    let row =
+    pair_checks c.args.counts.now (bits_view (c.args.bitmap_y.now, 0)) (numbers_view (c.args.array_y.now, 0)) in
     let passed = checks_after_pass row l.q (length array_y) (omega (arith, c.pairs-test.true, within))
     (sym c.check_pair.ensures.is ∙ c.in_ok-check_pair.was) in
     elim c.if-get.branch [

@@ -1,5 +1,5 @@
 use Rattle.std.proofs.Common.{arith, ap, length, ◌≡◌, ◌*◌, ◌+◌, ◌≤◌, ◌∙◌}
-use Rattle.hdt_triples.specs.Bounds.{limit, object_cost, of_object, pair_search_cost}
+use Rattle.hdt_triples.specs.Bounds.{step_bound, object_cost, of_object, pair_search_cost}
 use Rattle.hdt_triples.specs.InvertedIndex.{positions_of}
 use Rattle.hdt_triples.specs.Patterns.{matches}
 use Rattle.hdt_triples.specs.Views.{triples_view}
@@ -11,7 +11,7 @@ use Rattle.hdt_triples.proofs.ScanLaws.{from_start, matches_fit}
 use Rattle.hdt_triples.proofs.predicate_object.PredicateObjectMatches.find.Goals as goal
 
 pub returns-then-by_object-saturating_mul-clause-short : goal.returns-then-by_object-saturating_mul-clause-short
-unfolding limit object_cost
+unfolding step_bound object_cost
 returns-then-by_object-saturating_mul-clause-short c =
     let f = triples_view c.args.listed.now.indexed.triples in
     let product : c.from-pair.result * (1 + length c.pairs_of-rest.result.now)
@@ -30,7 +30,7 @@ returns-then-by_object-saturating_mul-clause-short c =
     )
 
 pub invariant_of-result : goal.invariant_of-result
-unfolding limit object_cost
+unfolding step_bound object_cost
 invariant_of-result c =
     let f = triples_view c.args.listed.now.indexed.triples in
     let product : c.from-pair.result * (1 + length c.pairs_of-rest.result.now)
@@ -38,7 +38,7 @@ invariant_of-result c =
     ap (λ k. k * (1 + length c.pairs_of-rest.result.now)) (c.from-pair.ensures ∙ c.pair_search_cost.ensures)
     ∙ ap (λ qs. pair_search_cost f * (1 + length qs)) c.pairs_of-rest.ensures.is in
     let few : pair_search_cost f * (1 + length (positions_of f.array_y c.args.predicate))
-    ≤ limit (object_cost c.args.object) f =
+    ≤ step_bound (object_cost c.args.object) f =
     omega (
       arith,
       c.if-by_object-saturating_mul.false,

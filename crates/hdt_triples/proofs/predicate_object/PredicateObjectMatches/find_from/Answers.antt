@@ -1,6 +1,6 @@
 use Rattle.std.proofs.Common.{arith, ap, length, ◌≡◌, ◌*◌, ◌+◌, ◌≤◌, ◌∙◌}
 use Rattle.std.proofs.Math.Nat.{mul-le-mul_left}
-use Rattle.hdt_triples.specs.Bounds.{limit, object_cost, of_object, pair_search_cost}
+use Rattle.hdt_triples.specs.Bounds.{step_bound, object_cost, of_object, pair_search_cost}
 use Rattle.hdt_triples.specs.InvertedIndex.{positions_of}
 use Rattle.hdt_triples.specs.Views.{triples_view}
 use Rattle.hdt_triples.proofs.MatchCountLaws.{object_count}
@@ -10,7 +10,7 @@ use Rattle.hdt_triples.proofs.StartLaws.{list_digits_few}
 use Rattle.hdt_triples.proofs.predicate_object.PredicateObjectMatches.find_from.Goals as goal
 
 pub returns-then-by_object-saturating_mul-clause-short : goal.returns-then-by_object-saturating_mul-clause-short
-unfolding limit object_cost
+unfolding step_bound object_cost
 returns-then-by_object-saturating_mul-clause-short c =
     let f = triples_view c.args.listed.now.indexed.triples in
     let pairs = c.pairs_of-pairs.result.now in
@@ -21,7 +21,7 @@ returns-then-by_object-saturating_mul-clause-short c =
     omega (
       arith,
       shorter c.find_from.result,
-      c.find_from.ensures.limit,
+      c.find_from.ensures.few,
       c.if-by_object-saturating_mul.true,
       c.saturating_mul.ensures,
       product,
@@ -30,7 +30,7 @@ returns-then-by_object-saturating_mul-clause-short c =
     )
 
 pub invariant_of-result : goal.invariant_of-result
-unfolding limit object_cost
+unfolding step_bound object_cost
 invariant_of-result c =
     let f = triples_view c.args.listed.now.indexed.triples in
     let pairs = c.pairs_of-pairs.result.now in
@@ -39,7 +39,7 @@ invariant_of-result c =
     ap (λ k. k * (1 + length pairs)) (c.from-pair.ensures ∙ c.pair_search_cost.ensures)
     ∙ ap (λ qs. pair_search_cost f * (1 + length qs)) c.pairs_of-pairs.ensures.is in
     let few : pair_search_cost f * (1 + length (positions_of f.array_y c.args.predicate))
-    ≤ limit (object_cost c.args.object) f =
+    ≤ step_bound (object_cost c.args.object) f =
     omega (
       arith,
       c.if-by_object-saturating_mul.false,
