@@ -5,16 +5,18 @@ The prover goes by words in the bodies, and prints its findings as the real one 
 
 from __future__ import annotations
 
+import re
 import shutil
 from collections import Counter
-from collections.abc import Iterable, Mapping
+from collections.abc import Mapping
 from datetime import date
 from pathlib import Path
 from types import SimpleNamespace
+from typing import Any
 
 import pytest
 
-from support.tools import tool, write
+from support.tools import change, tool, write
 from tools import mutants
 
 SOURCE = """\
@@ -56,7 +58,7 @@ pub fn same(number: u8) -> u8
     number
 }
 """
-TOY, LOW, A = "crates/toy/src/lib.rt", "crates/base/src/lib.rt", "crates/toy/wrong/a.edit"
+TOY, LOW, W, IN = "crates/toy/src/lib.rt", "crates/base/src/lib.rt", "crates/toy/wrong", "file: src/lib.rt\n"
 FILES = {
     "crates.txt": "base:\ntoy: base\nother: base\n",
     LOW: BASE,
@@ -73,8 +75,7 @@ FILES = {
 
 def repository(top: Path, changes: Mapping[str, str], source: str = SOURCE) -> Path:
     """Make a repository of the crate `toy` and the crate `base`, which it uses, with these mutants of `toy`."""
-    edits = {f"crates/toy/wrong/{name}.edit": f"file: src/lib.rt\n{change}\n" for name, change in changes.items()}
-    return write(top, {**FILES, TOY: source, **edits})
+    return write(top, {**FILES, TOY: source, **{f"{W}/{name}.edit": f"{IN}{it}\n" for name, it in changes.items()}})
 
 
 def judge(top: Path, *words: str, path: str | None = None) -> tuple[list[str], int]:
@@ -93,10 +94,8 @@ HALF, NEXT = "old:     number / 2\nnew:     ", "old:     number.wrapping_add(1)\
 QUARTER = "old:     half(half(number))\nnew:     "
 # Mutants that are judged together, and how the line of each goes on.
 TRIALS = {
-    "half_of_nothing": (HALF + "let _ = number; 0", "refused, by toy::half: "),
     "half_rounded_up": (HALF + "number / 2 + number % 2", "refused, by toy::half: "),
     "harmless": (QUARTER + "let first = half(number); half(first)", "NOT REFUSED: the crate is still proved"),
-    "stale": ("old:     number / 3\nnew: 1", "BAD MUTANT: an 'old:' text is in src/lib.rt 0 times"),
     "uncompiled": (QUARTER + "half(halves(number))", "BAD MUTANT: it did not reach the prover"),
     "unsaid": ("old: result ≡ number / 2 }\nnew: result ≡ number / 2 + 1 }", "refused, by toy::half: "),
 }
@@ -107,14 +106,11 @@ TRIALS = {
 @pytest.mark.skipif(not shutil.which("rt"), reason="there is no Rattle kit")
 def test_kit(tmp_path: Path) -> None:
     """Each mutant is judged as it should be, and the counts and the status are right."""
-    top = repository(tmp_path, {name: change for name, (change, _) in TRIALS.items()})
-    (top / "crates.txt").write_text("toy:\n")
-    for part in ("specs", "proofs"):
-        shutil.rmtree(top / "crates/toy" / part)
-    lines, status = judge(top, "--all", path="")
+    edits = {f"{W}/{name}.edit": f"{IN}{change}\n" for name, (change, _) in TRIALS.items()}
+    lines, status = judge(write(tmp_path, {"crates.txt": "toy:\n", TOY: SOURCE, **edits}), "--all", path="")
     begins = [f"toy/{name}: {begin}" for name, (_, begin) in TRIALS.items()]
     missing = [it for it in begins if not any(line.startswith(it) for line in lines)]
-    assert (missing, lines[-1], status) == ([], "3 refused, 3 failed", 1), lines
+    assert (missing, lines[-1], status) == ([], "2 refused, 2 failed", 1), lines
 
 
 # ---- with a kit of words
@@ -129,8 +125,8 @@ from pathlib import Path
 
 top = Path(sys.argv[0]).parents[2]
 with open(top / "log", "a") as log:
-    log.write("check\n")
-checks = (top / "log").read_text().count("check")
+    log.write("1")
+checks = (top / "log").stat().st_size
 functions = r"fn (\w+)[^{]*(?:\n *ensures [^\n]*\n)?{(.*?)\n}"
 bodies = dict(re.findall(functions, Path("src/lib.rt").read_text(), re.S))
 text = " ".join(bodies.values())
@@ -144,21 +140,21 @@ if "edit" in text:
     (top / "top/crates/toy/specs/Lib.antt").write_text("edited")
 said = {
     "wrong": "note: src/lib.rt:6:1: it is not proved that what the function ensures holds when it returns (`returns`)",
-    "answer": "./proofs/half/Answers.antt:3:1: error: the sides of the goal differ",
-    "shape": "./proofs/half/Answers.antt:3:1: error: `c` has no field `first`",
+    "answer": "./proofs/NAME/Answers.antt:3:1: error: the sides of the goal differ",
+    "shape": "./proofs/NAME/Answers.antt:3:1: error: `c` has no field `first`",
 }
 failed = []
 for name, body in bodies.items():
-    for word in [it for it in said if it in body]:
-        print(said[word].replace("half", name))
-    is_open = "wrong" in body or name == "next" and "strange" in text
-    if is_open or "answer" in body or "shape" in body:
-        print(f"fn toy::{name}: no proof: {'`search` did not prove `returns`' if is_open else 'its answers fail'}")
+    told = [it.replace("NAME", name) for word, it in said.items() if word in body]
+    is_strange = name == "next" and "strange" in text
+    if told or is_strange:
+        why = "`search` did not prove `returns`" if "wrong" in body or is_strange else "its answers fail"
     elif name == "quarter" and "half" in failed and "half" in body:
-        print("fn toy::quarter: no proof: it calls `toy::half`, which is not proved")
+        why = "it calls `toy::half`, which is not proved"
     else:
         print(f"fn toy::{name}: proved")
         continue
+    print(*told, f"fn toy::{name}: no proof: {why}", sep="\n")
     failed.append(name)
 print("logic=not-proved" if failed else "logic=proved functions=3 sum=0")
 sys.exit(1 if failed else 0)
@@ -169,13 +165,8 @@ WRONG = HALF + "wrong(number)"
 
 @pytest.fixture
 def top(tmp_path: Path) -> Path:
-    """The place of a repository, beside a kit of words, which writes a line for each check into the file `log`."""
+    """The place of a repository, beside a kit of words, which writes a byte for each check into the file `log`."""
     return write(tmp_path, {**KIT, "log": ""}) / "top"
-
-
-def checks(top: Path) -> int:
-    """Return how many checks have run."""
-    return (top.parent / "log").read_text().count("check")
 
 
 OPEN = "left open: `returns`"
@@ -225,7 +216,7 @@ def test_judgement(top: Path, case: str) -> None:
     failed = [it.partition(":")[0] for it in wanted if ": refused, by " not in it]
     assert sorted(lines[:-1]) == sorted(wanted + ([f"FAILED: {' '.join(failed)}"] if failed else []))
     assert lines[-1] == f"{len(wanted) - len(failed)} refused, {len(failed)} failed"
-    assert (status, checks(top)) == (1 if failed or not wanted else 0, count)
+    assert (status, (top.parent / "log").stat().st_size) == (1 if failed or not wanted else 0, count)
 
 
 def test_nothing_can_be_judged(top: Path) -> None:
@@ -242,16 +233,13 @@ def test_nothing_can_be_judged(top: Path) -> None:
         shutil.rmtree(top / "crates/base/out", ignore_errors=True)
 
 
-@pytest.mark.parametrize("words, judged", [("--only ^a$", "a"), ("--folder must-fail", "c"), ("none toy", "ab")])
-def test_choice(top: Path, words: str, judged: str) -> None:
-    """Words choose crates and mutants; an unknown crate is a failure. Only judgements of wrong/ are recorded."""
-    repository(top, {"a": WRONG, "b": NEXT + "wrong"})
-    write(top, {"crates/toy/must-fail/c.edit": f"file: src/lib.rt\n{QUARTER}wrong\n"})
-    lines, unknown = judge(top, "--all", *words.split())[0], "none" in words
-    assert ("none: crates.txt has no such crate" in lines) == unknown
-    assert sorted(it[4] for it in lines if ": refused" in it) == list(judged)
-    assert lines[-1] == f"{len(judged)} refused, {int(unknown)} failed"
-    assert list(record(top)) == ([] if judged == "c" else list(judged))
+@pytest.mark.parametrize("words, judged, status", [("--only ^a$", "a", 0), ("none toy", "ab", 1)])
+def test_choice(top: Path, words: str, judged: str, status: int) -> None:
+    """Words choose crates and mutants; an unknown crate is a failure."""
+    lines, found = judge(repository(top, {"a": WRONG, "b": NEXT + "wrong"}), "--all", *words.split())
+    assert ("none: crates.txt has no such crate" in lines, found) == (status > 0, status)
+    assert sorted(it[4] for it in lines if ": refused" in it) == list(record(top)) == list(judged)
+    assert lines[-1] == f"{len(judged)} refused, {status} failed"
 
 
 # ---- the record
@@ -259,32 +247,23 @@ def test_choice(top: Path, words: str, judged: str) -> None:
 
 def record(top: Path) -> dict[str, list[str]]:
     """Return what the record of `toy` has, by the mutants' names."""
-    file = top / "crates/toy/wrong/RECORD"
+    file = top / W / "RECORD"
     rows = [line.split("\t") for line in file.read_text().splitlines()] if file.exists() else []
     return {name: rest for name, *rest in rows}
-
-
-def keep(top: Path, names: str) -> None:
-    """Write a record that says that these mutants of `toy` were refused for the sources as they are."""
-    crate = mutants.Crate("toy", top)
-    kept = mutants.Record(crate)
-    for it in crate.mutants("wrong", ""):
-        kept.entries[it.name] = [it.inputs(crate.inputs()), "toy::half", OPEN, "2026-01-01", "kit of words 1"]
-    kept.write(names)
 
 
 def test_record(top: Path) -> None:
     """It has those that were refused alone, by name; an entry goes if its mutant is no longer refused, or is gone."""
     repository(top, {"b": NEXT + "wrong", "a": WRONG, "c": QUARTER + "right", "d": HALF + "wrong 2"})
     judge(top, "--all")
-    crate, more = mutants.Crate("toy", top), [OPEN, date.today().isoformat(), "kit of words 1"]
-    inputs = {it.name: it.inputs(crate.inputs()) for it in crate.mutants("wrong", "")}
-    wanted = {name: [inputs[name], f"toy::{'next' if name == 'b' else 'half'}", *more] for name in "abd"}
-    assert list(record(top).items()) == list(wanted.items())
-    write(top, {A: f"file: src/lib.rt\n{HALF}right\n"})
-    (top / A.replace("a.edit", "d.edit")).unlink()
+    before, more = record(top), [OPEN, date.today().isoformat(), "kit of words 1"]
+    wanted = {"a": ["toy::half", *more], "b": ["toy::next", *more], "d": ["toy::half", *more]}
+    assert list({name: row[1:] for name, row in before.items()}.items()) == list(wanted.items())
+    assert all(re.fullmatch("[0-9a-f]{64}", row[0]) for row in before.values())
+    change(top, f"{W}/a.edit", "wrong", "right")
+    (top / W / "d.edit").unlink()
     assert judge(top, "--all", "--only", "a")[0][-1] == "0 refused, 1 failed"
-    assert record(top) == {"b": wanted["b"]}
+    assert record(top) == {"b": before["b"]}
 
 
 @pytest.mark.parametrize("changes, kept", [
@@ -298,8 +277,8 @@ def test_record_of_another_end(top: Path, changes: dict[str, str], kept: str) ->
 
 # What is changed in a file, or the text of one that is written anew, and the mutants whose entries no longer count.
 CHANGES: list[tuple[str, str, str, str]] = [
-    (A, "wrong", "wrong again", "a"),
-    ("crates/toy/wrong/c.edit", "", f"file: src/lib.rt\n{QUARTER}wrong\n", "c"),
+    (f"{W}/a.edit", "wrong", "wrong again", "a"),
+    (f"{W}/c.edit", "", f"{IN}{QUARTER}wrong\n", "c"),
     (TOY, "    half(half(number))", "    half(half(number) )", "ab"),
     (TOY, "{ result ≡ number / 2 }", "{ result ≡ number/2 }", "ab"),
     (TOY, "/// One more", "// Next\n    /// The next one", ""),
@@ -318,34 +297,40 @@ CHANGES: list[tuple[str, str, str, str]] = [
     ("crates/base/src/more.rt", "", "fn more() {}\n", "ab"),
     ("crates/base/specs/Lib.antt", "Nat", "ℕ", "ab"),
     ("crates/base/proofs/same/Answers.antt", "-- nothing", "use Prim", ""),
-    ("crates/base/wrong/x.edit", "", "file: src/lib.rt\n", ""),
+    ("crates/base/wrong/x.edit", "", IN, ""),
     ("crates/other/src/lib.rt", "", "pub fn other() {}\n", ""),
     ("crates.txt", "toy: base", "toy: base other", "ab"),
     ("crates.txt", "base:\ntoy: base\nother: base", "other:\nbase:\ntoy: base", ""),
 ]
 
 
+@pytest.fixture(scope="module")
+def judged(tmp_path_factory: pytest.TempPathFactory) -> Path:
+    """A repository with two mutants that were refused, and their record."""
+    top = write(tmp_path_factory.mktemp("judged"), {**KIT, "log": ""}) / "top"
+    assert judge(repository(top, {"a": WRONG, "b": NEXT + "wrong"}))[1] == 0
+    return top
+
+
 @pytest.mark.parametrize("file, old, new, stale", CHANGES, ids=[f"{it[0]} {it[2]!r}" for it in CHANGES])
-def test_what_a_record_depends_on(top: Path, file: str, old: str, new: str, stale: str) -> None:
+def test_what_a_record_depends_on(top: Path, judged: Path, file: str, old: str, new: str, stale: str) -> None:
     """An entry counts as long as its mutant, its crate and the interfaces below are as they were; `--list` says so."""
-    keep(repository(top, {"a": WRONG, "b": NEXT + "wrong"}), "ab")
-    text = (top / file).read_text() if old else ""
-    assert text.count(old) == 1
-    write(top, {file: text.replace(old, new)})
+    change(shutil.copytree(judged, top), file, old, new)
     current = 2 - len(stale.replace("c", ""))
     wanted = [*(f"toy/{it}" for it in stale), f"{len(stale)} to judge, {current} judged for these inputs"]
-    assert (judge(top, "--list", "toy"), checks(top)) == ((wanted, 0), 0)
+    assert (judge(top, "--list", "toy"), (top.parent / "log").read_text()) == ((wanted, 0), "")
 
 
 def test_only_what_changed_is_judged(top: Path) -> None:
     """Without --all, of the mutants with an entry only a sample is judged; so a false entry shows when it is drawn."""
     repository(top, {f"m{i:02}": f"{HALF}wrong {i}" for i in range(21)})
     assert [judge(top)[0][-1] for _ in "ab"] == ["21 refused, 0 failed", "2 refused, 0 failed"]
-    write(top, {"crates/toy/wrong/m07.edit": f"file: src/lib.rt\n{HALF}right\n"})
+    change(top, f"{W}/m07.edit", "wrong", "right")
     lines, status = judge(top)  # (and one of the others)
     assert (lines[-1], status) == ("1 refused, 1 failed", 1)
     shutil.rmtree(top)
-    keep(repository(top, {"a": QUARTER + "right"}), "a")
+    assert judge(repository(top, {"a": WRONG}))[1] == 0
+    change(top.parent, "kit/bin/rattle", "if word in body", "if word in ()")
     assert judge(top) == ([f"toy/a: {PROVED}", "FAILED: toy/a", "0 refused, 1 failed"], 1)
     assert record(top) == {}
 
@@ -353,22 +338,18 @@ def test_only_what_changed_is_judged(top: Path) -> None:
 # ---- the sample
 
 
-def some_mutants(sizes: Iterable[int]) -> list[mutants.Mutant]:
-    """Return mutants of crates with so many each; only their labels and crates are looked at."""
-    crates = [(SimpleNamespace(name=f"c{i}"), size) for i, size in enumerate(sizes)]
-    found = [SimpleNamespace(crate=crate, label=f"{crate.name}/m{k}") for crate, size in crates for k in range(size)]
-    return found  # type: ignore[return-value]
-
-
 @pytest.mark.parametrize("sizes", [[], [1], [20], [21], [1] * 50, [3, 40, 7], [5, 619], [1, 3, 30, 30, 60]], ids=str)
 def test_sample(sizes: list[int]) -> None:
     """At least 5 percent, each once, of as few crates as that takes, by the seed; each mutant is drawn at times."""
-    whole, count = some_mutants(sizes), Counter[str]()
+    crates = {f"c{i}": size for i, size in enumerate(sizes)}
+    whole: list[Any] = [SimpleNamespace(crate=SimpleNamespace(name=name), label=f"{name}/m{k}")
+                        for name, size in crates.items() for k in range(size)]
+    count = Counter[str]()
     for seed in map(str, range(600)):
         drawn = [it.label for it in mutants.drawn(whole, seed)]
         assert drawn == [it.label for it in mutants.drawn(whole[::-1], seed)]
         assert len(drawn) * 20 >= len(whole) > (len(drawn) - 1) * 20 or not whole
-        crates = [sizes[int(it)] for it in dict.fromkeys(label[1:].partition("/")[0] for label in drawn)]
-        assert not drawn or sum(crates[:-1]) < len(drawn) <= sum(crates)
+        taken = [crates[name] for name in dict.fromkeys(label.partition("/")[0] for label in drawn)]
+        assert not drawn or sum(taken[:-1]) < len(drawn) <= sum(taken)
         count.update(drawn)
     assert count.keys() == {it.label for it in whole}

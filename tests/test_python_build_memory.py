@@ -11,11 +11,13 @@ import re
 import shutil
 import signal
 import stat
+import subprocess
 import sys
 import tempfile
 import threading
 import time
 import tracemalloc
+from contextlib import suppress
 from pathlib import Path
 from typing import Any, Optional
 
@@ -25,12 +27,10 @@ from hypothesis import strategies as st
 
 from support import program
 from support.built import PROGRAM, SAMPLES
-from support.formats import BASE, LINES, TURTLE, built, children, fails, needs
+from support.formats import BASE, LINES, TURTLE, built, children, fails, fake, needs, stand_in
 from support.program import Result, Word, run
 from support.properties import examples
 from support.python_package import ENVIRONMENT, hdt
-
-from hdt import _program
 
 THREE = SAMPLES / "three.nt"
 LEAST = 4 * 1024 * 1024
@@ -203,15 +203,6 @@ def test_input_is_not_replaced(tmp_path: Path) -> None:
 
 # ---- scratch files and errors
 
-def stand_in(folder: Path, monkeypatch: pytest.MonkeyPatch, script: str) -> None:
-    """Have builds run a script in the place of the program: `$scratch` is its folder, `$out` its output."""
-    path = folder / "stand-in"
-    path.write_text('#!/bin/sh\nfor word; do case $word in --scratch=*) scratch=${word#*=} ;; esac; out=$word; done\n'
-                    f"{script}\n")
-    path.chmod(0o700)
-    monkeypatch.setattr(_program, "path", lambda: str(path))
-
-
 @pytest.mark.parametrize("out", ["out/new.hdt", "/dev/null"])
 @pytest.mark.parametrize("inputs", ["one", "several"])
 def test_folders(inputs: str, out: str, tmp_path: Path, monkeypatch: pytest.MonkeyPatch) -> None:
@@ -328,6 +319,34 @@ def test_interrupted(tmp_path: Path, monkeypatch: pytest.MonkeyPatch) -> None:
         signal.setitimer(signal.ITIMER_REAL, 0)
         signal.signal(signal.SIGALRM, handler)
     assert children() <= before and time.monotonic() - start < 30
+
+
+HANDLER = "import signal, sys, hdt\nsignal.signal(signal.SIGTERM, lambda *_: sys.exit(143))\n"
+COMMAND = ["-m", "hdt", "build", "a.ttl", "a.ttl", "out.hdt", "--memory", "4M"]
+CALLS = {
+    "a call, with a handler": (signal.SIGTERM, ["-c", f"{HANDLER}hdt.merge(['a.hdt', 'pipe'], 'out', memory='4M')"]),
+    "the command": (signal.SIGTERM, COMMAND), "the command, hung up": (signal.SIGHUP, COMMAND)}
+
+
+@pytest.mark.parametrize("name", CALLS)
+def test_ended_by_a_signal(name: str, tmp_path: Path, monkeypatch: pytest.MonkeyPatch) -> None:
+    """A process that ends itself for a signal, as the command does, ends its child, and removes its files."""
+    number, words = CALLS[name]
+    fake(tmp_path, monkeypatch, "exec cat pipe")
+    os.mkfifo(tmp_path / "pipe")
+    (tmp_path / "a.ttl").write_text(TURTLE)
+    shutil.copy(SAMPLES / "three.hdt", tmp_path / "a.hdt")
+    before, child = sorted(os.listdir(tmp_path)), -1
+    with subprocess.Popen([sys.executable, *words], cwd=tmp_path, env={**os.environ, **ENVIRONMENT}) as process:
+        while child < 0 and process.poll() is None:
+            with suppress(OSError):  # (of a pipe that the child has not opened yet)
+                child = os.open(tmp_path / "pipe", os.O_WRONLY | os.O_NONBLOCK)
+            time.sleep(0.01)
+        process.send_signal(number)
+        assert process.wait(30) == 128 + number
+    with pytest.raises(BrokenPipeError), open(child, "wb", buffering=0) as pipe:
+        pipe.write(b"x")
+    assert sorted(os.listdir(tmp_path)) == before
 
 
 LIMITED = """

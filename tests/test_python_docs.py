@@ -5,6 +5,7 @@ from __future__ import annotations
 import pydoc
 import re
 import shutil
+import sys
 from pathlib import Path
 
 import pytest
@@ -12,7 +13,8 @@ import pytest
 from support.built import SAMPLES, TOP
 from support.code_blocks import blocks
 from support.docstrings import calls, check_example, examples, lacking, public, untyped
-from support.python_package import PACKAGE, hdt
+from support.program import run
+from support.python_package import ENVIRONMENT, PACKAGE, hdt
 
 PAGE = "docs/PYTHON.md"
 
@@ -88,3 +90,9 @@ def test_page_has_its_blocks() -> None:
     missing = [name for name in PUBLIC if not re.search(rf"\b{name.rpartition('.')[2]}\b", text)]
     assert missing == []
     assert "SIGBUS" in text and "tickmarl_hdt" in text
+
+
+def test_speed() -> None:
+    """python/speed.py prints a row for each call."""
+    done = run([sys.executable, PACKAGE / "speed.py", SAMPLES / "three.hdt", "--rounds", "1"], env=ENVIRONMENT)
+    assert (done.status, len(re.findall(rb"^\| [a-z].*\d \|$", done.out, re.M)), done.err) == (0, 14, b"")

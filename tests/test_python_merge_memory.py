@@ -20,12 +20,10 @@ from hypothesis import strategies as st
 from reference import hdt as reference
 from support.built import SAMPLES
 from support.documents import THREE, Strings, canonical_file, many_triples
-from support.formats import COMPRESS, TURTLE, children, fails, needs
+from support.formats import COMPRESS, TURTLE, children, fails, needs, stand_in
 from support.program import Result, Word, run
 from support.properties import examples
 from support.python_package import ENVIRONMENT, hdt
-
-from hdt import _program
 
 NAMES = [b"u:a", b"u:b", "u:é".encode(), b"_:b", b"_:b1", b"_:f0_b"]
 LITERALS = [b'"x"', b'"a\n\\"\x01"b"@en', b'"5"^^<u:t>', b'""']
@@ -255,14 +253,6 @@ def test_not_paths(two: list[Path], tmp_path: Path) -> None:
         for inputs in ([graph], [two[0], graph], [3], [two[0], None], two[0], graph):
             assert refused(tmp_path, inputs, memory="4M")[0] == TypeError
     assert refused(tmp_path, [], memory="4M") == refused(tmp_path, [])
-
-
-def stand_in(folder: Path, monkeypatch: pytest.MonkeyPatch, script: str) -> None:
-    """Have a script run in the place of the program, whose last argument is `$out`."""
-    path = folder / "program"
-    path.write_text(f"#!/bin/sh\nfor out; do :; done\n{script}\n")
-    path.chmod(0o700)
-    monkeypatch.setattr(_program, "path", lambda: str(path))
 
 
 ERRORS = [

@@ -78,7 +78,7 @@ def test_impls(crate: str) -> None:
 @pytest.mark.parametrize("crate", CRATES)
 def test_mutants_can_be_applied(crate: str) -> None:
     """Each changes text that is there, once, and names no type that its file doesn't."""
-    for mutant in mutants.Crate(crate, TOP).mutants("wrong", ""):
+    for mutant in mutants.Crate(crate, TOP).mutants():
         mutant.apply()
         for path, text in mutant.texts.items():
             used, known = (set(re.findall(r"(?<![:\w])[A-Z]\w+(?=::)", it)) for it in (text, mutant.crate.texts[path]))

@@ -8,7 +8,8 @@ from pathlib import Path
 
 import pytest
 
-from support.built import PROGRAM as BUILT_PROGRAM, SAMPLES, SHARED_LIBRARY, TOP
+from support import built
+from support.built import TOP
 from support.program import Result, failed, run
 from support.tools import tool, write
 
@@ -28,15 +29,12 @@ KIT = {
     # Proves all, and links the program; a file `edit` beside the kit is run as a script meanwhile.
     "bin/rt": """\
 #!/bin/sh
-case $1 in
-version) echo kit of files 1 ;;
-ci)
-    echo "rt: hdt proved" && echo "rt: hdt_c is kept: of an earlier run"
-    mkdir -p crates/hdt/out && cp crates/hdt/src/main.rt crates/hdt/out/hdt
-    [ ! -f "${0%/*}/../edit" ] || . "${0%/*}/../edit"
-    echo "2 passed, 0 failed"
-    ;;
-esac
+[ "$1" != version ] || echo kit of files 1
+[ "$1" = ci ] || exit 0
+echo "rt: hdt proved" && echo "rt: hdt_c is kept: of an earlier run"
+mkdir -p crates/hdt/out && cp crates/hdt/src/main.rt crates/hdt/out/hdt
+[ ! -f "${0%/*}/../edit" ] || . "${0%/*}/../edit"
+echo "2 passed, 0 failed"
 """,
     # `-o FILE` makes a file, of the last word if that is one; `rcD FILE` does, too.
     "toolchain/bin/clang": """\
@@ -53,18 +51,16 @@ done
     "bin/rattle": '#!/bin/sh\nwhile [ "$1" != -o ]; do shift; done\necho library >"$2"\n',
 }
 # The program says which folder it is in, its input and its arguments.
-TREE = {
-    "hdt": (TOP / "hdt").read_text(),
-    "crates.txt": "hdt:\nhdt_c staticlib:\n",
-    "crates/hdt/src/main.rt": """\
+PROGRAM = """\
 #!/bin/sh
 folder=$(readlink -f "$0")
 folder=${folder%/*/*}
 echo ${folder##*/}: "$(cat) [$*]"
 exit 7
-""",
-    "crates/hdt_c/src/lib.rt": "",
-    "c/hdt.map": "{ global: hdt_*; local: *; };\n",
+"""
+TREE = {
+    "hdt": (TOP / "hdt").read_text(), "crates.txt": "hdt:\nhdt_c staticlib:\n", "crates/hdt/src/main.rt": PROGRAM,
+    "crates/hdt_c/src/lib.rt": "", "c/hdt.map": "{ global: hdt_*; local: *; };\n",
 }
 # What belongs to the sources, and files beside them that don't.
 SOURCES = ["c/hdt.map", "crates.txt", "crates/b/proofs/A.antt", "crates/hdt/specs/Lib.antt", "crates/hdt/src/a/lib.rt"]
@@ -205,25 +201,18 @@ def test_gate_of_dist(tree: Tree, command: str) -> None:
 
 def test_differential(tmp_path: Path) -> None:
     """The same program differs nowhere; another one is found out by what it prints and by the files that it leaves."""
-    status, out, err = tool("differential", BUILT_PROGRAM, BUILT_PROGRAM, "--requests", "100")
+    status, out, err = tool("differential", built.PROGRAM, built.PROGRAM, "--requests", "100")
     assert (status, err, out.splitlines()[-1]) == (0, b"", b"100 requests, 0 differences")
     wrong = '[ "$1" != verify ] || exec echo ok\n[ "$1" != dump ] || : >left\n'
-    write(tmp_path, {"hdt": f'#!/bin/sh\n{wrong}{BUILT_PROGRAM} "$@"\n'})
-    status, out, err = tool("differential", BUILT_PROGRAM, tmp_path / "hdt", "--requests", "100")
+    write(tmp_path, {"hdt": f'#!/bin/sh\n{wrong}{built.PROGRAM} "$@"\n'})
+    status, out, err = tool("differential", built.PROGRAM, tmp_path / "hdt", "--requests", "100")
     assert (status, err) == (1, b"")
     differing = set(re.findall(rb"^request \d+: \['(\w+)', .*\] differs in .*?(\w+): ", out, re.M))
     assert differing == {(b"verify", b"out"), (b"verify", b"err"), (b"dump", b"files")}
 
 
 @pytest.mark.skipif(not Path("/usr/bin/time").exists(), reason="there is no /usr/bin/time")
-def test_measuring() -> None:
-    """Each tool prints its tables, and docs/SIZING.md has the heads of those of `tools.memory`."""
-    memory = tool("memory", "--scale", "0.00001")
-    assert [len(re.findall(rb"^\| .* \| 59 to 100 \|", memory.out, re.M)), memory.err] == [5, b""]
-    table = (TOP / "docs/SIZING.md").read_text()
-    lines = memory.out.decode().splitlines()
-    assert [line for line in lines[2:4] + lines[-7:-5] if line not in table] == []
-    python = {"HDT_LIBRARY": str(SHARED_LIBRARY), "PYTHONPATH": "python"}
-    words: list[str | Path] = ["python3", "-B", "python/speed.py", SAMPLES / "three.hdt", "--rounds", "1"]
-    speed = run(words, cwd=TOP, env=python)
-    assert [len(re.findall(rb"^\| [a-z].*\d \|$", speed.out, re.M)), speed.err] == [14, b""]
+def test_memory() -> None:
+    """Each kind of document has its row in both tables."""
+    status, out, err = tool("memory", "--scale", "0.00001")
+    assert (status, len(re.findall(rb"^\| .* \| (?:59 to )?100 \|", out, re.M)), err) == (0, 10, b"")

@@ -8,7 +8,7 @@ from pathlib import Path
 import pytest
 
 from support.program import run
-from support.tools import tool, write
+from support.tools import change, tool, write
 
 CODE = """\
 ghost use Rattle.toy.specs.Lib.{outer, hidden, pair};
@@ -21,10 +21,6 @@ impl Thing {
         ensures is { result.number ≡ 0 }
     {
         Thing { number: 0 }
-    }
-
-    fn inner(&self) -> u8 {
-        self.number
     }
 }
 
@@ -43,12 +39,6 @@ pub const fn two() -> u8
     2
 }
 
-fn own() -> u8
-    ensures { result ≡ hidden }
-{
-    0
-}
-
 pub fn law()
     ensures { pair }
 {}
@@ -60,7 +50,7 @@ TABLE = """\
 |---|---|---|---|
 | It starts at zero. | `Thing::new` | `is` | `starts_at_one` |
 | The numbers. | `one`, `more::{one, two}` | `is`, `more` | `one_is_two`, `two_is_one` (by its clause `more`) |
-| What is inside. | `Thing::inner` of `more.rs` | the one clause | `other_mutant` in low |
+| What is inside. | `law` of `more.rs` | the one clause | `other_mutant` in low |
 """
 LOW = """\
 -- What contracts reach through `outer`.
@@ -92,6 +82,43 @@ record Pair : Type where
 pair : Nat → Pair
 pair aside = record { hidden = aside; aside = aside.hidden }
 """
+# A view is a function of a value with hidden fields: `seen` is none, and the relation `Is` is none.
+VIEWS = """\
+use Rattle.low.specs.Lib.{low, aside}
+use Rattle.toy.specs.declared.kept.Kept.{Kept}
+use Rattle.toy.specs.declared.kept.Some.{Some}
+use Rattle.toy.specs.declared.kept.Open.{Open}
+
+view : Kept × Nat → Nat
+view k = low
+
+case : Some → Nat
+case s = view s
+
+seen : Open → Nat
+seen o = aside
+
+Is : Kept → Nat → Type 0
+Is k n = seen n
+"""
+KEPT = """\
+ghost use Rattle.toy.specs.Views.{view, case, seen, Is};
+
+pub struct Kept<'a> {
+    pub(crate) x: &'a u8,
+    pub y: u8,
+}
+
+pub enum Some<'a> {
+    One(Kept<'a>),
+}
+
+pub struct Open {
+    pub x: u8,
+    ghost is: { seen x },
+}
+
+""" + "\n".join(f"pub fn by_{it.lower()}()\n    ensures {{ {it} }}\n{{}}\n" for it in ("view", "case", "seen", "Is"))
 FILES = {
     "crates.txt": "# the crates\nlow:\ntoy: low\ntoy_tests: toy\nhdt_probe: toy\nexample: toy\n",
     "crates/low/PROMISES.md": TABLE.split("| It")[0] + "| Nothing. | (none) | (none) | `other_mutant` |\n",
@@ -101,6 +128,8 @@ FILES = {
     "crates/low/specs/Laws/More.antt": "law : Nat\nlaw = 1\n",
     "crates/toy/PROMISES.md": TABLE,
     "crates/toy/src/lib.rt": "pub use crate::more::{Thing, one};\npub use crate::more::two;\n",
+    "crates/toy/specs/Views.antt": VIEWS,
+    "crates/toy/src/kept.rt": KEPT,
     "crates/toy/src/more.rt": CODE,
     "crates/toy/src/more.rs": "",
     "crates/toy/specs/Lib.antt": HIGH,
@@ -122,13 +151,6 @@ def top(tmp_path: Path) -> Path:
     return write(tmp_path, FILES)
 
 
-def printed(name: str, *words: str | Path) -> list[str]:
-    """Return the lines that a tool prints that finds nothing wrong."""
-    status, out, err = tool(name, *words)
-    assert (status, err) == (0, b"")
-    return out.decode().splitlines()
-
-
 # What is changed of the repository, and what is said of it.
 CHANGES: list[tuple[str, str, str, list[str]]] = [
     (PROMISES, "`Thing::new`", "`Thing::old`", [
@@ -144,8 +166,8 @@ CHANGES: list[tuple[str, str, str, list[str]]] = [
     (PROMISES, " | `starts_at_one`", "", [
         "a row without its four cells: It starts at zero. | `Thing::new` | `is`",
         "the mutant starts_at_one is named 0 times, and not once", "the exported function new is in no row"]),
-    (ROOT, "two;", "law;", ["the exported function law is in no row"]),
-    (SOURCE, "    fn inner", "    pub fn outer() {}\n    fn inner", ["the exported function outer is in no row"]),
+    (ROOT, "two;", "by_is;", ["the exported function by_is is in no row"]),
+    (SOURCE, "    pub fn new", "    pub fn outer() {}\n    pub fn new", ["the exported function outer is in no row"]),
     (SOURCE, "/// One.", 'pub extern "C" fn c_one() {\n}\n\n', ["the exported function c_one is in no row"]),
     (SOURCE, "/// One.", "", []),
 ]
@@ -154,8 +176,7 @@ CHANGES: list[tuple[str, str, str, list[str]]] = [
 @pytest.mark.parametrize("file, old, new, wanted", CHANGES, ids=[f"{it[0]}: {it[1]}" for it in CHANGES])
 def test_promises(top: Path, file: str, old: str, new: str, wanted: list[str]) -> None:
     """Each error is told, and nothing else is. Each crate has its PROMISES.md, but for tests and probes."""
-    assert old in FILES[file]
-    write(top, {file: FILES[file].replace(old, new)})
+    change(top, file, old, new)
     (top / "crates/example/PROMISES.md").unlink()
     status, out, err = tool("promises", "--top", top)
     *lines, last = out.decode().splitlines()
@@ -163,82 +184,35 @@ def test_promises(top: Path, file: str, old: str, new: str, wanted: list[str]) -
     assert re.fullmatch(rf"[1-9]\d* passed, {len(wanted) + 1} failed", last)
 
 
-def test_counts(top: Path) -> None:
-    """Lines of each kind, mutants and tests."""
-    assert printed("promises", "--counts", "--top", top)[2:] == [
-        "| low | 0 | 7 | 2 | 0 | 0 | 1 | 0 |",
-        "| toy | 43 | 19 | 0 | 2 | 1 | 2 | 0 |",
-        "| toy_tests | 0 | 0 | 0 | 0 | 0 | 0 | 1 |",
-        "| hdt_probe | 1 | 0 | 0 | 0 | 0 | 0 | 0 |",
-        "| example | 2 | 0 | 0 | 0 | 0 | 0 | 0 |",
-        "| together | 46 | 26 | 2 | 2 | 1 | 3 | 1 |",
-    ]
-
-
-DEFINITIONS = {
-    "--list": ["low.Lib.low 4", "toy.Lib.inner 2", "toy.Lib.outer 3"],
-    "--others": ["low.Laws.More.law 2", "low.Lib.aside 2", "toy.Lib.Pair 4", "toy.Lib.hidden 2", "toy.Lib.pair 2"],
-    "--of toy::one": ["3 definitions, 9 lines, 3 of them comments"],
-    "--of toy::own": ["4 definitions, 11 lines, 3 of them comments"],
-    "--of toy::one --clauses 1": ["0 definitions, 0 lines, 0 of them comments"],
-    "--of toy::law --list": ["toy.Lib.Pair 4", "toy.Lib.pair 2"],
-    "": ["| low | 1 | 4 | 2 | 1 | 2 | 1 | 2 |", "| toy | 2 | 5 | 1 | 3 | 8 | 0 | 0 |",
-         "| together | 3 | 9 | 3 | 4 | 10 | 1 | 2 |"],
+# What a command prints, without the two first lines of a table.
+BELOW, ASIDE = ["low.Lib.low 4"], ["low.Lib.aside 2", "low.Lib.low 4"]
+PRINTED = {
+    "promises --counts": [
+        "| low | 0 | 7 | 2 | 0 | 0 | 1 | 0 |", "| toy | 64 | 35 | 0 | 2 | 1 | 2 | 0 |",
+        "| toy_tests | 0 | 0 | 0 | 0 | 0 | 0 | 1 |", "| hdt_probe | 1 | 0 | 0 | 0 | 0 | 0 | 0 |",
+        "| example | 2 | 0 | 0 | 0 | 0 | 0 | 0 |", "| together | 67 | 42 | 2 | 2 | 1 | 3 | 1 |"],
+    "definitions": ["| low | 1 | 4 | 2 | 1 | 2 | 1 | 2 |", "| toy | 2 | 5 | 1 | 7 | 16 | 0 | 0 |",
+                    "| together | 3 | 9 | 3 | 8 | 18 | 1 | 2 |"],
+    "definitions --list": [*BELOW, "toy.Lib.inner 2", "toy.Lib.outer 3"],
+    "definitions --others": ["low.Laws.More.law 2", "low.Lib.aside 2", "toy.Lib.Pair 4", "toy.Lib.hidden 2",
+                             "toy.Lib.pair 2", *(f"toy.Views.{it} 2" for it in ("Is", "case", "seen", "view"))],
+    "definitions --of toy::one": ["3 definitions, 9 lines, 3 of them comments"],
+    "definitions --of toy::one --clauses 1": ["0 definitions, 0 lines, 0 of them comments"],
+    "definitions --of toy::law --list": ["toy.Lib.Pair 4", "toy.Lib.pair 2"],
+    "definitions --of toy::by_case --list": [*BELOW, "toy.Views.case 2", "toy.Views.view 2"],
+    **{f"definitions --of toy::by_{it} --list --no-views": [] for it in ("view", "case")},
+    "definitions --of toy::by_seen --list --no-views": [*ASIDE, "toy.Views.seen 2"],
+    "definitions --of toy::by_is --list --no-views": [*ASIDE, "toy.Views.Is 2", "toy.Views.seen 2"],
 }
 
 
-@pytest.mark.parametrize("words", DEFINITIONS)
-def test_definitions(top: Path, words: str) -> None:
-    """Those that clauses of exported functions name, or of one function, and all that these name, with their lines."""
-    assert printed("definitions", "--top", top, *words.split())[0 if words else 2 :] == DEFINITIONS[words]
-
-
-VIEWS = """\
-use Rattle.toy.specs.Lib.{outer, pair}
-use Rattle.toy.specs.declared.kept.Kept.{Kept}
-use Rattle.toy.specs.declared.kept.Some.{Some}
-use Rattle.toy.specs.declared.kept.Open.{Open}
-
-view : Kept × Nat → Nat
-view k = outer
-
-case : Some → Nat
-case s = view s
-
-seen : Open → Nat
-seen o = pair
-
-Is : Kept → Nat → Type 0
-Is k n = seen n
-"""
-TYPES = """\
-pub struct Kept<'a> {
-    pub(crate) x: &'a u8,
-    pub y: u8,
-}
-
-pub enum Some<'a> {
-    One(Kept<'a>),
-}
-
-pub struct Open {
-    pub x: u8,
-    ghost is: { seen x },
-}
-"""
-
-
-@pytest.mark.parametrize("name, views, others", [
-    ("view", "view", "outer"), ("case", "case view", "outer"), ("seen", "", "seen pair"), ("Is", "", "Is seen pair"),
-])
-def test_views(top: Path, name: str, views: str, others: str) -> None:
-    """A view is a function of a value with hidden fields: neither of one whose fields are seen, nor a relation."""
-    code = f"ghost use Rattle.toy.specs.Views.{{{name}}};\n\npub fn f()\n    ensures are {{ {name} }}\n{{}}\n"
-    write(top, {"crates/toy/specs/Views.antt": VIEWS, "crates/toy/src/kept.rt": TYPES, "crates/toy/src/f.rt": code})
-    words = ("definitions", "--top", top, "--of", "toy::f", "--list")
-    found, left = printed(*words), printed(*words, "--no-views")
-    names = [{it.split()[0].split(".")[-1] for it in some} - {"Pair", "inner", "low"} for some in (found, left)]
-    assert names == [{*views.split(), *others.split()}, set() if views else {*others.split()}]
+@pytest.mark.parametrize("words", PRINTED)
+def test_printed(top: Path, words: str) -> None:
+    """Lines of each kind, mutants and tests; definitions that contracts name, and all that these name."""
+    name, *options = words.split()
+    status, out, err = tool(name, "--top", top, *options)
+    lines = [it for it in out.decode().splitlines() if not it.startswith(("| crate", "|---"))]
+    assert (status, lines, err) == (0, PRINTED[words], b"")
 
 
 # What is changed, and how that is reported: the last two change no contract.
@@ -257,8 +231,7 @@ def test_contracts(top: Path, file: str, old: str, new: str, wanted: list[str]) 
     """Each clause that is gone, new or another is reported; whitespace, comments and bodies are not."""
     git = "git init -q && git add -A && git -c user.name=a -c user.email=a@example.org commit -qm old"
     assert run(["sh", "-c", git], cwd=top).status == 0
-    assert FILES[file].count(old) == 1
-    write(top, {file: FILES[file].replace(old, new)})
+    change(top, file, old, new)
     status, out, err = tool("contracts", "--top", top, "HEAD")
     lines = [it for it in out.decode().splitlines() if it and not it.startswith("    ")]
     assert (status, err, lines) == (int(bool(wanted)), b"", [*wanted, f"3 functions, {len(wanted)} differences"])

@@ -51,8 +51,8 @@ from pathlib import Path
 from tools import rattle_text, repository
 from tools.repository import TOP, NoKit, command_line, kit_line, lanes
 
-# The share of the mutants judged before that is judged again.
-SAMPLE = 0.05
+# The share of the mutants judged before that is judged again, and how many mutants a tree has at most.
+SAMPLE, MOST = 0.05, 30
 # The functions in a cycle of calls share one proof.
 CYCLE = re.compile(r"#\s*\[\s*cycle\b")
 
@@ -78,9 +78,9 @@ class Crate(repository.Crate):
         self.texts = {str(it.relative_to(self.folder)): it.read_text() for it in files}
         self.parts = {path: rattle_text.split(text) for path, text in self.texts.items()}
 
-    def mutants(self, folder: str, only: str) -> list[Mutant]:
-        """Return the mutants of a folder of the crate whose name the regular expression finds."""
-        files = sorted((self.folder / folder).glob("*.edit"))
+    def mutants(self, only: str = "") -> list[Mutant]:
+        """Return the mutants of the crate whose name the regular expression finds."""
+        files = sorted((self.folder / "wrong").glob("*.edit"))
         return [Mutant(self, it) for it in files if re.search(only, it.stem)]
 
     def inputs(self) -> str:
@@ -300,7 +300,7 @@ class Trial:
     """A run of this command, and what came of it."""
 
     def __init__(self, given: argparse.Namespace) -> None:
-        self.given, self.lanes, self.lock = given, threading.Semaphore(given.jobs), threading.RLock()
+        self.lanes, self.lock = threading.Semaphore(given.jobs), threading.RLock()
         self.refused: dict[str, tuple[str, str]] = {}
         self.failed: list[str] = []
         # The inputs that each crate had when its mutants were begun.
@@ -366,7 +366,7 @@ class Trial:
             base = check(crate, {}, kept)
         if base.status or not base.lines[-1].startswith("logic=proved"):
             return self.fail(crate.name, f"it is not proved without a mutant: {base.first_error()}")
-        left, most = [], self.given.most
+        left, most = [], MOST
         for mutant in mutants:
             try:
                 mutant.read(base.proved)
@@ -398,7 +398,7 @@ class Trial:
         """Write judgements into the crate's record, unless its sources have changed. An interrupted run keeps them."""
         with self.lock:
             of_crate = crate.inputs()
-            if of_crate != self.inputs[crate] or self.given.folder != "wrong":
+            if of_crate != self.inputs[crate]:
                 return
             record, today = Record(crate), date.today().isoformat()
             for mutant in judged:
@@ -408,7 +408,7 @@ class Trial:
                     record.entries[mutant.name] = [mutant.inputs(of_crate), name, said, today, kit_line()]
                 elif mutant.label in self.failed:
                     record.entries.pop(mutant.name, None)
-            record.write(it.name for it in crate.mutants("wrong", ""))
+            record.write(it.name for it in crate.mutants())
 
 
 def drawn(mutants: list[Mutant], seed: str) -> list[Mutant]:
@@ -437,9 +437,7 @@ def words_given() -> argparse.Namespace:
     words.add_argument("--all", action="store_true", help="judge every mutant, also those judged for the same inputs")
     words.add_argument("--list", action="store_true", help="judge nothing; say which are not judged for these sources")
     words.add_argument("--only", default="", metavar="WORD", help="the mutants whose name the regular expression finds")
-    words.add_argument("--folder", default="wrong", metavar="NAME", help="the mutants of crates/CRATE/NAME (wrong)")
     words.add_argument("--jobs", type=int, default=lanes(), metavar="N", help="N checks at a time")
-    words.add_argument("--most", type=int, default=30, metavar="N", help="at most N mutants in a tree (30)")
     words.add_argument("--top", type=Path, default=TOP, metavar="DIR", help="the repository (this one)")
     return words.parse_args()
 
@@ -449,7 +447,7 @@ def chosen(crates: list[Crate], given: argparse.Namespace) -> tuple[dict[Crate, 
     work: dict[Crate, list[Mutant]] = {}
     current: list[Mutant] = []
     for crate in crates:
-        of_crate, record, mutants = crate.inputs(), Record(crate), crate.mutants(given.folder, given.only)
+        of_crate, record, mutants = crate.inputs(), Record(crate), crate.mutants(given.only)
         known = [] if given.all else [it for it in mutants if record.has(it, of_crate)]
         work[crate] = [it for it in mutants if it not in known]
         current += known
@@ -467,7 +465,7 @@ def main() -> int:
         trial.fail(name, "crates.txt has no such crate")
     # The crates that stand on most others are the dearest: they begin.
     names = [it for it in reversed(uses) if it in (given.crates or uses)]
-    crates = [it for it in (Crate(name, given.top) for name in names) if it.mutants(given.folder, given.only)]
+    crates = [it for it in (Crate(name, given.top) for name in names) if it.mutants(given.only)]
     work, others = chosen(crates, given)
     count = sum(map(len, work.values()))
     if given.list:

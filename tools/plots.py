@@ -26,6 +26,7 @@ from tools import documents
 from tools.memory import cost
 from tools.repository import TOP, built, command_line
 
+FOLDER = TOP / "docs/plots"
 RUNS = 3
 SIZES = [100_000, 300_000, 1_000_000, 3_000_000]
 # The commands that are timed: those that read a document, or the file that is built of it.
@@ -77,8 +78,8 @@ def measure(hdt: Path, folder: Path, sizes: list[int]) -> dict[str, Any]:
     return {"about": about, "commands": commands, "requests": requests}
 
 
-def draw(about: str, commands: dict[str, list[tuple[int, float, int]]], requests: dict[str, float], to: Path) -> None:
-    """Draw the plots of what was measured into a folder."""
+def draw(about: str, commands: dict[str, list[tuple[int, float, int]]], requests: dict[str, float]) -> None:
+    """Draw the plots of what was measured."""
     import matplotlib
 
     matplotlib.use("svg")
@@ -91,7 +92,7 @@ def draw(about: str, commands: dict[str, list[tuple[int, float, int]]], requests
         pyplot.xlabel(across)
         pyplot.ylabel(up)
         pyplot.tight_layout()
-        pyplot.savefig(to / name, metadata={"Date": None, "Creator": None})
+        pyplot.savefig(FOLDER / name, metadata={"Date": None, "Creator": None})
         pyplot.close()
 
     pyplot.figure(figsize=(6, 3.6))
@@ -116,14 +117,12 @@ def main() -> int:
     words = command_line("plots", __doc__)
     words.add_argument("--lines", nargs="+", type=int, metavar="N", default=SIZES, help="sizes of documents")
     words.add_argument("--draw", action="store_true", help="draw what was measured before")
-    words.add_argument("--folder", type=Path, default=TOP / "docs/plots", help="where the files go (docs/plots)")
     given = words.parse_args()
-    given.folder.mkdir(parents=True, exist_ok=True)
-    data, memory = given.folder / "measured.json", "/dev/shm" if os.access("/dev/shm", os.W_OK) else None
+    data, memory = FOLDER / "measured.json", "/dev/shm" if os.access("/dev/shm", os.W_OK) else None
     if not given.draw:
         with tempfile.TemporaryDirectory(prefix="hdt-plots-", dir=memory) as folder:
             data.write_text(json.dumps(measure(built() / "hdt", Path(folder), given.lines), indent=1) + "\n")
-    draw(**json.loads(data.read_text()), to=given.folder)
+    draw(**json.loads(data.read_text()))
     return 0
 
 

@@ -8,6 +8,7 @@ from __future__ import annotations
 import argparse
 import os
 import shutil
+import signal
 import subprocess
 import sys
 import tempfile
@@ -162,9 +163,16 @@ def _header_of(options: Any) -> Optional[bytes]:
     return text
 
 
+def _ended(number: int, _: object) -> NoReturn:
+    sys.exit(128 + number)
+
+
 def _status_of(options: Any) -> int:
-    """Build, and return the status."""
+    """Build, and return the status. A signal that ends the process ends its children, and leaves no unfinished file."""
     _check(options)
+    for number in (signal.SIGHUP, signal.SIGTERM):
+        if signal.getsignal(number) == signal.SIG_DFL:
+            signal.signal(number, _ended)
     try:
         _build(options)
         return 0

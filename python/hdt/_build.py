@@ -223,7 +223,7 @@ class _Writer:
         if len(having) > 1 and converted and not is_apart:
             raise ValueError(
                 f"{converted[0]}: a converter makes labels of its blank nodes, which may be those of another input: "
-                'blank_nodes="one" takes N-Triples and N-Quads only'
+                'blank_nodes="one" takes N-Triples, N-Quads and HDT only'
             )
         return self._size
 

@@ -18,6 +18,8 @@ import pytest
 
 from support.python_package import hdt
 
+from hdt import _program
+
 # One graph in each syntax, without blank nodes, whose relative IRIs have this base.
 BASE = "http://a/base"
 TURTLE = '@prefix u: <u:> .\n<x> u:p 5 , "chat"@fr , "a\\nb" .\nu:y a <#z> .\n'
@@ -103,3 +105,13 @@ def fake(folder: Path, monkeypatch: pytest.MonkeyPatch, script: str, name: str =
     (programs / name).write_text(f"#!/bin/sh\n{script}\n")
     (programs / name).chmod(stat.S_IRWXU)
     monkeypatch.setenv("PATH", f"{programs}:{os.environ['PATH']}")
+
+
+def stand_in(folder: Path, monkeypatch: pytest.MonkeyPatch, script: str) -> None:
+    """Have a script run in the place of the program: `$scratch` is its scratch folder, `$out` its last argument."""
+    path = folder / "stand-in"
+    path.write_text('#!/bin/sh\nfor word; do case $word in --scratch=*) scratch=${word#*=} ;; esac; out=$word; done\n'
+                    f"{script}\n")
+    path.chmod(stat.S_IRWXU)
+    monkeypatch.setattr(_program, "path", lambda: str(path))
+    monkeypatch.chdir(folder)  # (what it writes into a file of a relative name is there)

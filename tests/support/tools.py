@@ -23,3 +23,10 @@ def write(top: Path, files: Mapping[str, str]) -> Path:
         (top / name).write_text(text)
         (top / name).chmod(0o755)
     return top
+
+
+def change(top: Path, file: str, old: str, new: str) -> None:
+    """Replace a text that is in a file once; if that is empty, write a new file."""
+    text = (top / file).read_text() if old else ""
+    assert text.count(old) == 1, (file, old)
+    write(top, {file: text.replace(old, new)})
