@@ -111,7 +111,7 @@ fn write_file<S: Scratch, W: Write + Drop>(
     ensures written { IfOk result (λ made. S.IsKnown → (g : List StringTriple) → 0 < length g
         → IsEncodedGraph g (lists_of_states sections.now) triples.now
         → WritesTriples options.now g (W.contents (inner out)) (W.contents (inner made.0)) made.1) }
-    ensures unfailed { IfOk result (λ made. S.IsKnown → failures made.0 ≡ failures out) }
+    ensures writer_unfailed { IfOk result (λ made. S.IsKnown → failures made.0 ≡ failures out) }
 {
     let measures = of_scratch(measure(alloc, triples))?;
     if measures.triples == 0 {
@@ -159,7 +159,7 @@ pub(crate) fn write_batches<S: Scratch + Drop, W: Write + Drop>(
     requires { AreValidOptions options.now }
     ensures written { IfOk result (λ made. S.IsKnown → 0 < length batches
         → WritesTriples options.now batches (W.contents (inner out)) (W.contents (inner made.0)) made.1) }
-    ensures unfailed { IfOk result (λ made. S.IsKnown → failures made.0 ≡ failures out) }
+    ensures writer_unfailed { IfOk result (λ made. S.IsKnown → failures made.0 ≡ failures out) }
 {
     let encoded = encoded_batches(alloc, batches, chunk_len, options.block_size)?;
     write_file(alloc, &encoded.sections, &encoded.triples, options, out)

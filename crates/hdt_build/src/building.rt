@@ -71,8 +71,8 @@ pub fn build_bytes<R: Read>(
         → IsBuildFaultOf (R.remaining (inner input.old)) (R.remaining (inner input.new)) e) }
     // The reader failed in this call, once, if the error says so; else it has not failed.
     ensures read { IfErr result (λ e. ReadFailed e → failures input.new ≡ failures input.old + 1) }
-    ensures still { IfErr result (λ e. (ReadFailed e → ⊥) → failures input.new ≡ failures input.old) }
-    ensures count { OnOk result (failures input.new ≡ failures input.old) }
+    ensures reader_reported { IfErr result (λ e. (ReadFailed e → ⊥) → failures input.new ≡ failures input.old) }
+    ensures reader_unfailed { OnOk result (failures input.new ≡ failures input.old) }
 {
     if !are_valid_options(options) {
         return Err(BuildFault::BadOptions);
@@ -113,14 +113,14 @@ pub fn build<R: Read, W: Write>(
         → IsBuildFaultOf (R.remaining (inner input.old)) (R.remaining (inner input.new)) e) }
     // The reader failed in this call, once, if the error says so; else it has not failed.
     ensures read { IfErr result (λ e. ReadFailed e → failures input.new ≡ failures input.old + 1) }
-    ensures still { IfErr result (λ e. (ReadFailed e → ⊥) → failures input.new ≡ failures input.old) }
-    ensures count { OnOk result (failures input.new ≡ failures input.old) }
+    ensures reader_reported { IfErr result (λ e. (ReadFailed e → ⊥) → failures input.new ≡ failures input.old) }
+    ensures reader_unfailed { OnOk result (failures input.new ≡ failures input.old) }
     // The writer failed in this call, once, after exactly the first n bytes.
     ensures write { IfErr result (λ e. (n : ℕ) → e ≡ BuildFault.Write n → (failures out.new ≡ failures out.old + 1)
         × WritesBuiltPrefix options.now (R.remaining (inner input.old)) (W.contents (inner out.old))
         (W.contents (inner out.new)) n) }
     // Without an error it has not failed, and at any other error nothing was written.
-    ensures well { OnOk result (failures out.new ≡ failures out.old) }
+    ensures writer_unfailed { OnOk result (failures out.new ≡ failures out.old) }
     ensures unwritten { IfErr result (λ e. ((n : ℕ) → e ≢ BuildFault.Write n) → out.new ≡ out.old) }
 {
     let (bytes, report) = build_bytes(alloc, input, options)?;

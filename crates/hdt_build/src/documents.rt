@@ -76,8 +76,8 @@ impl DocumentBuilder {
         ensures some { IfErr result (λ e. e ≢ BuildFault.NoTriples) }
         // The reader failed in this call, once, if the error says so; else it has not failed.
         ensures read { IfErr result (λ e. ReadFailed e → failures input.new ≡ failures input.old + 1) }
-        ensures still { IfErr result (λ e. (ReadFailed e → ⊥) → failures input.new ≡ failures input.old) }
-        ensures count { OnOk result (failures input.new ≡ failures input.old) }
+        ensures reader_reported { IfErr result (λ e. (ReadFailed e → ⊥) → failures input.new ≡ failures input.old) }
+        ensures reader_unfailed { OnOk result (failures input.new ≡ failures input.old) }
     {
         let DocumentBuilder { collector } = self;
         let (collector, has_blank_nodes) = read_triples(alloc, prefix, input, collector)?;

@@ -125,9 +125,9 @@ pub(crate) fn collect_triples<C: Collector + Drop, R: Read>(
     ensures fault { IfErr result (IfBuildFault (IsBuildFaultOf (R.remaining (inner input.old))
         (R.remaining (inner input.new)))) }
     ensures read { IfErr result (λ e. IsBuild ReadFailed e → failures input.new ≡ failures input.old + 1) }
-    ensures still { IfErr result (λ e. (IsBuild ReadFailed e → ⊥) → failures input.new ≡ failures input.old) }
+    ensures reader_reported { IfErr result (λ e. (IsBuild ReadFailed e → ⊥) → failures input.new ≡ failures input.old) }
     ensures some { IfErr result (IfBuildFault (λ e. e ≢ BuildFault.NoTriples)) }
-    ensures count { OnOk result (failures input.new ≡ failures input.old) }
+    ensures reader_unfailed { OnOk result (failures input.new ≡ failures input.old) }
 {
     triples_so_far();
     strings_are_texts();
@@ -168,9 +168,9 @@ pub(crate) fn read_triples<R: Read>(
     ensures end { OnOk result (IsAtEnd (R.remaining (inner input.new))) }
     ensures fault { IfErr result (IsBuildFaultOf (R.remaining (inner input.old)) (R.remaining (inner input.new))) }
     ensures read { IfErr result (λ e. ReadFailed e → failures input.new ≡ failures input.old + 1) }
-    ensures still { IfErr result (λ e. (ReadFailed e → ⊥) → failures input.new ≡ failures input.old) }
+    ensures reader_reported { IfErr result (λ e. (ReadFailed e → ⊥) → failures input.new ≡ failures input.old) }
     ensures some { IfErr result (λ e. e ≢ BuildFault.NoTriples) }
-    ensures count { OnOk result (failures input.new ≡ failures input.old) }
+    ensures reader_unfailed { OnOk result (failures input.new ≡ failures input.old) }
 {
     match collect_triples(alloc, prefix, input, collector) {
         Ok(read) => Ok(read),

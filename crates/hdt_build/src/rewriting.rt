@@ -98,7 +98,7 @@ pub fn rewrite<W: Write>(
         × WritesRewrittenPrefix options.now.block_size (graph_view graph.now) (W.contents (inner out.old))
         (W.contents (inner out.new)) n) }
     // Without an error it has not failed, and at any other error nothing was written.
-    ensures well { OnOk result (failures out.new ≡ failures out.old) }
+    ensures writer_unfailed { OnOk result (failures out.new ≡ failures out.old) }
     ensures unwritten { IfErr result (λ e. ((n : ℕ) → e ≢ RewriteFault.Write n) → out.new ≡ out.old) }
 {
     let (bytes, report) = rewrite_bytes(alloc, graph, options)?;

@@ -47,7 +47,7 @@ impl PendingText {
         ensures count { OnOk result (self.new.written ≡ self.old.written + length self.old.bytes.items) }
         ensures ok { OnOk result
             (Appends (W.contents (inner out.old)) (W.contents (inner out.new)) self.old.bytes.items) }
-        ensures well { OnOk result (failures out.new ≡ failures out.old) }
+        ensures writer_unfailed { OnOk result (failures out.new ≡ failures out.old) }
         ensures err { IfErr result (λ e. StopsAt e self.old.written self.old.bytes.items
             (W.contents (inner out.old)) (W.contents (inner out.new)) (failures out.old) (failures out.new)) }
     {
@@ -72,7 +72,7 @@ impl PendingText {
         ensures ok { OnOk result ((part : List ℕ) × (self.old.bytes.items ≡ part ++ self.new.bytes.items)
             × (self.new.written ≡ self.old.written + length part)
             × Appends (W.contents (inner out.old)) (W.contents (inner out.new)) part) }
-        ensures well { OnOk result (failures out.new ≡ failures out.old) }
+        ensures writer_unfailed { OnOk result (failures out.new ≡ failures out.old) }
         ensures err { IfErr result (λ e. StopsAt e self.old.written self.old.bytes.items
             (W.contents (inner out.old)) (W.contents (inner out.new)) (failures out.old) (failures out.new)) }
     {

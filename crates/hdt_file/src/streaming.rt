@@ -66,7 +66,7 @@ fn stream_matches<W: Write>(
     requires streamed { remaining_matches streamed ≡ remaining_matches found }
     ensures ok { IfOk result (WritesText (layout_view layout.now) (limited most (remaining_matches found.entry))
         (W.contents (inner out.old)) (W.contents (inner out.new))) }
-    ensures well { IsOk result → failures out.new ≡ failures out.old }
+    ensures writer_unfailed { IsOk result → failures out.new ≡ failures out.old }
     ensures err { IfErr result (λ e. (ReportsFirstNonTerm (layout_view layout.now)
         (limited most (remaining_matches found.entry)) e × (out.new ≡ out.old))
         ⊎ CutsText (layout_view layout.now) (limited most (remaining_matches found.entry)) e
@@ -134,7 +134,7 @@ pub fn stream_graph<W: Write>(
     ensures ok { IfOk result (WritesText (graph_view graph.now)
         (limited most (matches_if_given (graph_view graph.now) pattern))
         (W.contents (inner out.old)) (W.contents (inner out.new))) }
-    ensures well { IsOk result → failures out.new ≡ failures out.old }
+    ensures writer_unfailed { IsOk result → failures out.new ≡ failures out.old }
     // Nothing was written; or the writer failed, once, or memory ran out, after a beginning of the text.
     ensures err { IfErr result (λ e. (ReportsFirstNonTerm (graph_view graph.now)
         (limited most (matches_if_given (graph_view graph.now) pattern)) e × (out.new ≡ out.old))
@@ -161,7 +161,7 @@ pub fn stream_layout<W: Write>(
     ensures ok { IfOk result (WritesText (layout_view layout.now)
         (limited most (matches_if_given (layout_view layout.now) pattern))
         (W.contents (inner out.old)) (W.contents (inner out.new))) }
-    ensures well { IsOk result → failures out.new ≡ failures out.old }
+    ensures writer_unfailed { IsOk result → failures out.new ≡ failures out.old }
     ensures err { IfErr result (λ e. (ReportsFirstNonTerm (layout_view layout.now)
         (limited most (matches_if_given (layout_view layout.now) pattern)) e × (out.new ≡ out.old))
         ⊎ CutsText (layout_view layout.now) (limited most (matches_if_given (layout_view layout.now) pattern)) e
@@ -208,7 +208,7 @@ pub fn stream_writable<W: Write>(
     // The text of the matches that have a line was written, and the number is that of those skipped.
     ensures ok { IfOk result (WritesWritable (layout_view layout.now) most
         (matches_if_given (layout_view layout.now) pattern) (W.contents (inner out.old)) (W.contents (inner out.new))) }
-    ensures well { IsOk result → failures out.new ≡ failures out.old }
+    ensures writer_unfailed { IsOk result → failures out.new ≡ failures out.old }
     // Nothing was written, for want of memory; or the writer failed, once, or memory ran out, after a beginning of that
     // text.
     ensures err { IfErr result (λ e. ((e ≡ DumpFault.OutOfMemory) × (out.new ≡ out.old))

@@ -116,7 +116,7 @@ pub fn write_graph<W: Write>(
     // The text, of the length that is returned, was written, and the writer has not failed.
     ensures ok { IfOk result (WritesText (graph_view graph.now) (matches_if_given (graph_view graph.now) pattern)
         (W.contents (inner out.old)) (W.contents (inner out.new))) }
-    ensures well { IsOk result → failures out.new ≡ failures out.old }
+    ensures writer_unfailed { IsOk result → failures out.new ≡ failures out.old }
     // It names the first string of the first triple that is not a term which its role allows, in the order subject,
     // predicate, object.
     ensures first { IfErr result (λ e. (role : Role) (n : ℕ) → e ≡ DumpFault.NotATerm role n

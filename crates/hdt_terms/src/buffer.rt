@@ -69,7 +69,7 @@ fn read_at<R: Read>(
         (take n (drop at bytes.new.items))
         × (n ≡ 0 → at < vec_len bytes.new → 0 < most → IsAtEnd (R.remaining (inner input.new)))) }
     ensures err { OnErr result (Keeps (R.remaining (inner input.old)) (R.remaining (inner input.new))) }
-    ensures count { OnOk result (failures input.new ≡ failures input.old) }
+    ensures reader_unfailed { OnOk result (failures input.new ≡ failures input.old) }
     ensures failed { OnErr result (failures input.new ≡ failures input.old + 1) }
 {
     let to = at + most.min(bytes.len() - at);
@@ -120,9 +120,9 @@ impl Buffer {
         ensures does { ReadOnce result self.old self.new (R.remaining (inner input.old))
             (R.remaining (inner input.new)) }
         ensures most { IfOk result (λ n. n ≤ most) }
-        ensures count { OnOk result (failures input.new ≡ failures input.old) }
-        ensures failed { IsErrOf result Read → failures input.new ≡ failures input.old + 1 }
-        ensures still { IfErr result (λ reason. reason ≢ Read → failures input.new ≡ failures input.old) }
+        ensures reader_unfailed { OnOk result (failures input.new ≡ failures input.old) }
+        ensures read { IsErrOf result Read → failures input.new ≡ failures input.old + 1 }
+        ensures reader_reported { IfErr result (λ reason. reason ≢ Read → failures input.new ≡ failures input.old) }
     {
         let made = make_free_space(&mut self.bytes, self.start, self.end);
         self.end -= self.start;

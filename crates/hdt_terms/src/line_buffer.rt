@@ -37,9 +37,9 @@ pub(crate) fn read_more<R: Read>(
     requires { length buffered.old ≤ most }
     ensures does { ReadMore result buffered.old buffered.new (R.remaining (inner input.old))
         (R.remaining (inner input.new)) most }
-    ensures count { OnOk result (failures input.new ≡ failures input.old) }
-    ensures failed { IsErrOf result Read → failures input.new ≡ failures input.old + 1 }
-    ensures still { IfErr result (λ reason. reason ≢ Read → failures input.new ≡ failures input.old) }
+    ensures reader_unfailed { OnOk result (failures input.new ≡ failures input.old) }
+    ensures read { IsErrOf result Read → failures input.new ≡ failures input.old + 1 }
+    ensures reader_reported { IfErr result (λ reason. reason ≢ Read → failures input.new ≡ failures input.old) }
 {
     if buffered.len() == most {
         let mut past = [0u8; 1];
@@ -63,9 +63,9 @@ fn fill<R: Read>(
     requires below_limit { length buffered.old ≤ most }
     ensures does { BuffersLine result buffered.old buffered.new (R.remaining (inner input.old))
         (R.remaining (inner input.new)) most }
-    ensures count { OnOk result (failures input.new ≡ failures input.old) }
-    ensures failed { IsErrOf result Read → failures input.new ≡ failures input.old + 1 }
-    ensures still { IfErr result (λ reason. reason ≢ Read → failures input.new ≡ failures input.old) }
+    ensures reader_unfailed { OnOk result (failures input.new ≡ failures input.old) }
+    ensures read { IsErrOf result Read → failures input.new ≡ failures input.old + 1 }
+    ensures reader_reported { IfErr result (λ reason. reason ≢ Read → failures input.new ≡ failures input.old) }
 {
     'fill: loop {
         let searched = buffered.len();
@@ -103,9 +103,9 @@ pub(crate) fn buffer_first_line<R: Read>(
         (R.remaining (inner input.new)) most }
     ensures utf8 { IfOk result (λ x. x.1 ≡ true → IsUtf8 (take x.0 buffered.new)) }
     ensures unread { (n : ℕ) → IsFirstLineEnd buffered.old (Some n) → input.new ≡ input.old }
-    ensures count { OnOk result (failures input.new ≡ failures input.old) }
-    ensures failed { IsErrOf result Read → failures input.new ≡ failures input.old + 1 }
-    ensures still { IfErr result (λ reason. reason ≢ Read → failures input.new ≡ failures input.old) }
+    ensures reader_unfailed { OnOk result (failures input.new ≡ failures input.old) }
+    ensures read { IsErrOf result Read → failures input.new ≡ failures input.old + 1 }
+    ensures reader_reported { IfErr result (λ reason. reason ≢ Read → failures input.new ≡ failures input.old) }
 {
     let (n, ended) = scan_ascii_line(buffered.as_slice());
     if ended {

@@ -44,9 +44,9 @@ impl Lines {
             (self.old.limit - self.old.taken) }
         ensures others { self.new ≡ record self.old { buffered = self.new.buffered } }
         ensures below_limit { self.old.taken + length self.old.buffered ≤ self.old.limit }
-        ensures count { OnOk result (failures input.new ≡ failures input.old) }
-        ensures failed { IsErrOf result Read → failures input.new ≡ failures input.old + 1 }
-        ensures still { IfErr result (λ reason. reason ≢ Read → failures input.new ≡ failures input.old) }
+        ensures reader_unfailed { OnOk result (failures input.new ≡ failures input.old) }
+        ensures read { IsErrOf result Read → failures input.new ≡ failures input.old + 1 }
+        ensures reader_reported { IfErr result (λ reason. reason ≢ Read → failures input.new ≡ failures input.old) }
     {
         let most = (self.limit - self.taken) as usize;
         read_more(&mut self.buffered, most, input)
@@ -81,9 +81,9 @@ impl Lines {
             (λ f. IsNextLineError f self.old (left self.old (R.remaining (inner input.old)))
             (R.remaining (inner input.new))) }
         ensures unread { HasBufferedLine self.old → input.new ≡ input.old }
-        ensures count { OnOk result (failures input.new ≡ failures input.old) }
-        ensures failed { IfErr result (λ f. f.reason ≡ Read → failures input.new ≡ failures input.old + 1) }
-        ensures still { IfErr result (λ f. f.reason ≢ Read → failures input.new ≡ failures input.old) }
+        ensures reader_unfailed { OnOk result (failures input.new ≡ failures input.old) }
+        ensures read { IfErr result (λ f. f.reason ≡ Read → failures input.new ≡ failures input.old + 1) }
+        ensures reader_reported { IfErr result (λ f. f.reason ≢ Read → failures input.new ≡ failures input.old) }
     {
         // Brings the invariant of the type into the proof.
         let _ = &self.alloc;
@@ -141,8 +141,8 @@ impl Lines {
         // The reader failed in this call if the error says so, and only then.
         ensures read { self.old.failed ≡ None
             → IfErr result (λ f. f.reason ≡ Read → failures input.new ≡ failures input.old + 1) }
-        ensures still { IfErr result (λ f. f.reason ≢ Read → failures input.new ≡ failures input.old) }
-        ensures count { OnOk result (failures input.new ≡ failures input.old) }
+        ensures reader_reported { IfErr result (λ f. f.reason ≢ Read → failures input.new ≡ failures input.old) }
+        ensures reader_unfailed { OnOk result (failures input.new ≡ failures input.old) }
     {
         text.clear();
         if let Some(fault) = self.failed {
@@ -179,9 +179,9 @@ impl Lines {
         ensures fault { IfErr result
             (λ f. IsNextLineError f self.old (left self.old (R.remaining (inner input.old)))
             (R.remaining (inner input.new))) }
-        ensures count { OnOk result (failures input.new ≡ failures input.old) }
-        ensures failed { IfErr result (λ f. f.reason ≡ Read → failures input.new ≡ failures input.old + 1) }
-        ensures still { IfErr result (λ f. f.reason ≢ Read → failures input.new ≡ failures input.old) }
+        ensures reader_unfailed { OnOk result (failures input.new ≡ failures input.old) }
+        ensures read { IfErr result (λ f. f.reason ≡ Read → failures input.new ≡ failures input.old + 1) }
+        ensures reader_reported { IfErr result (λ f. f.reason ≢ Read → failures input.new ≡ failures input.old) }
     {
         // Brings the invariant of the type into the proof.
         let _ = &self.alloc;
@@ -203,9 +203,9 @@ impl Lines {
         ensures fault { IfErr result
             (λ f. IsNextLineError f self.old (left self.old (R.remaining (inner input.old)))
             (R.remaining (inner input.new))) }
-        ensures count { OnOk result (failures input.new ≡ failures input.old) }
-        ensures failed { IfErr result (λ f. f.reason ≡ Read → failures input.new ≡ failures input.old + 1) }
-        ensures still { IfErr result (λ f. f.reason ≢ Read → failures input.new ≡ failures input.old) }
+        ensures reader_unfailed { OnOk result (failures input.new ≡ failures input.old) }
+        ensures read { IfErr result (λ f. f.reason ≡ Read → failures input.new ≡ failures input.old + 1) }
+        ensures reader_reported { IfErr result (λ f. f.reason ≢ Read → failures input.new ≡ failures input.old) }
     {
         let without_memory = self.fault(0, LineReason::OutOfMemory);
         bytes.clear();

@@ -100,9 +100,9 @@ impl Lines {
         ensures within { self.old.taken + length self.new.buffered ≤ self.old.limit }
         ensures below_limit { self.old.taken ≤ self.old.limit }
         ensures unread { HasBufferedLine self.old → input.new ≡ input.old }
-        ensures count { OnOk result (failures input.new ≡ failures input.old) }
-        ensures failed { IsErrOf result Read → failures input.new ≡ failures input.old + 1 }
-        ensures still { IfErr result (λ reason. reason ≢ Read → failures input.new ≡ failures input.old) }
+        ensures reader_unfailed { OnOk result (failures input.new ≡ failures input.old) }
+        ensures read { IsErrOf result Read → failures input.new ≡ failures input.old + 1 }
+        ensures reader_reported { IfErr result (λ reason. reason ≢ Read → failures input.new ≡ failures input.old) }
     {
         let most = (self.limit - self.taken) as usize;
         buffer_first_line(&mut self.buffered, most, input)
@@ -232,9 +232,9 @@ impl Lines {
         requires { self.old.ended ≡ false }
         ensures does { FindsTripleLine result self.old self.new (left self.old (R.remaining (inner input.old)))
             (left self.new (R.remaining (inner input.new))) (R.remaining (inner input.new)) }
-        ensures count { OnOk result (failures input.new ≡ failures input.old) }
-        ensures failed { IfErr result (λ f. f.reason ≡ Read → failures input.new ≡ failures input.old + 1) }
-        ensures still { IfErr result (λ f. f.reason ≢ Read → failures input.new ≡ failures input.old) }
+        ensures reader_unfailed { OnOk result (failures input.new ≡ failures input.old) }
+        ensures read { IfErr result (λ f. f.reason ≡ Read → failures input.new ≡ failures input.old + 1) }
+        ensures reader_reported { IfErr result (λ f. f.reason ≢ Read → failures input.new ≡ failures input.old) }
     {
         // Brings the invariant of the type into the proof.
         let _ = &self.alloc;
@@ -260,9 +260,9 @@ impl Lines {
         requires { self.old.ended ≡ false }
         ensures does { ReturnsNextTriple result self.old self.new (left self.old (R.remaining (inner input.old)))
             (left self.new (R.remaining (inner input.new))) (R.remaining (inner input.new)) }
-        ensures count { OnOk result (failures input.new ≡ failures input.old) }
-        ensures failed { IfErr result (λ f. f.reason ≡ Read → failures input.new ≡ failures input.old + 1) }
-        ensures still { IfErr result (λ f. f.reason ≢ Read → failures input.new ≡ failures input.old) }
+        ensures reader_unfailed { OnOk result (failures input.new ≡ failures input.old) }
+        ensures read { IfErr result (λ f. f.reason ≡ Read → failures input.new ≡ failures input.old + 1) }
+        ensures reader_reported { IfErr result (λ f. f.reason ≢ Read → failures input.new ≡ failures input.old) }
     {
         match self.find_triple_line(input) {
             Err(fault) => Err(fault),
@@ -289,9 +289,9 @@ impl Lines {
         ensures does { ReturnsNextStrings result s.new.items p.new.items o.new.items self.old self.new
             (left self.old (R.remaining (inner input.old)))
             (left self.new (R.remaining (inner input.new))) (R.remaining (inner input.new)) }
-        ensures count { OnOk result (failures input.new ≡ failures input.old) }
-        ensures failed { IfErr result (λ f. f.reason ≡ Read → failures input.new ≡ failures input.old + 1) }
-        ensures still { IfErr result (λ f. f.reason ≢ Read → failures input.new ≡ failures input.old) }
+        ensures reader_unfailed { OnOk result (failures input.new ≡ failures input.old) }
+        ensures read { IfErr result (λ f. f.reason ≡ Read → failures input.new ≡ failures input.old + 1) }
+        ensures reader_reported { IfErr result (λ f. f.reason ≢ Read → failures input.new ≡ failures input.old) }
     {
         match self.find_triple_line(input) {
             Err(fault) => Err(fault),
@@ -329,8 +329,8 @@ impl Lines {
         // The reader failed in this call if the error says so, and only then.
         ensures read { self.old.failed ≡ None
             → IfErr result (λ f. f.reason ≡ Read → failures input.new ≡ failures input.old + 1) }
-        ensures still { IfErr result (λ f. f.reason ≢ Read → failures input.new ≡ failures input.old) }
-        ensures count { OnOk result (failures input.new ≡ failures input.old) }
+        ensures reader_reported { IfErr result (λ f. f.reason ≢ Read → failures input.new ≡ failures input.old) }
+        ensures reader_unfailed { OnOk result (failures input.new ≡ failures input.old) }
     {
         if let Some(fault) = self.failed {
             return Err(fault);
@@ -374,8 +374,8 @@ impl Lines {
         // The reader failed in this call if the error says so, and only then.
         ensures read { self.old.failed ≡ None
             → IfErr result (λ f. f.reason ≡ Read → failures input.new ≡ failures input.old + 1) }
-        ensures still { IfErr result (λ f. f.reason ≢ Read → failures input.new ≡ failures input.old) }
-        ensures count { OnOk result (failures input.new ≡ failures input.old) }
+        ensures reader_reported { IfErr result (λ f. f.reason ≢ Read → failures input.new ≡ failures input.old) }
+        ensures reader_unfailed { OnOk result (failures input.new ≡ failures input.old) }
     {
         clear_all(s, p, o);
         if let Some(fault) = self.failed {

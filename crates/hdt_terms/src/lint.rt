@@ -196,7 +196,7 @@ pub(crate) fn write_if_long<W: Write>(
     ensures ok { OnOk result (GainsAllBut (W.contents (inner out.old))
         (W.contents (inner out.new)) text.old.items text.new.items) }
     ensures whole { OnOk result (least ≡ 0 → text.new.items ≡ []) }
-    ensures well { OnOk result (failures out.new ≡ failures out.old) }
+    ensures writer_unfailed { OnOk result (failures out.new ≡ failures out.old) }
     ensures failed { OnErr result (failures out.new ≡ failures out.old + 1) }
     ensures count { IfOk result (λ n. (before : _) → GainsBytes written before (W.contents (inner out.old))
         → GainsBytes n before (W.contents (inner out.new))) }
@@ -232,7 +232,7 @@ fn write_both_if_long<K: Write, T: Write>(
         (GainsAllBut (T.contents (inner reported.old))
         (T.contents (inner reported.new)) linter.old.reported.items linter.new.reported.items) }
     ensures whole { OnOk result (least ≡ 0 → (linter.new.kept.items ≡ []) × (linter.new.reported.items ≡ [])) }
-    ensures well { OnOk result ((failures kept.new ≡ failures kept.old)
+    ensures writer_unfailed { OnOk result ((failures kept.new ≡ failures kept.old)
         × (failures reported.new ≡ failures reported.old)) }
     ensures others { OnOk result ((linter.new.keep ≡ linter.old.keep) × (linter.new.faulty ≡ linter.old.faulty)) }
     ensures kept_count { IfOk result (λ n. (before : _) → GainsBytes written.0 before (K.contents (inner kept.old))
@@ -309,7 +309,7 @@ pub fn lint_document<R: Read, K: Write, T: Write>(
     // All lines were checked, or those up to the last of `most` faulty ones; the result is how many are faulty.
     ensures ok { IfOk result (LintsInput longest keep most (R.remaining (inner input.old)) (K.contents (inner kept.old))
         (K.contents (inner kept.new)) (T.contents (inner reported.old)) (T.contents (inner reported.new))) }
-    ensures writers_well { OnOk result ((failures kept.new ≡ failures kept.old)
+    ensures writer_unfailed { OnOk result ((failures kept.new ≡ failures kept.old)
         × (failures reported.new ≡ failures reported.old)) }
     // At `Write` one of them failed, once, after it had gained so many bytes. If memory ran out, neither has failed.
     ensures write { IfErr result (λ e. (n : ℕ) → e ≡ write_failed n
@@ -317,7 +317,7 @@ pub fn lint_document<R: Read, K: Write, T: Write>(
         × GainsBytes n (K.contents (inner kept.old)) (K.contents (inner kept.new)))
         ⊎ ((failures kept.new ≡ failures kept.old) × (failures reported.new ≡ failures reported.old + 1)
         × GainsBytes n (T.contents (inner reported.old)) (T.contents (inner reported.new)))) }
-    ensures unfailed { IfErr result (λ e. e ≡ OutOfMemory → (failures kept.new ≡ failures kept.old)
+    ensures writer_reported { IfErr result (λ e. e ≡ OutOfMemory → (failures kept.new ≡ failures kept.old)
         × (failures reported.new ≡ failures reported.old)) }
     // The writers have gained a prefix of the output for some first lines; all lines before one that cannot be read.
     ensures stopped { IfErr result
@@ -326,8 +326,8 @@ pub fn lint_document<R: Read, K: Write, T: Write>(
         (T.contents (inner reported.new))) }
     // The reader failed if the error says so, and only then.
     ensures read { IfErr result (λ e. IsReadFault e → failures input.new ≡ failures input.old + 1) }
-    ensures still { IfErr result (λ e. (IsReadFault e → ⊥) → failures input.new ≡ failures input.old) }
-    ensures reader_well { OnOk result (failures input.new ≡ failures input.old) }
+    ensures reader_reported { IfErr result (λ e. (IsReadFault e → ⊥) → failures input.new ≡ failures input.old) }
+    ensures reader_unfailed { OnOk result (failures input.new ≡ failures input.old) }
 {
     let mut lines = Lines::new(alloc, MAX_INPUT_LEN)?;
     let mut linter = Linter::new(alloc, keep);

@@ -261,7 +261,7 @@ fn write_part<W: Write>(
     ensures others { (part : ℕ) → part ≢ at → get_or (map (λ text. text.items) pending.new) part []
         ≡ get_or (map (λ text. text.items) pending.old) part [] }
     ensures whole { OnOk result (least ≡ 0 → get_or (map (λ text. text.items) pending.new) at [] ≡ []) }
-    ensures well { OnOk result (map failures outs.new ≡ map failures outs.old) }
+    ensures writer_unfailed { OnOk result (map failures outs.new ≡ map failures outs.old) }
     ensures err { IfErr result (λ e. e ≡ write_failed at) }
     ensures failed { OnErr result (FailsOnce at (map failures outs.old) (map failures outs.new)) }
     ensures part { OnErr result
@@ -295,7 +295,7 @@ fn write_all_parts<W: Write>(
     ensures ok { OnOk result (EachGains (map (λ out. W.contents (inner out)) outs.old)
         (map (λ out. W.contents (inner out)) outs.new)
         (λ part. get_or (map (λ text. text.items) pending.old) part [])) }
-    ensures well { OnOk result (map failures outs.new ≡ map failures outs.old) }
+    ensures writer_unfailed { OnOk result (map failures outs.new ≡ map failures outs.old) }
     ensures err { IfErr result (λ e. (part : ℕ) × (part < length outs.old) × (e ≡ write_failed part)
         × FailsOnce part (map failures outs.old) (map failures outs.new)) }
     ensures part { OnErr result
@@ -339,14 +339,14 @@ pub fn split_document<R: Read, W: Write>(
         (map (λ out. W.contents (inner out)) outs.old) (map (λ out. W.contents (inner out)) outs.new)) }
     // The reader failed if the error says so, and only then.
     ensures read { IfErr result (λ e. IsSplitReadFault e → failures input.new ≡ failures input.old + 1) }
-    ensures still { IfErr result (λ e. (IsSplitReadFault e → ⊥) → failures input.new ≡ failures input.old) }
-    ensures reader_well { OnOk result (failures input.new ≡ failures input.old) }
+    ensures reader_reported { IfErr result (λ e. (IsSplitReadFault e → ⊥) → failures input.new ≡ failures input.old) }
+    ensures reader_unfailed { OnOk result (failures input.new ≡ failures input.old) }
     // The writer of the part that `Write` names failed, once, and no other writer; at no other result one has failed.
     ensures write { IfErr result (λ e. (part : ℕ) → e ≡ write_failed part
         → FailsOnce part (map failures outs.old) (map failures outs.new)) }
-    ensures unfailed { IfErr result (λ e. ((part : ℕ) → e ≢ write_failed part)
+    ensures writer_reported { IfErr result (λ e. ((part : ℕ) → e ≢ write_failed part)
         → map failures outs.new ≡ map failures outs.old) }
-    ensures writers_well { OnOk result (map failures outs.new ≡ map failures outs.old) }
+    ensures writer_unfailed { OnOk result (map failures outs.new ≡ map failures outs.old) }
 {
     let mut lines = Lines::new(alloc, MAX_INPUT_LEN)?;
     let mut splitter = Splitter::new(alloc, outs.len() as u32);

@@ -38,7 +38,7 @@ pub(crate) fn read_all<R: Read>(
     ensures ok { IfOk result (λ bytes. ReadsAll (change R.remaining input.old input.new) bytes.items) }
     ensures read { IsErrOf result ToolFault.Read → failures input.new ≡ failures input.old + 1 }
     ensures others { IfErr result (λ e. e ≢ ToolFault.Read → e ≡ ToolFault.OutOfMemory) }
-    ensures unfailed { OnOk result (failures input.new ≡ failures input.old) }
+    ensures reader_unfailed { OnOk result (failures input.new ≡ failures input.old) }
     ensures refused { IsErrOf result ToolFault.OutOfMemory → failures input.new ≡ failures input.old }
 {
     let mut bytes = Vec::with_capacity(alloc, capacity)?;
@@ -276,7 +276,7 @@ pub fn answer_file<F: Read, R: Read, W: Write>(
         (change R.remaining input.old input.new)
         (change W.contents out.old out.new)) }
     ensures writer_unfailed { OnOk result (failures out.new ≡ failures out.old) }
-    ensures readers_unfailed { OnOk result ((failures file.new ≡ failures file.old)
+    ensures reader_unfailed { OnOk result ((failures file.new ≡ failures file.old)
         × (failures input.new ≡ failures input.old)) }
     // `Read`: one of the two readers failed once in this call.
     ensures read { IsErrOf result ToolFault.Read

@@ -46,8 +46,8 @@ fn next_line<R: Read>(
     ensures fewer { result ≡ Ok true → lines_left lines.new < lines_left lines.old }
     ensures well { OnOk result (lines.new.failed ≡ None) }
     ensures read { IfErr result (λ f. f.reason ≡ reasons.Read → failures input.new ≡ failures input.old + 1) }
-    ensures still { IfErr result (λ f. f.reason ≢ reasons.Read → failures input.new ≡ failures input.old) }
-    ensures count { OnOk result (failures input.new ≡ failures input.old) }
+    ensures reader_reported { IfErr result (λ f. f.reason ≢ reasons.Read → failures input.new ≡ failures input.old) }
+    ensures reader_unfailed { OnOk result (failures input.new ≡ failures input.old) }
     ensures unread { HasBufferedLine lines.old → input.new ≡ input.old }
 {
     lines_so_far();

@@ -81,7 +81,7 @@ pub(crate) fn lint_input<R: Read, K: Write, T: Write>(
     // All lines were checked, or those up to the last of `most` faulty ones; the result is whether any is faulty.
     ensures ok { IfOk result (Lints options (change R.remaining input.old input.new)
         (change K.contents kept.old kept.new) (change T.contents reported.old reported.new)) }
-    ensures writers_unfailed { OnOk result ((failures kept.new ≡ failures kept.old)
+    ensures writer_unfailed { OnOk result ((failures kept.new ≡ failures kept.old)
         × (failures reported.new ≡ failures reported.old)) }
     // `Write(n)`: one of them failed once in this call, after it had gained n bytes, and the other one did not fail.
     ensures write { IfErr result (λ e. (n : ℕ) → e ≡ ToolFault.Write n

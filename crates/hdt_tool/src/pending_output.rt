@@ -40,7 +40,7 @@ impl PendingOutput {
         ensures count { OnOk result (self.new.written ≡ self.old.written + length self.old.bytes.items) }
         ensures ok { OnOk result (Appends (W.contents (inner out.old))
             (W.contents (inner out.new)) self.old.bytes.items) }
-        ensures well { OnOk result (failures out.new ≡ failures out.old) }
+        ensures writer_unfailed { OnOk result (failures out.new ≡ failures out.old) }
         ensures err { IfErr result (λ e. (m : ℕ) × (e ≡ ToolFault.Write (self.old.written + m))
             × FailsAfter m self.old.bytes.items (change W.contents out.old out.new)) }
     {
@@ -73,7 +73,7 @@ impl PendingOutput {
             × (self.old.bytes.items ≡ part ++ self.new.bytes.items)
             × Appends (W.contents (inner out.old)) (W.contents (inner out.new)) part) }
         ensures none { OnOk result ((self.new.bytes.items ≡ []) ⊎ (more ≡ true)) }
-        ensures well { OnOk result (failures out.new ≡ failures out.old) }
+        ensures writer_unfailed { OnOk result (failures out.new ≡ failures out.old) }
         ensures err { IfErr result
             (λ e. ((e ≡ ToolFault.OutOfMemory) × (failures out.new ≡ failures out.old)
             × Appends (W.contents (inner out.old)) (W.contents (inner out.new)) (take start self.old.bytes.items))
@@ -95,7 +95,7 @@ impl PendingOutput {
 /// Writes a text.
 pub(crate) fn write_text<W: Write>(text: &[u8], out: &mut Counted<W>) -> Result<(), ToolFault>
     ensures ok { OnOk result (Appends (W.contents (inner out.old)) (W.contents (inner out.new)) text.now) }
-    ensures unfailed { OnOk result (failures out.new ≡ failures out.old) }
+    ensures writer_unfailed { OnOk result (failures out.new ≡ failures out.old) }
     ensures failed { IfErr result (λ e. (n : ℕ) × (e ≡ ToolFault.Write n) × FailsAfter n text.now
         (change W.contents out.old out.new)) }
 {

@@ -43,7 +43,7 @@ pub(crate) fn print_strings<W: Write>(
 ) -> Result<(), ToolFault>
     ensures ok { OnOk result (Appends (W.contents (inner out.old)) (W.contents (inner out.new))
         (string_lines 1 (role_strings (layout_view layout.now).dictionary role))) }
-    ensures well { OnOk result (failures out.new ≡ failures out.old) }
+    ensures writer_unfailed { OnOk result (failures out.new ≡ failures out.old) }
     // The writer failed or memory ran out, after a prefix of the lines.
     ensures cut { IfErr result
         (λ e. IsCutShort e (string_lines 1 (role_strings (layout_view layout.now).dictionary role))

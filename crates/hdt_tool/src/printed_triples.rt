@@ -77,7 +77,7 @@ fn print_numbers<W: Write>(
     requires fits { length (remaining_matches found) < 2 ^ 64 }
     ensures ok { OnOk result (Appends (W.contents (inner out.old)) (W.contents (inner out.new))
         (numbers_lines (limited most (remaining_matches found.entry)))) }
-    ensures unfailed { OnOk result (failures out.new ≡ failures out.old) }
+    ensures writer_unfailed { OnOk result (failures out.new ≡ failures out.old) }
     ensures cut { IfErr result (λ e. IsCutShort e (numbers_lines (limited most (remaining_matches found.entry)))
         (change W.contents out.old out.new)) }
 {
@@ -146,7 +146,7 @@ pub(crate) fn print_triples<W: Write>(
 ) -> Result<(), ToolFault>
     ensures ok { OnOk result ((text : List ℕ) × PrintsFound (layout_view layout.now) (query given.now format most) text
         × Appends (W.contents (inner out.old)) (W.contents (inner out.new)) text) }
-    ensures unfailed { OnOk result (failures out.new ≡ failures out.old) }
+    ensures writer_unfailed { OnOk result (failures out.new ≡ failures out.old) }
     ensures err { IfErr result (λ e. (IsFindFault (layout_view layout.now) (query given.now format most) e
         × (out.new ≡ out.old))
         ⊎ ((text : List ℕ) × PrintsFound (layout_view layout.now) (query given.now format most) text
@@ -181,7 +181,7 @@ pub(crate) fn print_kept_triples<W: Write>(
     ensures ok { IfOk result (λ n. (text : List ℕ)
         × PrintsKept (layout_view layout.now) (query given.now NTriples most) text n
         × Appends (W.contents (inner out.old)) (W.contents (inner out.new)) text) }
-    ensures unfailed { OnOk result (failures out.new ≡ failures out.old) }
+    ensures writer_unfailed { OnOk result (failures out.new ≡ failures out.old) }
     ensures err { IfErr result (λ e. ((e ≡ ToolFault.OutOfMemory) × (out.new ≡ out.old))
         ⊎ ((text : List ℕ) × (n : ℕ) × PrintsKept (layout_view layout.now) (query given.now NTriples most) text n
         × IsCutShort e text (change W.contents out.old out.new))) }

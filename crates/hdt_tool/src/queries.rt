@@ -32,7 +32,7 @@ pub(crate) fn print_in_pieces<W: Write>(
     requires { PrintsInPieces action.now }
     ensures ok { IfOk result (λ n. (text : List ℕ) × PrintsWithCount action.now bytes.now text n
         × Appends (W.contents (inner out.old)) (W.contents (inner out.new)) text) }
-    ensures unfailed { OnOk result (failures out.new ≡ failures out.old) }
+    ensures writer_unfailed { OnOk result (failures out.new ≡ failures out.old) }
     ensures err { IfErr result (λ e. (IsFaultOfBytes action.now bytes.now e × (out.new ≡ out.old))
         ⊎ ((text : List ℕ) × Prints action.now bytes.now text
         × IsCutShort e text (change W.contents out.old out.new))) }

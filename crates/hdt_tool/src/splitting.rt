@@ -98,7 +98,7 @@ pub(crate) fn split_inputs<R: Read + Drop, W: Write>(
         → FailsOnce part (map failures outs.old) (map failures outs.new)) }
     ensures others { IfErr result (λ e. ((k part : ℕ) → e ≢ SplitInputsFault.Input k (SplitFault.Write part))
         → map failures outs.new ≡ map failures outs.old) }
-    ensures unfailed { OnOk result (map failures outs.new ≡ map failures outs.old) }
+    ensures writer_unfailed { OnOk result (map failures outs.new ≡ map failures outs.old) }
 {
     let mut first = None;
     let mut number = 0;

@@ -113,7 +113,7 @@ impl<T> Counted<T> {
         ensures ok { OnOk result (Appends (T.contents (inner self.old)) (T.contents (inner self.new)) text.now) }
         ensures part { IfErr result (λ n. (n < length text.now)
             × Appends (T.contents (inner self.old)) (T.contents (inner self.new)) (take n text.now)) }
-        ensures well { OnOk result (failures self.new ≡ failures self.old) }
+        ensures writer_unfailed { OnOk result (failures self.new ≡ failures self.old) }
         ensures failed { OnErr result (failures self.new ≡ failures self.old + 1) }
     {
         let mut at = 0;

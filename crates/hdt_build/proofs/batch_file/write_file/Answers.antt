@@ -29,8 +29,8 @@ returns-clause-written g c known graph some form =
           puts.written;
     }
 
-pub returns-clause-unfailed : goal.returns-clause-unfailed
-returns-clause-unfailed g c known =
+pub returns-clause-writer_unfailed : goal.returns-clause-writer_unfailed
+returns-clause-writer_unfailed g c known =
     let are = (rw c.in_ok-measures.ensures at c.measure.ensures) known in
     let triple : 0 < length c.args.triples.now = omega (arith, c.if-measures-eq0.false, are.triples) in
     let puts = c.in_ok-out.ensures known are triple c.args.options.now.block_size c.requires.blocks in

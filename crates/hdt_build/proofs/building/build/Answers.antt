@@ -9,8 +9,8 @@ returns-in-Ok-clause-written g c = record {
   written = rw c.as_slice.ensures.value at c.in-Ok.ensures.ok;
 }
 
-pub returns-in-Ok-clause-count : goal.returns-in-Ok-clause-count
-returns-in-Ok-clause-count g c = c.in_ok-bytes.ensures.count
+pub returns-in-Ok-clause-reader_unfailed : goal.returns-in-Ok-clause-reader_unfailed
+returns-in-Ok-clause-reader_unfailed g c = c.in_ok-bytes.ensures.reader_unfailed
 
 pub returns-in-Ok-clause-right : goal.returns-in-Ok-clause-right
 returns-in-Ok-clause-right g c = c.in_ok-bytes.ensures.right
@@ -18,14 +18,14 @@ returns-in-Ok-clause-right g c = c.in_ok-bytes.ensures.right
 pub returns-in-Ok-clause-end : goal.returns-in-Ok-clause-end
 returns-in-Ok-clause-end g c = c.in_ok-bytes.ensures.end
 
-pub returns-in-Ok-clause-well : goal.returns-in-Ok-clause-well
-returns-in-Ok-clause-well g c = c.in-Ok.ensures.well
+pub returns-in-Ok-clause-writer_unfailed : goal.returns-in-Ok-clause-writer_unfailed
+returns-in-Ok-clause-writer_unfailed g c = c.in-Ok.ensures.writer_unfailed
 
 pub returns-clause-fault : goal.returns-clause-fault
 returns-clause-fault g c = λ _ other. absurd (other c.in-Err.count refl)
 
-pub returns-clause-still : goal.returns-clause-still
-returns-clause-still g c = λ _. c.in_ok-bytes.ensures.count
+pub returns-clause-reader_reported : goal.returns-clause-reader_reported
+returns-clause-reader_reported g c = λ _. c.in_ok-bytes.ensures.reader_unfailed
 
 pub returns-clause-write : goal.returns-clause-write
 returns-clause-write g c = λ n is.
@@ -57,9 +57,9 @@ returns-in_err-bytes g c =
       unread = λ is. error.unread (cc);
       fault = λ other _. error.fault other;
       read = error.read;
-      still = error.still;
-      count = tt;
+      reader_reported = error.reader_reported;
+      reader_unfailed = tt;
       write = λ n is. absurd (rw is at (error.fault (λ bad. cc)));
-      well = tt;
+      writer_unfailed = tt;
       unwritten = λ _. refl;
     })

@@ -9,8 +9,8 @@ use Rattle.hdt_build.proofs.building.build_bytes.Goals as goal
 pub returns-then-not-are_valid_options-clause-unread : goal.returns-then-not-are_valid_options-clause-unread
 returns-then-not-are_valid_options-clause-unread g c = λ _. refl
 
-pub returns-then-not-are_valid_options-clause-still : goal.returns-then-not-are_valid_options-clause-still
-returns-then-not-are_valid_options-clause-still g c = λ _. refl
+pub returns-then-not-are_valid_options-clause-reader_reported : goal.returns-then-not-are_valid_options-clause-reader_reported
+returns-then-not-are_valid_options-clause-reader_reported g c = λ _. refl
 
 pub returns-in_err-collector : goal.returns-in_err-collector
 returns-in_err-collector g c =
@@ -26,8 +26,8 @@ returns-in_err-collector g c =
       unread = λ is. absurd (other cc);
       fault = λ _. error.fault;
       read = error.read;
-      still = error.still;
-      count = tt;
+      reader_reported = error.reader_reported;
+      reader_unfailed = tt;
     })
 
 pub returns-then-is_empty-clause-fault : goal.returns-then-is_empty-clause-fault
@@ -48,8 +48,8 @@ returns-in_err-built g c =
       unread = λ is. absurd (cc);
       fault = λ _. tt;
       read = λ no. absurd no;
-      still = λ _. c.in_ok-collector.ensures.count;
-      count = tt;
+      reader_reported = λ _. c.in_ok-collector.ensures.reader_unfailed;
+      reader_unfailed = tt;
     })
 
 pub returns-clause-found : goal.returns-clause-found

@@ -137,7 +137,7 @@ returns-in-Err-clause-fault g c =
     (c.triples_so_far.ensures.fault c.in-Err.fault most c.triples.lines _ _ _ inv.run.triples (inv.run.going going)
     (read.answers inv.failed going))
 
-pub returns-in-Err-clause-still : goal.returns-in-Err-clause-still
-returns-in-Err-clause-still g c =
-    λ no. c.in-Err.ensures.still (not_read c.in-Err.fault c.build_fault.result c.build_fault.ensures no)
+pub returns-in-Err-clause-reader_reported : goal.returns-in-Err-clause-reader_reported
+returns-in-Err-clause-reader_reported g c =
+    λ no. c.in-Err.ensures.reader_reported (not_read c.in-Err.fault c.build_fault.result c.build_fault.ensures no)
     ∙ c.triples.invariant.count

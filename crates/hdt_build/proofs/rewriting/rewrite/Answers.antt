@@ -9,8 +9,8 @@ returns-in-Ok-clause-written g c = record {
   written = rw c.as_slice.ensures.value at c.in-Ok.ensures.ok;
 }
 
-pub returns-in-Ok-clause-well : goal.returns-in-Ok-clause-well
-returns-in-Ok-clause-well g c = c.in-Ok.ensures.well
+pub returns-in-Ok-clause-writer_unfailed : goal.returns-in-Ok-clause-writer_unfailed
+returns-in-Ok-clause-writer_unfailed g c = c.in-Ok.ensures.writer_unfailed
 
 pub returns-clause-write : goal.returns-clause-write
 returns-clause-write g c = λ n is.
@@ -38,6 +38,6 @@ returns-in_err-bytes g c =
       written = tt;
       bad = (λ is. fault.bad.0 (cc), λ bad. let is = fault.bad.1 bad in cc);
       write = λ n is. absurd (fault.unwritten n is);
-      well = tt;
+      writer_unfailed = tt;
       unwritten = λ _. refl;
     })

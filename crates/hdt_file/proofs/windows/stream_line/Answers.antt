@@ -16,7 +16,7 @@ pub returns-clause-ok : goal.returns-clause-ok
 returns-clause-ok g c =
     line_put (layout_view c.args.layout.now) c.args.triple c.args.pending.now c.append_window_line.new.out.items
     c.flush_if_long.new.self _ _ _ _ c.flush_if_long.result c.in_ok-append_window_line.ensures.ok
-    c.flush_if_long.ensures.ok c.flush_if_long.ensures.well
+    c.flush_if_long.ensures.ok c.flush_if_long.ensures.writer_unfailed
 
 pub returns-clause-err : goal.returns-clause-err
 returns-clause-err g c =

@@ -120,7 +120,7 @@ lines-preserved g c =
       keep = done.others.0 ∙ lint.keep ∙ c.lines.invariant.keep;
       kept = done.well.0 ∙ c.lines.invariant.kept;
       reported = done.well.1 ∙ c.lines.invariant.reported;
-      input = c.in-Ok.ensures.count ∙ c.lines.invariant.input;
+      input = c.in-Ok.ensures.reader_unfailed ∙ c.lines.invariant.input;
       kept_count = done.kept_count _ c.lines.invariant.kept_count;
       reported_count = done.reported_count _ c.lines.invariant.reported_count;
     }

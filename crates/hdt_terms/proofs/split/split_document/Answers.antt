@@ -148,7 +148,7 @@ lines-preserved g c =
       outs = wrote.lens.0 ∙ c.lines.invariant.outs;
       pending = rw whole (wrote.lens.1 ∙ len ∙ c.lines.invariant.pending);
       well = wrote.well ∙ c.lines.invariant.well;
-      input = c.in-Ok.ensures.count ∙ c.lines.invariant.input;
+      input = c.in-Ok.ensures.reader_unfailed ∙ c.lines.invariant.input;
     }
 
 pub returns-in_err-write_part-clause-stopped : goal.returns-in_err-write_part-clause-stopped

@@ -20,9 +20,9 @@ returns-in-Ok-clause-whole g c =
     λ least. set_same (λ text. text.items) c.args.pending.now c.args.at c.write_if_long.new.text []
     (omega (arith, c.requires.within.0, c.requires.len)) ∙ c.in-Ok.ensures.whole least
 
-pub returns-in-Ok-clause-well : goal.returns-in-Ok-clause-well
-returns-in-Ok-clause-well g c =
-    map-set_same failures c.args.outs.now c.args.at c.write_if_long.new.out c.index-outs-at.result c.in-Ok.ensures.well
+pub returns-in-Ok-clause-writer_unfailed : goal.returns-in-Ok-clause-writer_unfailed
+returns-in-Ok-clause-writer_unfailed g c =
+    map-set_same failures c.args.outs.now c.args.at c.write_if_long.new.out c.index-outs-at.result c.in-Ok.ensures.writer_unfailed
 
 pub returns-in-Err-clause-others : goal.returns-in-Err-clause-others
 returns-in-Err-clause-others g c =

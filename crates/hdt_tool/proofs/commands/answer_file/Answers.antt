@@ -43,7 +43,7 @@ returns-clause-write g c =
     })
     c.answer_requests.ensures.stopped
 
-pub returns-clause-readers_unfailed : goal.returns-clause-readers_unfailed
-returns-clause-readers_unfailed g c =
-    on_ok_weaker c.answer_requests.result (λ input. (c.in_ok-bytes.ensures.unfailed, input))
+pub returns-clause-reader_unfailed : goal.returns-clause-reader_unfailed
+returns-clause-reader_unfailed g c =
+    on_ok_weaker c.answer_requests.result (λ input. (c.in_ok-bytes.ensures.reader_unfailed, input))
     c.answer_requests.ensures.reader_unfailed

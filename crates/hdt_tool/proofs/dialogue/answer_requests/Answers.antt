@@ -84,7 +84,7 @@ returns-in-Err-clause-stopped g c =
     rw c.line_fault.ensures (unread_line _ _ c.lines.lines _ _ _ inv.0 c.lines.report inv.1 c.in-Err.fault inv.2
     inv.3
     (gained_all _ _ _ inv.1 c.lines.pending.bytes.items _ inv.4 c.in_ok-flush-in-Err.ensures.ok)
-    (c.in_ok-flush-in-Err.ensures.well ∙ inv.6)
+    (c.in_ok-flush-in-Err.ensures.writer_unfailed ∙ inv.6)
     (c.in-Err.ensures.fault _ inv.0 inv.2))
 
 pub returns-in_err-accept-in-Ok-clause-stopped : goal.returns-in_err-accept-in-Ok-clause-stopped
@@ -120,8 +120,8 @@ lines-preserved g c =
       gained_on _ _ _ (inv.1 ++ answer) _ _ _ _
           (gained_answer _ _ inv.1 c.lines.pending.bytes.items answer _ _ inv.4 this.3) c.in_ok-accept-in-Ok.ensures.ok,
       c.in_ok-accept-in-Ok.ensures.fits,
-      c.in_ok-accept-in-Ok.ensures.well ∙ inv.6,
-      c.in-Ok-true.ensures.count ∙ inv.7,
+      c.in_ok-accept-in-Ok.ensures.writer_unfailed ∙ inv.6,
+      c.in-Ok-true.ensures.reader_unfailed ∙ inv.7,
       c.in-Ok-true.ensures.well,
       c.in-Ok.ensures.cached,
       pending_or_held _ c.has_buffered_line.result c.in_ok-accept-in-Ok.ensures.none c.has_buffered_line.ensures.yes,
@@ -146,7 +146,7 @@ returns-in-Err-add_answer-clause-stopped g c =
     refused_behind _ _ _ _ inv.0 c.lines.report inv.1 _ (gone_some _ _ _ _ inv.2) inv.3
     (gained_all _ _ _ inv.1 c.lines.pending.bytes.items _ inv.4
     (rw c.in-Err-add_answer.ensures.unchanged at c.in_ok-flush-in-Err-add_answer.ensures.ok))
-    (c.in_ok-flush-in-Err-add_answer.ensures.well ∙ inv.6) refl
+    (c.in_ok-flush-in-Err-add_answer.ensures.writer_unfailed ∙ inv.6) refl
 
 pub returns-in-Err-clause-read : goal.returns-in-Err-clause-read
 returns-in-Err-clause-read g c =
@@ -155,11 +155,11 @@ returns-in-Err-clause-read g c =
 
 pub returns-in-Err-clause-reader_reported : goal.returns-in-Err-clause-reader_reported
 returns-in-Err-clause-reader_reported g c =
-    λ other. c.in-Err.ensures.still
+    λ other. c.in-Err.ensures.reader_reported
     (λ is. other (c.line_fault.ensures ∙ ap (fault_of_reason c.in-Err.fault) is)) ∙ c.lines.invariant.7
 
 pub returns-in_err-accept-in-Ok-clause-reader_reported : goal.returns-in_err-accept-in-Ok-clause-reader_reported
 returns-in_err-accept-in-Ok-clause-reader_reported g c =
     let p = err_from_is_err_and c.from_residual-in_err-accept-in-Ok.result
     c.from_residual-in_err-accept-in-Ok.ensures.1 in
-    rw (p.1, p.2) (λ other. c.in-Ok-true.ensures.count ∙ c.lines.invariant.7)
+    rw (p.1, p.2) (λ other. c.in-Ok-true.ensures.reader_unfailed ∙ c.lines.invariant.7)

@@ -56,7 +56,7 @@ strings-preserved g c =
           (contents (inner c.accept.new.out)) lines part (left ++ rest) n moved c.strings.invariant.gained h.3);
       rest = subst (λ (k : ℕ). drop k lines ≡ left ++ rest) (sym h.1) (less_kept lines part (left ++ rest) n moved);
       fits = c.in_ok-accept.ensures.fits;
-      well = c.in_ok-accept.ensures.well ∙ c.strings.invariant.well;
+      well = c.in_ok-accept.ensures.writer_unfailed ∙ c.strings.invariant.well;
     }
 
 pub returns-clause-cut : goal.returns-clause-cut

@@ -41,7 +41,7 @@ triples-preserved g c =
           (contents (inner c.accept.new.out)) lines part (left ++ rest) n moved l.invariant.gained h.3);
       rest = subst (λ (m : ℕ). drop m lines ≡ left ++ rest) (sym h.1) (less_kept lines part (left ++ rest) n moved);
       fits = c.in_ok-accept.ensures.fits;
-      well = c.in_ok-accept.ensures.well ∙ l.invariant.well;
+      well = c.in_ok-accept.ensures.writer_unfailed ∙ l.invariant.well;
     }
 
 pub returns-in_err-accept-clause-cut : goal.returns-in_err-accept-clause-cut

@@ -64,13 +64,13 @@ returns-in-Err-clause-write g c = λ k part same.
 
 pub returns-in-Err-clause-others : goal.returns-in-Err-clause-others
 returns-in-Err-clause-others g c = λ other.
-    c.in-Err.ensures.unfailed (λ part same. other c.inputs.number part (ap (Input c.inputs.number) same))
+    c.in-Err.ensures.writer_reported (λ part same. other c.inputs.number part (ap (Input c.inputs.number) same))
     ∙ c.inputs.invariant.4
 
 pub returns-in_err-first-clause-others : goal.returns-in_err-first-clause-others
 returns-in_err-first-clause-others g c =
     let p = err_from_is_err_and c.from_residual-in_err-first.result c.from_residual-in_err-first.ensures.1 in
-    rw (p.1, p.2) (λ other. c.in-Ok.ensures.writers_well ∙ c.inputs.invariant.4)
+    rw (p.1, p.2) (λ other. c.in-Ok.ensures.writer_unfailed ∙ c.inputs.invariant.4)
 
 pub returns-in_err-first-clause-write : goal.returns-in_err-first-clause-write
 returns-in_err-first-clause-write g c =
