@@ -234,7 +234,7 @@ few_triples : (bytes : List ℕ) (g : GraphParts) → IsLayout bytes g → lengt
 few_triples bytes g h =
     let f = bitmap_triples h.file.triples in
     let same : triples_of f ≡ g.triples = ap (λ (k : GraphParts). k.triples) h.of in
-    let many = h.is.triples.array_z.spelled.spelled.counted in
+    let many = h.is.triples.array_z.spelled.spelled.2.counted in
     omega (arith, many, length-triples f, ap (λ (ts : List Triple). length ts) same)
 
 -- a canonical file has the triples of the graph, each once

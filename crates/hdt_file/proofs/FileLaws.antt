@@ -108,7 +108,7 @@ file_graph bytes file h =
       shared_subjects = d.shared_subjects;
       shared_objects = d.shared_objects;
       subjects_objects = d.subjects_objects;
-      some = omega (arith, length-triples f, t.valid.marked.triples, t.bitmap_z.spelled.spelled.some);
+      some = omega (arith, length-triples f, t.valid.marked.triples, t.bitmap_z.spelled.spelled.0);
       range = triples_in_range (dictionary_counts file.dictionary) f t.valid;
       ascend = triples_ascend (dictionary_counts file.dictionary) f t.valid;
     }
