@@ -122,7 +122,7 @@ file_graph bytes file h =
         arith,
         length-triples f,
         t.valid.marked.triples,
-        t.bitmap_z.spelled.spelled.some,
+        t.bitmap_z.spelled.spelled.0,
         ap (λ (ts : List Triple). length ts) same,
       );
       range = subst (AreInRange counts) same (triples_in_range counts f t.valid);

@@ -49,16 +49,19 @@ prefix_check p i rest =
 abbrev pub precedes : List ℕ → List ℕ → Bool
 precedes x y = is_lt (string_cmp x y)
 
--- The checks of string i, in order: the string, and the bytes after its entry.
+-- The checks of string i, in order: the string, which is a prefix of the previous one and the suffix, and the bytes
+-- after its entry.
 unfoldable pub string_check : BlockLayout → ℕ → List ℕ → List ℕ → Result (List ℕ × List ℕ) Fault
 string_check p i before rest = do
   front ← prefix_check p i rest
-  _ ← demand (nat_le front.0 (length before)) (rest_offset p rest) PrefixTooLong
-  _ ← demand (nat_lt (len_before_zero front.1) (length front.1)) (rest_offset p front.1) PackedLength
-  _ ← demand (is_utf8 (take front.0 before ++ take (len_before_zero front.1) front.1)) (rest_offset p rest) NotUtf8
-  _ ← demand (i == 0 || precedes before (take front.0 before ++ take (len_before_zero front.1) front.1))
-      (rest_offset p rest) StringsNotAscending
-  Ok (take front.0 before ++ take (len_before_zero front.1) front.1, drop (len_before_zero front.1 + 1) front.1)
+  let len = len_before_zero front.1 in
+      let string = take front.0 before ++ take len front.1 in
+      do
+        _ ← demand (nat_le front.0 (length before)) (rest_offset p rest) PrefixTooLong
+        _ ← demand (nat_lt len (length front.1)) (rest_offset p front.1) PackedLength
+        _ ← demand (is_utf8 string) (rest_offset p rest) NotUtf8
+        _ ← demand (i == 0 || precedes before string) (rest_offset p rest) StringsNotAscending
+        Ok (string, drop (len + 1) front.1)
 
 -- The checks of n strings, the first of which has index i and follows the string `before`; then those of the end: no
 -- bytes are left, and the last block offset is the end.

@@ -48,8 +48,7 @@ impl<'a> Section<'a> {
     ghost use Rattle.hdt_wire.specs.Checks.{ReadsUnlessOom};
     ghost use Rattle.hdt_front.specs.EntryFacts.{bytes_from_entry};
     ghost use Rattle.hdt_front.specs.Faults.{read_fault_of};
-    ghost use Rattle.hdt_front.specs.Section.{AreSectionStrings, IsSectionAt, SectionParts, packed_parts_at};
-    ghost use Rattle.hdt_front.specs.Section.{section_at, string_offset};
+    ghost use Rattle.hdt_front.specs.Section.{AreSectionStrings, packed_parts_at, section_at, string_offset};
     ghost use Rattle.hdt_front.specs.Strings.{strings_of, section_of, blocks_of, block_size, block_start};
     ghost use Rattle.hdt_front.specs.Strings.{packed_block};
 
@@ -60,24 +59,8 @@ impl<'a> Section<'a> {
         are_bytes(self.packed.bytes);
     }
 
-    /// Reads a section: all checks in order.
-    #[tactic(auto, unfolding(crate::specs::Section::section_at, crate::specs::Inside::ReadViews::packed_parts_view, crate::specs::Strings::section_of, crate::specs::Strings::strings_of))]
-    fn read_by_checks(
-        alloc: Global,
-        bytes: &'a [u8],
-        at: usize,
-    ) -> Result<(Section<'a>, usize), ReadFault>
-        ensures exact { ReadsUnlessOom read_fault_of (λ r. section_of r.0) result (section_at bytes.now at) }
-        ensures without_memory { (f : FaultIs) → packed_parts_at bytes.now at ≡ Err f → result ≡ Err (FaultOf f) }
-        ensures next { IfOk result (λ r. r.1 ≡ (section_of r.0).end) }
-        ensures end { IfOk result (λ r. (at + length r.0.packed.bytes.now < r.1) × (r.1 ≤ length bytes.now)) }
-    {
-        let (packed, end) = read_packed(bytes, at)?;
-        packed.check(alloc)?;
-        Ok((Section { packed, end }, end))
-    }
-
-    /// Reads the section at a byte offset, from 0. Returns it with the offset after it; more bytes may follow.
+    /// Reads the section at a byte offset, from 0. Returns it with the offset after it; more bytes may follow. By
+    /// [`sections_are_exact`](crate::sections_are_exact) this is what is encoded there, if anything is.
     ///
     /// Takes linear time: it decodes each string once, over the previous one. It holds one decoded string at a time and
     /// none when it returns, and allocates nothing before the CRC of the strings has been checked.
@@ -89,16 +72,12 @@ impl<'a> Section<'a> {
     /// string `BlockPlace`, errors of its prefix length, `PrefixTooLong`, `PackedLength`, `NotUtf8`,
     /// `StringsNotAscending`; at the end `PackedLength`, `BlockPlace`. `Truncated` can occur at each read. Or
     /// [`ReadFault::OutOfMemory`].
+    #[tactic(auto, unfolding(crate::specs::Section::section_at, crate::specs::Inside::ReadViews::packed_parts_view, crate::specs::Strings::section_of, crate::specs::Strings::strings_of))]
     pub fn read(
         alloc: Global,
         bytes: &'a [u8],
         at: usize,
     ) -> Result<(Section<'a>, usize), ReadFault>
-        // A returned section is encoded at the offset.
-        ensures found { IfOk result (λ r. IsSectionAt (section_of r.0) bytes.now at) }
-        // A section encoded at the offset is returned, unless memory runs out.
-        ensures only { (s : SectionParts) → IsSectionAt s bytes.now at
-            → ReadsUnlessOom read_fault_of (λ r. section_of r.0) result (Ok s) }
         // The result is that of the checks in order: the section, or the first error.
         ensures exact { ReadsUnlessOom read_fault_of (λ r. section_of r.0) result (section_at bytes.now at) }
         // Errors up to the CRC of the strings are found without allocating.
@@ -107,7 +86,9 @@ impl<'a> Section<'a> {
         // Each string takes at least one byte.
         ensures end { IfOk result (λ r. (at + length (strings_of r.0) < r.1) × (r.1 ≤ length bytes.now)) }
     {
-        Section::read_by_checks(alloc, bytes, at)
+        let (packed, end) = read_packed(bytes, at)?;
+        packed.check(alloc)?;
+        Ok((Section { packed, end }, end))
     }
 
     /// Returns the number of strings, which is at most the number of their front-coded bytes.

@@ -1,7 +1,6 @@
 //! Iteration over the strings of a section, in order.
 ghost use Rattle.std.specs.Prelude.{◌≡◌, ◌≤◌, ◌<◌, ◌+◌, ◌-◌, ◌==◌, length, [], Ok, IsOk, OnOk, OnErr};
 ghost use Rattle.std.specs.Prelude.{IfOk};
-ghost use Rattle.hdt_front.specs.Decoding.{stored_prefix_len};
 ghost use Rattle.hdt_front.specs.SectionIteration.{located_strings};
 ghost use Rattle.hdt_front.specs.Iteration.{step_iter, next_offset, first_lcp};
 

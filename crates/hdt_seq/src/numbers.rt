@@ -1,5 +1,5 @@
 //! Log sequences: entries of 0 to 64 bits each, packed.
-ghost use Rattle.std.specs.Prelude.{◌≡◌, ◌+◌, ◌*◌, ◌^◌, ◌<◌, ◌≤◌, ℕ, length};
+ghost use Rattle.std.specs.Prelude.{◌≡◌, ◌+◌, ◌*◌, ◌^◌, ◌<◌, ◌≤◌, length};
 
 use crate::bit_access::read_entry;
 use crate::checks::{byte_at, crc8_at, packed_at};
