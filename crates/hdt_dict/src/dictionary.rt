@@ -200,7 +200,7 @@ impl<'a> Dictionary<'a> {
         // It is n exactly if n is the ID of the string.
         ensures exact { (n : ℕ) → (result ≡ Some n)
             ↔ (string_at_id (role_strings (lists_of_dictionary (dictionary_of self.now)) role) n ≡ Some x.now) }
-        ensures place { result ≡ id_of (role_strings (lists_of_dictionary (dictionary_of self.now)) role) x.now }
+        ensures is { result ≡ id_of (role_strings (lists_of_dictionary (dictionary_of self.now)) role) x.now }
         ensures cost { steps.new ≤ steps.old + role_search_cost (dictionary_of self.now) role }
         ensures more { steps.old ≤ steps.new }
     {

@@ -55,7 +55,7 @@ impl<'d, 'a> RoleSections<'d, 'a> {
     /// The ID of a string that is searched for in the second section.
     #[tactic(auto, unfolding(hdt_front::specs::StringIds::id_of))]
     fn find_in_second(&self, x: &[u8], steps: &mut Steps) -> Option<u64>
-        ensures place { result ≡ option_map (λ n. length (strings_of self.now.first.now) + n)
+        ensures is { result ≡ option_map (λ n. length (strings_of self.now.first.now) + n)
             (id_of (second_strings (option_copied self.now.second)) x.now) }
         ensures cost { steps.new ≤ steps.old + second_search_cost (option_copied self.now.second) }
         ensures more { steps.old ≤ steps.new }
@@ -71,7 +71,7 @@ impl<'d, 'a> RoleSections<'d, 'a> {
 
     /// The ID of a string. The section with more strings is searched first.
     pub(crate) fn find(&self, x: &[u8], steps: &mut Steps) -> Option<u64>
-        ensures place { result ≡ id_of (strings_of self.now.first.now
+        ensures is { result ≡ id_of (strings_of self.now.first.now
             ++ second_strings (option_copied self.now.second)) x.now }
         ensures cost { steps.new ≤ steps.old + (section_search_cost (section_of self.now.first.now) + second_search_cost
             (option_copied self.now.second)) }

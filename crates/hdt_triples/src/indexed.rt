@@ -38,8 +38,8 @@ impl<'a> Triples<'a> {
     /// Builds the indexes in one pass: 8 bytes for each group of 512 bits, and 16 more. Without memory: `Err(self)`.
     #[tactic(auto, unfolding(crate::specs::Views::triples_view))]
     pub fn with_directories(self, alloc: Global) -> Result<IndexedTriples<'a>, Triples<'a>>
-        ensures indexed { IfOk result (λ t. triples_indexed t ≡ self.entry) }
-        ensures back { IfErr result (λ t. t ≡ self.entry) }
+        ensures ok { IfOk result (λ t. triples_indexed t ≡ self.entry) }
+        ensures err { IfErr result (λ t. t ≡ self.entry) }
     {
         let Ok(y) = Directory::new(alloc, &self.bitmap_y) else {
             return Err(self);
@@ -349,8 +349,8 @@ impl<'a> IndexedTriples<'a> {
     /// Linear time in the triples and the strings. On allocation failure the error is `self`.
     #[tactic(auto, using(crate::proofs::InvertedIndexLaws::keys_of), unfolding(crate::specs::Views::triples_view))]
     pub fn with_lists(self, alloc: Global) -> Result<ListedTriples<'a>, IndexedTriples<'a>>
-        ensures listed { IfOk result (λ t. triples_listed t ≡ triples_indexed self.entry) }
-        ensures back { IfErr result (λ t. t ≡ self.entry) }
+        ensures ok { IfOk result (λ t. triples_listed t ≡ triples_indexed self.entry) }
+        ensures err { IfErr result (λ t. t ≡ self.entry) }
     {
         let triples = self.triples;
         let Ok((pair_starts, pairs)) = build_inverted_index(

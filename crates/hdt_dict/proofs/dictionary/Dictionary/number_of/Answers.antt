@@ -10,4 +10,4 @@ returns-clause-exact c = λ n.
     let s = c.sections_of.result in
     rw (← c.sections_of.ensures.strings)
     (inverse (strings_of s.first.now ++ second_strings (option_copied s.second)) c.args.x.now c.find.result n
-    (distinct_role s) c.find.ensures.place)
+    (distinct_role s) c.find.ensures.is)
