@@ -11,6 +11,7 @@ import pytest
 from hypothesis import HealthCheck, settings
 
 from support import built
+from support.build_memory import Documents
 from support.documents import LONG_LINE
 from support.large import Files
 from support.probe import Probe
@@ -67,6 +68,12 @@ def large_files(tmp_path_factory: pytest.TempPathFactory) -> Files:
     """The large files of all tests, which the processes of one run share."""
     base = tmp_path_factory.getbasetemp()
     return Files((base.parent if "PYTEST_XDIST_WORKER" in os.environ else base) / "large")
+
+
+@pytest.fixture(scope="session")
+def batches(large_files: Files) -> Documents:
+    """Documents of many batches, of a build with little memory."""
+    return Documents(large_files)
 
 
 @pytest.fixture

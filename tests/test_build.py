@@ -19,10 +19,10 @@ from support.documents import (
     GRAPHS, THREE, Strings, canonical_file, check_build, counts, difference, document, line, printed,
     same_lines, shuffled,
 )
-from support.probe import Answer, Argument, Probe, ok
+from support.probe import Answer, Argument, Probe, fault, ok
 from support.program import READING_FAILED, WRITING_FAILED, Result, Word, hdt, run
 from support.terms import (
-    IRIS, STEPS, TEXTS, Case, Request, answered, documents, document_texts, error_answer, fault, shortened,
+    IRIS, STEPS, TEXTS, Case, Request, answered, documents, document_texts, error_answer, shortened,
 )
 from support.timing import is_linear, measure, timed
 

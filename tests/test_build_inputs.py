@@ -14,6 +14,7 @@ from hypothesis import strategies as st
 from reference import ntriples
 from support.built import PROGRAM
 from support.documents import DEFAULT_BASE, Strings, canonical_file, document, printed
+from support.files import write
 from support.program import BAD_OPTIONS, NO_TRIPLES, Result, Word, failed, hdt, run
 from support.refusing import Refuser
 
@@ -34,14 +35,6 @@ def strings_of(data: bytes, prefix: bytes = b"") -> list[Strings]:
     lines = [ntriples.parse_line(line) for line in data.replace(b"\r", b"\n").split(b"\n")]
     triples = [[ntriples.term_string(term) for term in triple] for triple in lines if triple is not None]
     return [(named(s), p, named(o)) for s, p, o in triples]
-
-
-def write(folder: Path, documents: Sequence[bytes]) -> list[Path]:
-    """The documents in files of a folder."""
-    paths = [folder / f"{number}.nt" for number in range(len(documents))]
-    for path, data in zip(paths, documents):
-        path.write_bytes(data)
-    return paths
 
 
 def check(folder: Path, documents: Sequence[bytes], *options: Word, apart: bool = False, base: bytes = DEFAULT_BASE,

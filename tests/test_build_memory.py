@@ -23,20 +23,14 @@ from hypothesis import strategies as st
 from support.build_memory import LEAST, LINES_OF, MIB, SECONDS, Built, Documents, build, check_same
 from support.built import PROGRAM, SAMPLES
 from support.documents import LONG_LINE
-from support.files import THREE, names
+from support.files import THREE, names, write
 from support.large import LARGE, Files
 from support.measuring import Meter
 from support.program import BAD_OPTIONS, NO_TRIPLES, OUT_OF_MEMORY, Result, Word, hdt, run
 from support.properties import examples
-from test_build_inputs import HELP, LINES, NODES, documents_of, write
+from test_build_inputs import HELP, LINES, NODES, documents_of
 
 FAULTY = [b"x", b"<a> <u:p> <u:b> .", b"<u:a> <u:p> \"\xff\" .", b"<u:a> <u:p> <u:b>", b"<u:\\u0020> <u:p> <u:b> ."]
-
-
-@pytest.fixture(scope="session")
-def batches(large_files: Files) -> Documents:
-    """Documents of many batches."""
-    return Documents(large_files)
 
 
 # ---- documents

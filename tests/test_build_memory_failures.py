@@ -23,19 +23,13 @@ import pytest
 from support.build_memory import Documents, Running, build, halves
 from support.built import PROGRAM
 from support.documents import canonical_file
-from support.files import THREE, UNFINISHED, names
+from support.files import THREE, UNFINISHED, names, write
 from support.large import Files
 from support.program import OUT_OF_MEMORY, WRITING_FAILED, Result, Word, hdt, run
 from support.system_calls import Caller
-from test_build_inputs import LINES, NODES, write
+from test_build_inputs import LINES, NODES
 
 DAMAGED = Result(3, b"", b"hdt: scratch file damaged\n")
-
-
-@pytest.fixture(scope="session")
-def batches(large_files: Files) -> Documents:
-    """Documents of many batches."""
-    return Documents(large_files)
 
 
 # ---- scratch files, and programs that are ended midway

@@ -15,15 +15,8 @@ import pytest
 from support.build_memory import SECONDS, Built, Documents, build
 from support.built import PROGRAM
 from support.files import THREE, as_root, mounts, names, shell
-from support.large import Files
 from support.program import WRITING_FAILED, Result, Word, hdt, run
 from test_build_inputs import HELP
-
-
-@pytest.fixture(scope="session")
-def batches(large_files: Files) -> Documents:
-    """Documents of many batches."""
-    return Documents(large_files)
 
 
 @pytest.fixture(scope="module")

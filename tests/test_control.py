@@ -8,8 +8,8 @@ from hypothesis import strategies as st
 
 from reference import checks, hdt
 from reference.hdt import DICTIONARY, GLOBAL, HEADER, TRIPLES, Control, Reason
-from support.answers import REFUSED, answered, fault
-from support.probe import Answer, Argument, Probe, ok
+from support.answers import REFUSED, answered
+from support.probe import Answer, Argument, Probe, fault, ok
 from support.strategies import AROUND, changed
 
 KINDS = st.sampled_from([GLOBAL, HEADER, DICTIONARY, TRIPLES])

@@ -11,8 +11,8 @@ from hypothesis import strategies as st
 from reference import checks, hdt
 from reference.hdt import MAX, Dictionary, Reason, Style, write_dictionary, write_section
 from support import prefixes
-from support.answers import REFUSED, answered, fault
-from support.probe import Answer, Argument, Probe, Request, ok
+from support.answers import REFUSED, answered
+from support.probe import Answer, Argument, Probe, Request, fault, ok
 from support.strategies import AROUND, BLOCK_SIZES, PADDING, STRING, changed
 
 Lists = tuple[list[bytes], list[bytes], list[bytes], list[bytes]]

@@ -28,7 +28,7 @@ WORDS = "verify", "verify_tight", "open", "open_tight", "layout"
 
 def error(reason: str, offset: int) -> Answer:
     """The answer with this error."""
-    return fault(Reason[reason], reason, offset)
+    return fault(Reason[reason], offset)
 
 
 def held(file: model.File) -> int:
@@ -119,10 +119,10 @@ def test_body_cut_off(probe: Probe, size: int) -> None:
 
 
 @pytest.mark.parametrize("properties, expected", [
-    pytest.param(b"length=18446744073709551615;", fault(1, "Truncated", 85), id="2^64-1"),
-    pytest.param(b"length=9223372036854775808;", fault(1, "Truncated", 84), id="2^63"),
-    pytest.param(b"length=18446744073709551616;", fault(8, "HeaderLength", 54), id="2^64"),
-    pytest.param(b"length=99999999999999999999999;", fault(8, "HeaderLength", 54), id="23-digits")])
+    pytest.param(b"length=18446744073709551615;", fault(Reason.Truncated, 85), id="2^64-1"),
+    pytest.param(b"length=9223372036854775808;", fault(Reason.Truncated, 84), id="2^63"),
+    pytest.param(b"length=18446744073709551616;", fault(Reason.HeaderLength, 54), id="2^64"),
+    pytest.param(b"length=99999999999999999999999;", fault(Reason.HeaderLength, 54), id="23-digits")])
 def test_length_of_the_body(probe: Probe, properties: bytes, expected: Answer) -> None:
     """Any length of 64 bits is a length; the body is then cut off."""
     data = V1[:40] + model.write_control(model.HEADER, properties) + V1[68:]

@@ -5,8 +5,6 @@ from __future__ import annotations
 import gzip
 import os
 import shutil
-import sys
-from collections.abc import Mapping
 from pathlib import Path
 from typing import Any
 
@@ -14,17 +12,11 @@ import pytest
 
 from support import program
 from support.built import PROGRAM, SAMPLES
-from support.formats import BASE, GRAPH, LINES, TURTLE, XML, needs, strings_of
-from support.program import Result, Word, run
+from support.formats import BASE, GRAPH, LINES, TURTLE, XML, command, needs, strings_of
+from support.program import Word
 from support.python_package import ENVIRONMENT, hdt
 
 NOT_RDF = "<u:a> <u:p>\n"
-
-
-def command(folder: Path, *words: Word, stdin: bytes = b"", env: Mapping[str, str] = {}) -> Result:
-    """Run the command in a folder."""
-    return run([sys.executable, "-W", "error", "-m", "hdt", *words], stdin=stdin, cwd=folder,
-               env={**ENVIRONMENT, **env})
 
 
 @pytest.fixture

@@ -8,7 +8,6 @@ from __future__ import annotations
 import os
 import random
 import re
-from collections.abc import Sequence
 from pathlib import Path
 
 import pytest
@@ -18,7 +17,7 @@ from hypothesis import strategies as st
 from support.build_memory import LINES_OF, MIB, SECONDS, Built, build, check_same, halves
 from support.built import PROGRAM
 from support.documents import Strings, canonical_file
-from support.files import mounts, names, shell
+from support.files import mounts, names, shell, write
 from support.large import LARGE, Files
 from support.measuring import Meter
 from support.program import BAD_OPTIONS, OUT_OF_MEMORY, WRITING_FAILED, Result, Word, hdt, run
@@ -35,18 +34,10 @@ def merge(folder: Path, *words: Word, stdin: bytes = b"") -> Built:
     return check_same(folder, *words, stdin=stdin, command="merge")
 
 
-def write(folder: Path, files: Sequence[bytes]) -> list[Path]:
-    """Files in a folder."""
-    paths = [folder / f"{number}.hdt" for number in range(len(files))]
-    for path, data in zip(paths, files):
-        path.write_bytes(data)
-    return paths
-
-
 @pytest.fixture
 def two(tmp_path: Path) -> list[Path]:
     """Two files with a blank node of one label."""
-    return write(tmp_path, [canonical_file([NODE, (b"u:%d" % it, b"u:p", b"u:o")]) for it in range(2)])
+    return write(tmp_path, [canonical_file([NODE, (b"u:%d" % it, b"u:p", b"u:o")]) for it in range(2)], ".hdt")
 
 
 # ---- files
@@ -61,7 +52,7 @@ def test_any_files(tmp_path_factory: pytest.TempPathFactory, parts: list[list[St
     folder = tmp_path_factory.mktemp("any")
     files = [loose(part, draw) if draw.random() < 0.4 else canonical_file(part, b"u:some", draw.choice([1, 2, 16]))
              for part in parts]
-    paths = write(folder, [*files, draw.choice(files)])
+    paths = write(folder, [*files, draw.choice(files)], ".hdt")
     options = ["--block-size", str(size), "--base", base, *(["--blank-nodes", nodes] if nodes else [])]
     assert merge(folder, *options, *paths).result.status == 0
     assert merge(folder, *options, *paths[1:], "-", stdin=files[0]).result.status == 0
@@ -77,7 +68,7 @@ def many(count: int, start: int = 0) -> bytes:
 def test_more_than_100_000_triples(nodes: str, tmp_path: Path) -> None:
     """A file of many batches, among small ones, of which one has the same triples."""
     large = many(120_000)
-    paths = write(tmp_path, [canonical_file([NODE]), large, many(10), canonical_file([NODE])])
+    paths = write(tmp_path, [canonical_file([NODE]), large, many(10), canonical_file([NODE])], ".hdt")
     assert merge(tmp_path, "--blank-nodes", nodes, *paths).result.status == 0
 
 
@@ -106,13 +97,13 @@ def test_long_strings(tmp_path: Path) -> None:
     long = b"x" * MIB
     files = [[(b"u:%s%d" % (long, it), b"u:p", b'"%s%d"' % (long[it:], part)) for it in range(3)] for part in range(2)]
     files.append([(b"u:a", b"u:p", b'"%s"' % (b"y" * (9 * MIB)))])
-    assert merge(tmp_path, *write(tmp_path, [canonical_file(it) for it in files])).result.status == 0
+    assert merge(tmp_path, *write(tmp_path, [canonical_file(it) for it in files], ".hdt")).result.status == 0
 
 
 def test_long_prefixes(tmp_path: Path) -> None:
     """A small file whose strings have 36 MB, with a prefix in common."""
     triples = [(b"u:%s%06d" % (b"x" * 6_000, it), b"u:p", b"u:o") for it in range(6_000)]
-    paths = write(tmp_path, [canonical_file(triples, block_size=65_535), canonical_file([NODE])])
+    paths = write(tmp_path, [canonical_file(triples, block_size=65_535), canonical_file([NODE])], ".hdt")
     assert paths[0].stat().st_size < 100_000
     assert merge(tmp_path, *paths).result.status == 0
 
@@ -233,7 +224,7 @@ def test_files_that_cannot_be_read(name: str, place: int, two: list[Path], tmp_p
 
 def test_an_invalid_file_after_many_batches(two: list[Path], tmp_path: Path) -> None:
     """So it is if it comes after a file of many batches."""
-    paths = write(tmp_path, [many(120_000), two[0].read_bytes()[:-1]])
+    paths = write(tmp_path, [many(120_000), two[0].read_bytes()[:-1]], ".hdt")
     made = merge(tmp_path, *paths)
     assert (made.result.status, made.file) == (1, b"before")
 
@@ -254,7 +245,7 @@ def test_outputs_that_cannot_be_written(two: list[Path]) -> None:
 def test_a_full_file_system(tmp_path: Path) -> None:
     """On a full file system writing fails, of scratch files or of OUT, which stays what it was; or all has room."""
     namespace = mounts()
-    paths = write(tmp_path, [many(120_000), many(120_000, 60_000)])
+    paths = write(tmp_path, [many(120_000), many(120_000, 60_000)], ".hdt")
     (tmp_path / "disk").mkdir()
     script = ('mount -t tmpfs -o size="$1" tmpfs disk && printf before > disk/out.hdt || exit; '
               '"$0" merge --memory 4M "$2" "$3" disk/out.hdt 2>&1; echo $?; ls disk; head -c 6 disk/out.hdt')
@@ -272,7 +263,7 @@ def test_a_full_file_system(tmp_path: Path) -> None:
 
 def test_few_descriptors(tmp_path: Path) -> None:
     """One file at a time is open, beside a scratch file."""
-    paths = write(tmp_path, [canonical_file([(b"u:%03d" % it, b"u:p", b"u:o")]) for it in range(100)])
+    paths = write(tmp_path, [canonical_file([(b"u:%03d" % it, b"u:p", b"u:o")]) for it in range(100)], ".hdt")
     merged = merge(tmp_path, *paths)
     assert shell('ulimit -n 6; exec "$0" merge --memory 4M "$@"', *paths, tmp_path / "out.hdt") == merged.result
     assert (tmp_path / "out.hdt").read_bytes() == merged.file

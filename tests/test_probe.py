@@ -8,6 +8,7 @@ from pathlib import Path
 
 import pytest
 
+from reference.hdt import Reason
 from support.built import BUILT, TOP
 from support.probe import PROGRAMS, Answer, Probe, ProbeError, Program, Request, fault, ok, spelled
 from support.program import run
@@ -129,7 +130,7 @@ def test_input(probe: Probe) -> None:
     """The input stays from one request to the next, for each program."""
     assert probe.on(b"\x80", "read_vbyte", 0) == ok(0, 1)
     assert probe.ask("read_vbyte", 0) == ok(0, 1)
-    assert probe.on(b"", "read_vbyte", 0) == fault(1, "Truncated", 0)
+    assert probe.on(b"", "read_vbyte", 0) == fault(Reason.Truncated, 0)
     assert probe.send(("file", b"\x81"), ("read_vbyte", 0), ("file", b"\x82"), ("read_vbyte", 0)) == [
         ok(), ok(1, 1), ok(), ok(2, 1)]
 
@@ -186,7 +187,7 @@ def test_spelling(argument: bytes | int | str | None, text: str) -> None:
 def test_values() -> None:
     """How values are spelled."""
     assert ok(1, b"a", "end", True, False, None) == ("ok", "1", "61", "end", "true", "false", "none")
-    assert fault(1, "Truncated", 68) == ("fault", "1", "Truncated", "68")
+    assert fault(Reason.Truncated, 68) == ("fault", "1", "Truncated", "68")
 
 
 # ---- readers

@@ -27,8 +27,8 @@ from hypothesis import strategies as st
 
 from support import program
 from support.built import PROGRAM, SAMPLES
-from support.formats import BASE, LINES, TURTLE, built, children, fails, fake, needs, stand_in
-from support.program import Result, Word, run
+from support.formats import BASE, LINES, TURTLE, built, children, command, fails, fake, needs, stand_in
+from support.program import run
 from support.properties import examples
 from support.python_package import ENVIRONMENT, hdt
 
@@ -376,11 +376,6 @@ def test_no_program(tmp_path: Path) -> None:
 
 # ---- the command
 
-def command(folder: Path, *words: Word, stdin: bytes = b"") -> Result:
-    """Run the command in a folder."""
-    return run([sys.executable, "-W", "error", "-m", "hdt", "build", *words], stdin=stdin, cwd=folder, env=ENVIRONMENT)
-
-
 def test_command(tmp_path: Path) -> None:
     """One document is built by the program, several are by `hdt.build`: the same output and counts as without."""
     needs("serdi")
@@ -388,16 +383,16 @@ def test_command(tmp_path: Path) -> None:
     (tmp_path / "b.nt").write_text(LINES)
     for inputs in (["b.nt"], ["-"], ["a.ttl"], ["a.ttl", "b.nt"], ["-", "b.nt"]):
         words = [*inputs, "out.hdt", "--base", BASE, "--block-size", "3"]
-        wanted = command(tmp_path, *words, stdin=LINES.encode())
+        wanted = command(tmp_path, "build", *words, stdin=LINES.encode())
         data = (tmp_path / "out.hdt").read_bytes()
         assert wanted.status == 0
         for more in (["--memory", "4M"], ["--memory=4194304", "--scratch", "."]):
-            assert command(tmp_path, *words, *more, stdin=LINES.encode()) == wanted
+            assert command(tmp_path, "build", *words, *more, stdin=LINES.encode()) == wanted
             assert (tmp_path / "out.hdt").read_bytes() == data
     assert sorted(os.listdir(tmp_path)) == ["a.ttl", "b.nt", "out.hdt"]
-    written = command(tmp_path, "-", "b.nt", "-", "--memory", "4M", "--scratch", ".", "--base", BASE, stdin=b"")
+    written = command(tmp_path, "build", "-", "b.nt", "-", "--memory", "4M", "--scratch", ".", "--base", BASE)
     assert (written.status, written.err.startswith(b"built 4 ")) == (0, True)
-    assert written.out == command(tmp_path, "b.nt", "-", "--base", BASE).out
+    assert written.out == command(tmp_path, "build", "b.nt", "-", "--base", BASE).out
 
 
 @pytest.mark.parametrize("inputs", [["b.nt"], ["b.nt", "b.nt"]], ids=["one", "two"])
@@ -410,7 +405,7 @@ def test_statuses(options: list[str], status: int, told: str, inputs: list[str],
     """A failure has the status that it has of the program, and leaves OUT as it was."""
     (tmp_path / "b.nt").write_text(LINES)
     (tmp_path / "out.hdt").write_bytes(b"before")
-    done = command(tmp_path, *inputs, "out.hdt", *options)
+    done = command(tmp_path, "build", *inputs, "out.hdt", *options)
     assert (done.status, done.out, told in done.err.decode()) == (status, b"", True), done
     assert sorted(os.listdir(tmp_path)) == ["b.nt", "out.hdt"] and (tmp_path / "out.hdt").read_bytes() == b"before"
 
@@ -419,7 +414,7 @@ def test_faulty_document(tmp_path: Path) -> None:
     """The error of one document is the program's."""
     (tmp_path / "bad.nt").write_text("<u:a> <u:p>\n")
     wanted = program.hdt("build", "bad.nt", "out.hdt", cwd=tmp_path)
-    assert command(tmp_path, "bad.nt", "out.hdt", "--memory", "4M") == wanted and wanted.status == 1
+    assert command(tmp_path, "build", "bad.nt", "out.hdt", "--memory", "4M") == wanted and wanted.status == 1
 
 
 @pytest.mark.parametrize("is_scratch", [False, True])

@@ -7,7 +7,6 @@ import io
 import os
 import pickle
 import re
-import sys
 import tracemalloc
 from collections.abc import Sequence
 from pathlib import Path
@@ -20,10 +19,10 @@ from hypothesis import strategies as st
 from reference import hdt as reference
 from support.built import SAMPLES
 from support.documents import THREE, Strings, canonical_file, many_triples
-from support.formats import COMPRESS, TURTLE, children, fails, needs, stand_in
-from support.program import Result, Word, run
+from support.formats import COMPRESS, TURTLE, children, command, fails, needs, stand_in
+from support.program import Result
 from support.properties import examples
-from support.python_package import ENVIRONMENT, hdt
+from support.python_package import hdt
 
 NAMES = [b"u:a", b"u:b", "u:é".encode(), b"_:b", b"_:b1", b"_:f0_b"]
 LITERALS = [b'"x"', b'"a\n\\"\x01"b"@en', b'"5"^^<u:t>', b'""']
@@ -327,22 +326,17 @@ def test_progress_of_the_program(lines: str, wanted: list[int], two: list[Path],
 
 # ---- the command
 
-def command(folder: Path, *words: Word, stdin: bytes = b"") -> Result:
-    """Run the command `build` in a folder."""
-    return run([sys.executable, "-W", "error", "-m", "hdt", "build", *words], stdin=stdin, cwd=folder, env=ENVIRONMENT)
-
-
 def test_command(two: list[Path], tmp_path: Path) -> None:
     """The command takes HDT files, too, and merges them."""
     wanted = merged(two, tmp_path / "wanted.hdt")
-    done = command(tmp_path, *two, "out.hdt", "--blank-nodes", "one", "--memory", "4M")
+    done = command(tmp_path, "build", *two, "out.hdt", "--blank-nodes", "one", "--memory", "4M")
     assert (done.status, (tmp_path / "out.hdt").read_bytes()) == (0, wanted[1])
     (tmp_path / "new.nt").write_text("<u:n> <u:p> <u:o> .\n")
-    assert command(tmp_path, two[0], "new.nt", "out.hdt").out.startswith(b"built 5 ")
-    done = command(tmp_path, "-", "out.hdt", "--syntax", "hdt", stdin=two[0].read_bytes())
+    assert command(tmp_path, "build", two[0], "new.nt", "out.hdt").out.startswith(b"built 5 ")
+    done = command(tmp_path, "build", "-", "out.hdt", "--syntax", "hdt", stdin=two[0].read_bytes())
     assert done.out.startswith(b"built 4 ")
-    assert b".hdt" in command(tmp_path, "--help").out
+    assert b".hdt" in command(tmp_path, "build", "--help").out
     two[1].write_bytes(two[1].read_bytes()[:50])
     with pytest.raises(hdt.Fault) as told:
         hdt.verify(two[1])
-    assert command(tmp_path, *two, "out.hdt") == Result(1, b"", f"hdt: {told.value}\n".encode())
+    assert command(tmp_path, "build", *two, "out.hdt") == Result(1, b"", f"hdt: {told.value}\n".encode())

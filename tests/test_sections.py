@@ -9,8 +9,8 @@ from hypothesis import strategies as st
 from reference import checks, hdt
 from reference.hdt import MAX, Reason, Section, common_prefix, fold, write_packed, write_section
 from support import prefixes
-from support.answers import REFUSED, answered, fault
-from support.probe import Answer, Argument, Probe, Request, ok
+from support.answers import REFUSED, answered
+from support.probe import Answer, Argument, Probe, Request, fault, ok
 from support.strategies import AROUND, BLOCK_SIZES, STRING, ascending, changed, loose_sections, packed_sections
 
 BEFORE = b"\xff\x02\x80"

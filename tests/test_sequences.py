@@ -8,8 +8,8 @@ from hypothesis import strategies as st
 
 from reference import checks, hdt
 from reference.hdt import MAX, Bits, Numbers, Reason, write_bits, write_numbers, write_numbers_data
-from support.answers import REFUSED, answered, fault
-from support.probe import Answer, Argument, Probe, ok
+from support.answers import REFUSED, answered
+from support.probe import Answer, Argument, Probe, fault, ok
 from support.strategies import AROUND, PADDING, VALUES, changed, entries_of
 
 BEFORE = b"\xff\x01\x80"

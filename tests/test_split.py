@@ -22,6 +22,7 @@ from hypothesis import strategies as st
 
 from reference import ntriples
 from support.built import PROGRAM
+from support.files import write
 from support.parts import graph_of, parts, split, text_of
 from support.program import (OUT_OF_MEMORY, WRITING_FAILED, InputOutputError, Result, Word, done, hdt, hdt_into,
                              run)
@@ -64,17 +65,9 @@ def found(folder: Path, count: int) -> list[bytes]:
     return [(folder / name).read_bytes() if (folder / name).exists() else b"" for name in names]
 
 
-def write(folder: Path, *documents: bytes) -> list[Path]:
-    """Documents in files."""
-    paths = [folder / f"{number}.nt" for number in range(len(documents))]
-    for path, data in zip(paths, documents):
-        path.write_bytes(data)
-    return paths
-
-
 def check(folder: Path, documents: Sequence[bytes], count: int, *options: Word) -> None:
     """The parts of documents, as files and on standard output, are those of the reference."""
-    paths, made = write(folder, *documents), folder / "parts"
+    paths, made = write(folder, documents), folder / "parts"
     assert hdt("split", *paths, made, "--parts", str(count), *options) == done()
     texts = wanted(documents, count)
     assert found(made, count) == texts
@@ -110,7 +103,7 @@ def test_labels_apart(count: int, tmp_path: Path) -> None:
     one = b"\n".join(NODES) + b"\n"
     inputs = [split(one, count, b"f%d_" % number).texts for number in range(2)]
     texts = [b"".join(texts) for texts in zip(*inputs)]
-    paths = write(tmp_path, one, one)
+    paths = write(tmp_path, [one, one])
     words: list[Word] = ["split", *paths, tmp_path / "parts", "--parts", str(count), "--blank-nodes", "apart"]
     assert hdt(*words) == done()
     assert found(tmp_path / "parts", count) == texts
@@ -119,7 +112,7 @@ def test_labels_apart(count: int, tmp_path: Path) -> None:
 
 def test_two_inputs_with_blank_nodes(tmp_path: Path) -> None:
     """It is an error that names both, wherever they are, and nothing is left."""
-    paths = write(tmp_path, GOOD[0], NODES[0], GOOD[0], NODES[1])
+    paths = write(tmp_path, [GOOD[0], NODES[0], GOOD[0], NODES[1]])
     line = b"error: %s and %s have blank nodes: say by --blank-nodes" % (os.fsencode(paths[1]), os.fsencode(paths[3]))
     cases: list[list[Word]] = [["--parts", "3", *paths, tmp_path / "parts"], ["--of", "0/2", *paths]]
     for words in cases:
@@ -133,7 +126,7 @@ def test_as_hdt_parts(count: int, tmp_path: Path) -> None:
     """The parts are those of `hdt.parts`, whose function is written in Python."""
     text = text_of(graph_of(2_000)).encode()
     assert split(text, count).texts == wanted([text], count)
-    (path,) = write(tmp_path, text)
+    (path,) = write(tmp_path, [text])
     assert hdt("split", path, tmp_path / "parts", "--parts", str(count)) == done()
     assert found(tmp_path / "parts", count) == split(text, count).texts
 
@@ -149,7 +142,7 @@ def test_published_hashes(tmp_path: Path) -> None:
 
 def test_standard_input(tmp_path: Path) -> None:
     """`-` is standard input, among other inputs too; a second time it is at its end."""
-    (path,) = write(tmp_path, GOOD[0])
+    (path,) = write(tmp_path, [GOOD[0]])
     data = GOOD[3] + b"\n"
     assert hdt("split", path, "-", "-", tmp_path / "parts", "--parts", "2", stdin=data) == done()
     assert found(tmp_path / "parts", 2) == wanted([GOOD[0], data], 2)
@@ -170,7 +163,7 @@ def test_compressed_input(tmp_path: Path) -> None:
 def test_the_first_error(tmp_path: Path, before: bytes, bad: bytes, after: bytes, count: int) -> None:
     """It is that of a build of the input, with the path; inputs before it are good; nothing is left."""
     whole = before + bad + b"\n" + after
-    paths = write(tmp_path, b"\n".join(GOOD), whole, bad)
+    paths = write(tmp_path, [b"\n".join(GOOD), whole, bad])
     built = hdt("build", paths[1], tmp_path / "x.hdt")
     line = built.err.replace(b"hdt: ", b"hdt: %s: " % os.fsencode(paths[1]), 1)
     assert built.status == 1
@@ -181,7 +174,7 @@ def test_the_first_error(tmp_path: Path, before: bytes, bad: bytes, after: bytes
 
 def test_inputs_that_cannot_be_read(tmp_path: Path) -> None:
     """A missing input and a folder; an error of an input before comes first."""
-    (path,) = write(tmp_path, BAD[0])
+    (path,) = write(tmp_path, [BAD[0]])
     for lost in (tmp_path / "none.nt", tmp_path):
         reading = Result(3, b"", InputOutputError(b"hdt: %s: reading failed\n" % os.fsencode(lost)))
         assert hdt("split", lost, tmp_path / "parts", "--parts", "2") == reading
@@ -192,7 +185,7 @@ def test_inputs_that_cannot_be_read(tmp_path: Path) -> None:
 def test_a_folder_that_is_there(tmp_path: Path) -> None:
     """FOLDER is neither changed nor read, whatever it is: it is looked for before the inputs are."""
     taken = Result(2, b"", b"error: FOLDER is there already" + HELP)
-    (path,) = write(tmp_path, GOOD[0])
+    (path,) = write(tmp_path, [GOOD[0]])
     (tmp_path / "link").symlink_to("nowhere")
     for name in ("0.nt", "link", ".", ""):
         assert hdt("split", path, f"{tmp_path}/{name}", "--parts", "2") == taken
@@ -204,7 +197,7 @@ def test_a_folder_that_is_there(tmp_path: Path) -> None:
 
 def test_a_folder_that_cannot_be_made(tmp_path: Path) -> None:
     """The folder in which it is to be is missing."""
-    (path,) = write(tmp_path, GOOD[0])
+    (path,) = write(tmp_path, [GOOD[0]])
     assert hdt("split", path, tmp_path / "none/parts", "--parts", "2") == WRITING_FAILED
 
 
@@ -229,7 +222,7 @@ def test_a_part_is_built(tmp_path: Path) -> None:
 
 def test_a_limited_file_size(tmp_path: Path) -> None:
     """Beyond a limit on the size of files the signal is ignored here: writing fails, and nothing is left."""
-    (path,) = write(tmp_path, text_of(graph_of(20_000)).encode())
+    (path,) = write(tmp_path, [text_of(graph_of(20_000)).encode()])
 
     def limit() -> None:
         signal.signal(signal.SIGXFSZ, signal.SIG_IGN)
@@ -244,7 +237,7 @@ def test_a_limited_file_size(tmp_path: Path) -> None:
 @pytest.mark.parametrize("descriptors", [4, 5])
 def test_few_descriptors(descriptors: int, tmp_path: Path) -> None:
     """With too few descriptors writing fails, and nothing is left."""
-    (path,) = write(tmp_path, GOOD[0])
+    (path,) = write(tmp_path, [GOOD[0]])
     limit: list[Word] = ["prlimit", f"--nofile={descriptors}:{descriptors}", "--", PROGRAM]
     assert run([*limit, "split", path, tmp_path / "parts", "--parts", "2"]) == (
         WRITING_FAILED if descriptors == 4 else done())
@@ -254,7 +247,7 @@ def test_few_descriptors(descriptors: int, tmp_path: Path) -> None:
 def test_more_parts_than_descriptors(tmp_path: Path) -> None:
     """2,000 parts of 100,000 lines, with 16 descriptors."""
     lines = [b"<u:%d> <u:p> <u:%d> .\n" % (random.Random(n).randrange(5_000), n) for n in range(100_000)]
-    (path,) = write(tmp_path, b"".join(lines))
+    (path,) = write(tmp_path, [b"".join(lines)])
 
     def limit() -> None:
         resource.setrlimit(resource.RLIMIT_NOFILE, (16, 16))
@@ -306,7 +299,7 @@ CALLS = ["random", "mkdir 777", *["append 666", "write"] * 4, *SYNCED]
 
 def splitting(folder: Path) -> list[Word]:
     """The command line that splits two inputs into the new folder `parts`."""
-    (path,) = write(folder, TWO_PARTS)
+    (path,) = write(folder, [TWO_PARTS])
     return [PROGRAM, "split", path, path, folder / "parts", "--parts", "2", "--blank-nodes", "one"]
 
 
@@ -386,7 +379,7 @@ def test_no_part_in_the_place_of_a_stream(streams: str, caller: Caller, tmp_path
 @pytest.mark.parametrize("streams", ["0", "1", "2", "012"])
 def test_messages_with_closed_streams(streams: str, tmp_path: Path) -> None:
     """The message of a faulty input is lost with its stream, and nothing is left; a closed stream cannot be used."""
-    one, other = write(tmp_path, GOOD[0], BAD[0])
+    one, other = write(tmp_path, [GOOD[0], BAD[0]])
     closing = " ".join(f"{it}>&-" for it in streams)
     script = f'exec "$0" split "$@" {closing}'
     ended = run(["sh", "-c", script, PROGRAM, one, other, tmp_path / "parts", "--parts", "2", "--verbose"])
@@ -398,7 +391,7 @@ def test_messages_with_closed_streams(streams: str, tmp_path: Path) -> None:
 def test_linear_time(tmp_path: Path) -> None:
     """Long lines and lines of one subject: twice the input takes no more than some three times as long."""
     def seconds(data: bytes) -> float:
-        (path,) = write(tmp_path, data)
+        (path,) = write(tmp_path, [data])
         times = []
         for _ in range(3):
             start = time.process_time() + resource.getrusage(resource.RUSAGE_CHILDREN).ru_utime

@@ -8,9 +8,9 @@ from hypothesis import example, given
 from reference.ntriples import (
     Literal, NotATerm, Reason, Term, TermError, is_iri, parse_term, put_term, string_term, term_string,
 )
-from support.probe import Answer, Probe, ok
+from support.probe import Answer, Probe, fault, ok
 from support.terms import (
-    LARGE, LARGE_TERMS, Case, Request, answered, error_answer, fault, shortened, spellings, strings, term_texts,
+    LARGE, LARGE_TERMS, Case, Request, answered, error_answer, shortened, spellings, strings, term_texts,
     term_values, terms,
 )
 

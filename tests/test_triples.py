@@ -140,7 +140,7 @@ REFUSED = {
 @pytest.mark.parametrize("sequences, reason, offset", REFUSED.values(), ids=REFUSED)
 def test_refused(probe: Probe, sequences: Sequences, reason: str, offset: int) -> None:
     """The first check that fails is reported, at its byte offset."""
-    error = fault(model.Reason[reason], reason, offset)
+    error = fault(model.Reason[reason], offset)
     assert probe.on(sequences.written() + b"U", "triples", 0, *sequences.counts) == error
 
 
@@ -148,7 +148,7 @@ def test_refused(probe: Probe, sequences: Sequences, reason: str, offset: int) -
 def test_another_order(probe: Probe, properties: bytes) -> None:
     """The last property `order` has to be 1."""
     data = model.write_control(model.TRIPLES, properties) + THREE.written()[len(ORDER):]
-    assert probe.on(data, "triples", 0, *THREE.counts) == fault(9, "TripleOrder", 45)
+    assert probe.on(data, "triples", 0, *THREE.counts) == fault(model.Reason.TripleOrder, 45)
 
 
 @pytest.mark.parametrize("sequences", [

@@ -8,8 +8,7 @@ from hypothesis import strategies as st
 
 from reference import hdt
 from reference.hdt import Reason
-from support.answers import fault
-from support.probe import Probe, ok
+from support.probe import Probe, fault, ok
 from support.strategies import AROUND, DIGITS, VALUES
 
 LARGE = b"x" * (1 << 20)

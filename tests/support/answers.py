@@ -5,17 +5,12 @@ from __future__ import annotations
 from collections.abc import Callable
 from typing import TypeVar
 
-from reference.hdt import Error, Reason
+from reference.hdt import Error
 from support.probe import Answer, Argument, ok
 
 T = TypeVar("T")
 
 REFUSED: Answer = ("refused",)
-
-
-def fault(reason: Reason, offset: int) -> Answer:
-    """The error of a file."""
-    return Error(reason, offset).answer
 
 
 def answered(read: Callable[..., T], args: tuple[object, ...], values: Callable[[T], tuple[Argument, ...]]) -> Answer:

@@ -5,6 +5,7 @@ from __future__ import annotations
 import os
 import re
 import tempfile
+from collections.abc import Sequence
 from pathlib import Path
 
 import pytest
@@ -25,6 +26,14 @@ LEFT = "hdt-unfinished-0"
 def shell(script: str, *words: Word, cwd: Path | None = None) -> Result:
     """Run a script of the shell, whose `$0` is the program and whose `$1`, `$2`, .. are the words."""
     return run(["sh", "-c", script, PROGRAM, *words], cwd=cwd)
+
+
+def write(folder: Path, files: Sequence[bytes], suffix: str = ".nt") -> list[Path]:
+    """Write files into a folder, named by their numbers, and return their paths."""
+    paths = [folder / f"{number}{suffix}" for number in range(len(files))]
+    for path, data in zip(paths, files):
+        path.write_bytes(data)
+    return paths
 
 
 def names(folder: Path) -> list[str]:

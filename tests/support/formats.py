@@ -10,13 +10,15 @@ import os
 import shutil
 import stat
 import subprocess
-from collections.abc import Callable
+import sys
+from collections.abc import Callable, Mapping
 from pathlib import Path
 from typing import Any
 
 import pytest
 
-from support.python_package import hdt
+from support.program import Result, Word, run
+from support.python_package import ENVIRONMENT, hdt
 
 from hdt import _program
 
@@ -115,3 +117,9 @@ def stand_in(folder: Path, monkeypatch: pytest.MonkeyPatch, script: str) -> None
     path.chmod(stat.S_IRWXU)
     monkeypatch.setattr(_program, "path", lambda: str(path))
     monkeypatch.chdir(folder)  # (what it writes into a file of a relative name is there)
+
+
+def command(folder: Path, *words: Word, stdin: bytes = b"", env: Mapping[str, str] = {}) -> Result:
+    """Run the command of the package in a folder."""
+    environment = {**ENVIRONMENT, **env}
+    return run([sys.executable, "-W", "error", "-m", "hdt", *words], stdin=stdin, cwd=folder, env=environment)

@@ -15,6 +15,7 @@ import os
 import subprocess
 import threading
 from collections.abc import Iterator, Mapping, Sequence
+from enum import IntEnum
 from itertools import groupby
 from pathlib import Path
 from typing import Union
@@ -61,9 +62,9 @@ def ok(*values: Argument) -> Answer:
     return ("ok", *map(value, values))
 
 
-def fault(number: int, name: str, *places: int) -> Answer:
-    """The answer of a call that finds an error: its number and name, and where it is."""
-    return ("fault", str(number), name, *map(str, places))
+def fault(reason: IntEnum, *places: int) -> Answer:
+    """The answer of a call that finds an error: its number and name, and where it is, as a line and a column."""
+    return ("fault", str(int(reason)), reason.name, *map(str, places))
 
 
 class Program:

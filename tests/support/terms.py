@@ -12,19 +12,14 @@ from typing import Union
 from hypothesis import strategies as st
 
 from reference import ntriples
-from reference.ntriples import Blank, Iri, LineError, Literal, Reason, Term, TermError, Triple
-from support.probe import Answer, Argument, Probe
+from reference.ntriples import Blank, Iri, LineError, Literal, Term, TermError, Triple
+from support.probe import Answer, Argument, Probe, fault
 from support.probe import spelled as token
 
 # ---- requests and answers of a probe
 
 Request = tuple[Argument, ...]
 Case = tuple[Request, Answer]
-
-
-def fault(reason: Reason, *position: int) -> Answer:
-    """The answer for an error of a term (with its column) or of a document (with its line and column)."""
-    return ("fault", str(int(reason)), reason.name, *map(str, position))
 
 
 def error_answer(error: Union[TermError, LineError]) -> Answer:
