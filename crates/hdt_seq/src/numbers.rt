@@ -34,8 +34,8 @@ impl<'a> Numbers<'a> {
     ghost use Rattle.hdt_seq.specs.Numbers.{numbers_of, numbers_offsets, numbers_view, numbers_at};
 
     /// Reads the log sequence at a byte offset, from 0. Returns it with the offset after it. More bytes may follow.
-    /// Linear time in the bytes of the sequence, because of its CRC. By [`sequences_are_exact`](crate::sequences_are_exact)
-    /// this is what is encoded there, if anything is.
+    /// Linear time in the bytes of the sequence, because of its CRC. By
+    /// [`sequences_are_exact`](crate::sequences_are_exact) this is what is encoded there, if anything is.
     ///
     /// # Errors
     ///
