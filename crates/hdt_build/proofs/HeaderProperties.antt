@@ -12,7 +12,7 @@ use Rattle.std.proofs.lemmas.List.Sums.{prefix_len_passes}
 use Rattle.hdt_wire.specs.Control.{HasNoZero}
 use Rattle.hdt_wire.specs.Laws.Checks.{not-true}
 use Rattle.hdt_wire.specs.Property.{is_byte, item_value, property_value}
-use Rattle.hdt_file.specs.Head.{IsDecimalOf, StatesLength}
+use Rattle.hdt_file.specs.Head.{IsDecimal, StatesLength}
 use Rattle.hdt_build.specs.NewHeader.{item_with_length, with_length}
 use Rattle.hdt_build.proofs.Heads.{item_no_zero, no_semicolon, value}
 
@@ -153,10 +153,10 @@ new_length n m text small old =
     (some_item text) in
     let stated : property_value (with_length n text) (codes "length") ≡ Some (decimal n) =
     rw (items, new_values n ps clean)
-    (last_value n (filter_map (item_value (codes "length")) ps) (λ t. IsDecimalOf t m) old) in
+    (last_value n (filter_map (item_value (codes "length")) ps) (λ t. IsDecimal t m) old) in
     let numeral = decimal_is_IsNumeral n small in
-    let counts : IsDecimalOf (decimal n) n = record { digits = numeral.0; value = numeral.1 } in
-    subst (λ (o : Option (List ℕ)). IsSomeAnd o (λ t. IsDecimalOf t n)) (sym stated) counts
+    let counts : IsDecimal (decimal n) n = record { digits = numeral.0; value = numeral.1 } in
+    subst (λ (o : Option (List ℕ)). IsSomeAnd o (λ t. IsDecimal t n)) (sym stated) counts
 
 -- They have no zero byte.
 pub new_no_zero : (n : ℕ) (text : List ℕ) → n < 2 ^ 64 → HasNoZero text → HasNoZero (with_length n text)

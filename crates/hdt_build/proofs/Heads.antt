@@ -14,7 +14,7 @@ use Rattle.std.proofs.lemmas.List.Sums.{AllPass-from_list_all}
 use Rattle.hdt_wire.specs.Control.{HasNoZero}
 use Rattle.hdt_wire.specs.Property.{property_value, is_byte, item_value}
 use Rattle.hdt_wire.specs.Laws.Checks.{not-true}
-use Rattle.hdt_file.specs.Head.{IsDecimalOf, StatesLength}
+use Rattle.hdt_file.specs.Head.{IsDecimal, StatesLength}
 use Rattle.hdt_build.specs.Header.{length_property}
 
 -- a digit differs from every byte that is not a digit
@@ -76,5 +76,5 @@ property_is n small = rw (pieces n small, value (decimal n)) refl
 pub states_length : (n : ℕ) → n < 2 ^ 64 → StatesLength (length_property n) n
 states_length n small =
     let numeral = decimal_is_IsNumeral n small in
-    let counts : IsDecimalOf (decimal n) n = record { digits = numeral.0; value = numeral.1 } in
-    subst (λ (text : Option (List ℕ)). IsSomeAnd text (λ t. IsDecimalOf t n)) (sym (property_is n small)) counts
+    let counts : IsDecimal (decimal n) n = record { digits = numeral.0; value = numeral.1 } in
+    subst (λ (text : Option (List ℕ)). IsSomeAnd text (λ t. IsDecimal t n)) (sym (property_is n small)) counts

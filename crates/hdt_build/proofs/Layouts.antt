@@ -142,14 +142,16 @@ module _ (header : List ℕ) (graph : List StringTriple) (b : ℕ) (d : SectionL
           body = body;
         };
         dictionary = dictionary_encoded b d bytes at (at + length D) from low sections small dict;
-        section = section;
+        parts = section;
         triples =
-            subst (λ counts. IsTriplesAt counts section bytes (canonical_dictionary_parts b d at).objects.end) (sym (counts_are b d at))
+            subst (λ counts. IsTriplesAt counts section bytes (canonical_dictionary_parts b d at).objects.end)
+            (sym (counts_are b d at))
             (triples_stand ts (role_counts d) bytes (canonical_dictionary_parts b d at).objects.end end
             (writable d ts form (some_triple graph d ts form some)) within
             (few bytes at (at + length D) small dict) many
             (subst (λ (a : ℕ). HasSlice bytes a T end) (sym place) last));
-        view = ap (λ (n : ℕ). (bitmap_triples section, (section.array_y.offsets.width, section.array_z.offsets.width), n))
+        view = ap
+            (λ (n : ℕ). (bitmap_triples section, (section.array_y.offsets.width, section.array_z.offsets.width), n))
             (triples_end (sequences_of ts) (canonical_dictionary_parts b d at).objects.end
             ∙ ap (λ (a : ℕ). a + length T) place ∙ sym last.end_is ∙ whole);
       }

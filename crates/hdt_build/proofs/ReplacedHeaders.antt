@@ -121,7 +121,7 @@ module _ (body bytes : List ℕ) (file : FileParts) (is : IsFile file bytes) (sm
       let start : moved k end k ≡ end = omega arith in
       let after = moving.after_dictionary bytes k new end s file.dictionary k is.dictionary in
       let counts = role_counts (lists_of_dictionary file.dictionary) in
-      let section = is.section in
+      let section = is.parts in
       let last = moving.after_triples bytes k new end s counts section file.dictionary.objects.end is.triples in
       let whole : moved k end section.array_z.end ≡ length new = omega (
         arith,
@@ -136,7 +136,7 @@ module _ (body bytes : List ℕ) (file : FileParts) (is : IsFile file bytes) (sm
         head = head_stands new h;
         dictionary = subst (λ (a : ℕ). IsDictionaryAt (moved_dictionary k end file.dictionary) new a) start
             (moving.dictionary bytes k new end s file.dictionary k (omega arith) is.dictionary);
-        section = moved_triples k end section;
+        parts = moved_triples k end section;
         triples = moving.triples bytes k new end s counts section file.dictionary.objects.end after is.triples;
         view = ap (λ (v : Kept). (let w : Kept = (v.0, v.1, moved k end section.array_z.end) in w)) is.view
             ∙ ap (λ (n : ℕ). (let w : Kept = (file.triples, file.widths, n) in w)) whole;

@@ -10,7 +10,7 @@ use Rattle.std.specs.Str.Parse.{AllDigits, IsNumeral, ParsesUnsigned, digits_val
 use Rattle.std.proofs.lemmas.Bool.{and_parts, ltb-true, lt-ltb, ne_eqb}
 use Rattle.std.proofs.lemmas.Fmt.{IsAscii-from_digits}
 use Rattle.std.proofs.lemmas.Str.{IsUtf8-from_ascii}
-use Rattle.hdt_file.specs.Head.{IsDecimalOf, is_numeral, decimal_number}
+use Rattle.hdt_file.specs.Head.{IsDecimal, is_numeral, decimal_number}
 
 all_digits : (text : List ℕ) → list_all (λ c. is_digit c 10) text ≡ true → AllDigits 10 text
 all_digits [] e = tt
@@ -22,7 +22,7 @@ digits_all (c ∷ cs) h = rw (lt-ltb _ _ h.0, digits_all cs h.1) refl
 
 read : (text : List ℕ) (n v : ℕ) (ok small : Bool) → (ok ≡ true → AllDigits 10 text × (0 < length text))
     → n ≡ digits_value 10 text → (small ≡ true → n < 2 ^ 64)
-    → (if ok && small then Some n else None) ≡ Some v → IsDecimalOf text v × (v < 2 ^ 64)
+    → (if ok && small then Some n else None) ≡ Some v → IsDecimal text v × (v < 2 ^ 64)
 read text n v true true digits value below e =
     let same : n ≡ v = cc in
     let d = digits refl in
@@ -31,14 +31,14 @@ read text n v true false digits value below e = absurd cc
 read text n v false small digits value below e = absurd cc
 
 -- the number returned is the one that the text encodes
-pub decimal_found : (text : List ℕ) (v : ℕ) → decimal_number text ≡ Some v → IsDecimalOf text v × (v < 2 ^ 64)
+pub decimal_found : (text : List ℕ) (v : ℕ) → decimal_number text ≡ Some v → IsDecimal text v × (v < 2 ^ 64)
 unfolding decimal_number
 decimal_found text v e =
     read text (digits_value 10 text) v (is_numeral text) (ltb (digits_value 10 text) (2 ^ 64))
     (λ is. let p = and_parts _ _ is in (all_digits text p.1, ltb-true _ _ p.0)) refl (ltb-true _ _) e
 
 -- the number that a text encodes is returned
-pub decimal_only : (text : List ℕ) (v : ℕ) → v < 2 ^ 64 → IsDecimalOf text v → decimal_number text ≡ Some v
+pub decimal_only : (text : List ℕ) (v : ℕ) → v < 2 ^ 64 → IsDecimal text v → decimal_number text ≡ Some v
 unfolding decimal_number
 decimal_only text v lt h =
     let some : ltb 0 (length text) ≡ true = lt-ltb _ _ h.digits.0 in
@@ -48,7 +48,7 @@ decimal_only text v lt h =
 -- ---- a text that is parsed
 
 -- a text without a decimal number below 2 ^ 64
-pub no_number : (text : List ℕ) → ((v : ℕ) → v < 2 ^ 64 → IsDecimalOf text v → ⊥) → None ≡ decimal_number text
+pub no_number : (text : List ℕ) → ((v : ℕ) → v < 2 ^ 64 → IsDecimal text v → ⊥) → None ≡ decimal_number text
 no_number text none = by (decimal_number text) refl
   where
     by : (o : Option ℕ) → decimal_number text ≡ o → None ≡ decimal_number text

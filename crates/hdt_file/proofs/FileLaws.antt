@@ -1,5 +1,6 @@
 -- The checks of a file are exact. Bytes encode at most one file and graph, and otherwise have one first error.
-use Rattle.std.proofs.Common.{◌≡◌, ◌⊎◌, ℕ, ◌<◌, ◌^◌, List, length, eqb, true, Result, Ok, Err, refl, ap, ◌∙◌, subst, arith}
+use Rattle.std.proofs.Common.{◌≡◌, ◌⊎◌, ℕ, ◌<◌, ◌^◌, List, length, eqb, true, Result, Ok, Err, refl, ap, ◌∙◌, subst}
+use Rattle.std.proofs.Common.{arith}
 use Rattle.std.proofs.lemmas.Bool.{eqb-true}
 use Rattle.std.proofs.lemmas.Bool.Decides.{Decides-eqb}
 use Rattle.hdt_wire.specs.declared.fault.Reason.TheVariants.{TrailingBytes}
@@ -45,7 +46,7 @@ file_exact bytes fits small = record {
       holds_of_ok (λ (file : FileParts). IsFile file bytes) _ _ e (record {
         head = (head_exact bytes fits small).found head e1;
         dictionary = (dictionary_exact bytes head.end fits).found d e2;
-        section = section;
+        parts = section;
         triples = (triples_exact counts bytes d.objects.end fits).found section e4;
         view = ok_is (triple_parts_view section) t seen ∙ ap (λ (n : ℕ). (let k : Kept = (t.0, t.1, n) in k))
             (eqb-true _ _ h);
@@ -57,7 +58,7 @@ file_exact bytes fits small = record {
       let r2 = (dictionary_exact bytes file.head.end fits).only d h.dictionary in
       let r3 : decode_triples counts bytes d.objects.end ≡ done (file.triples, file.widths, length bytes) =
       ap (λ (r : Result TripleParts Fault). viewed triple_parts_view r)
-      ((triples_exact counts bytes d.objects.end fits).only h.section h.triples)
+      ((triples_exact counts bytes d.objects.end fits).only h.parts h.triples)
       ∙ ap (λ (k : Kept). done k) h.view in
       let t1 : eqb (length bytes) (length bytes) ≡ true = (Decides-eqb _ _).1 refl in
       rw (r1, r2, r3, t1) refl;
@@ -107,7 +108,7 @@ file_graph : (bytes : List ℕ) (file : FileParts) → IsFile file bytes → IsG
 file_graph bytes file h =
     let d = h.dictionary in
     let t = h.triples in
-    let f = bitmap_triples h.section in
+    let f = bitmap_triples h.parts in
     let counts = role_counts (lists_of_dictionary file.dictionary) in
     let same : triples_of f ≡ triples_of file.triples = ap (λ (k : Kept). triples_of k.0) h.view in
     record {

@@ -12,7 +12,7 @@ use Rattle.hdt_wire.specs.Exact.{Exactly}
 use Rattle.hdt_wire.specs.Laws.Exact.{holds_of_ok, one_value}
 use Rattle.hdt_wire.specs.Laws.ExactPrimitives.{control_exact}
 use Rattle.hdt_wire.specs.Property.{property_value}
-use Rattle.hdt_file.specs.Head.{IsDecimalOf, decimal_number, HeadParts, IsHead, StatesLength, body_length, decode_head}
+use Rattle.hdt_file.specs.Head.{IsDecimal, decimal_number, HeadParts, IsHead, StatesLength, body_length, decode_head}
 use Rattle.hdt_file.proofs.DecimalLaws.{decimal_found, decimal_only}
 use Rattle.hdt_dict.specs.Dictionary.{DictionaryParts, dictionary_at}
 use Rattle.hdt_dict.specs.Laws.Dictionary.{dictionary_exact}
@@ -25,11 +25,11 @@ given None d y e = absurd cc
 given (Some x) d y e = cc
 
 states : (value : Option (List ℕ)) (d : Fault) (n : ℕ) → ok_or (option_and_then decimal_number value) d ≡ Ok n
-    → IsSomeAnd value (λ text. IsDecimalOf text n)
+    → IsSomeAnd value (λ text. IsDecimal text n)
 states None d n e = absurd cc
 states (Some text) d n e = (decimal_found text n (given (decimal_number text) d n e)).0
 
-read_again : (value : Option (List ℕ)) (d : Fault) (n : ℕ) → n < 2 ^ 64 → IsSomeAnd value (λ text. IsDecimalOf text n)
+read_again : (value : Option (List ℕ)) (d : Fault) (n : ℕ) → n < 2 ^ 64 → IsSomeAnd value (λ text. IsDecimal text n)
     → ok_or (option_and_then decimal_number value) d ≡ Ok n
 read_again None d n lt h = absurd h
 read_again (Some text) d n lt h = rw (decimal_only text n lt h) refl

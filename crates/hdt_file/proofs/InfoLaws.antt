@@ -126,6 +126,7 @@ pub info_only : (bytes : List ℕ) (r : Result FileInfo OpenFault) → IsBytes b
 info_only bytes (Ok i) fits small found err info h =
     ap (λ (x : FileInfo). done x) (one_info bytes info i fits small h found)
 info_only bytes (Err (opens.Fault fault)) fits small found err info h =
-    let layout : IsLayout bytes (graph_of_file h.file) = record { file = h.file; encoded = h.encoded; denotes = refl } in
-    let k = sym ((layout_exact bytes fits small).only (graph_of_file h.file) layout) ∙ err in absurd cc
+    let graph = graph_of_file h.file in
+    let layout : IsLayout bytes graph = record { file = h.file; encoded = h.encoded; denotes = refl } in
+    let k = sym ((layout_exact bytes fits small).only graph layout) ∙ err in absurd cc
 info_only bytes (Err opens.OutOfMemory) fits small found err info h = tt

@@ -33,9 +33,9 @@ role_counts d = record {
 pub record IsFile (file : FileParts) (bytes : List ℕ) : Type 0 where
   pub head : IsHead file.head bytes
   pub dictionary : IsDictionaryAt file.dictionary bytes file.head.end
-  pub section : TripleParts
-  pub triples : IsTriplesAt (role_counts (lists_of_dictionary file.dictionary)) section bytes file.dictionary.objects.end
-  pub view : triple_parts_view section ≡ (file.triples, file.widths, length bytes)
+  pub parts : TripleParts
+  pub triples : IsTriplesAt (role_counts (lists_of_dictionary file.dictionary)) parts bytes file.dictionary.objects.end
+  pub view : triple_parts_view parts ≡ (file.triples, file.widths, length bytes)
 
 -- decodes a file, or returns the first error
 unfoldable pub decode_file : List ℕ → Result FileParts Fault

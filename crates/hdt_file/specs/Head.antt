@@ -16,7 +16,7 @@ use Rattle.std.specs.List.{list_all}
 use Rattle.std.specs.Str.Parse.{IsNumeral, digits_value}
 
 -- the text is one digit or more and has the value v; leading zeros are allowed
-pub record IsDecimalOf (text : List ℕ) (v : ℕ) : Type 0 where
+pub record IsDecimal (text : List ℕ) (v : ℕ) : Type 0 where
   pub digits : IsNumeral 10 text
   pub value : digits_value 10 text ≡ v
 
@@ -42,7 +42,7 @@ head_parts h = record { global = control_view h.global; header = control_view h.
 
 -- the property `length` has the value n
 abbrev pub StatesLength : List ℕ → ℕ → Type 0
-StatesLength properties n = IsSomeAnd (property_value properties (codes "length")) (λ text. IsDecimalOf text n)
+StatesLength properties n = IsSomeAnd (property_value properties (codes "length")) (λ text. IsDecimal text n)
 
 -- the head is encoded at the start of the bytes; anything may follow
 pub record IsHead (head : HeadParts) (bytes : List ℕ) : Type 0 where

@@ -27,7 +27,8 @@ pub struct Graph<'a> {
     pub(crate) head: Head<'a>,
     pub(crate) dictionary: Dictionary<'a>,
     pub(crate) triples: ListedTriples<'a>,
-    ghost roles: { string_counts (triples_listed triples) ≡ role_counts (lists_of_dictionary (dictionary_of dictionary)) },
+    ghost roles: { string_counts (triples_listed triples)
+        ≡ role_counts (lists_of_dictionary (dictionary_of dictionary)) },
 }
 
 #[tactic(auto, unfolding(crate::specs::Graph::graph_view, crate::specs::Graph::parts_of_graph))]
