@@ -133,7 +133,8 @@ impl<S: Scratch + Drop> ScratchBuilder<S> {
         ensures some { IfErr result (IfBuildFault (λ e. e ≢ BuildFault.NoTriples)) }
         // The reader failed in this call, once, if the error says so; else it has not failed.
         ensures read { IfErr result (λ e. IsBuild ReadFailed e → failures input.new ≡ failures input.old + 1) }
-        ensures reader_reported { IfErr result (λ e. (IsBuild ReadFailed e → ⊥) → failures input.new ≡ failures input.old) }
+        ensures reader_reported { IfErr result (λ e. (IsBuild ReadFailed e → ⊥)
+            → failures input.new ≡ failures input.old) }
         ensures reader_unfailed { OnOk result (failures input.new ≡ failures input.old) }
     {
         let ScratchBuilder { batches, memory } = self;

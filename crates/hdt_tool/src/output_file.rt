@@ -38,7 +38,8 @@ fn write_file_and_line<F: Write, W: Write>(
     // The file has gained the bytes, and the writer the line.
     ensures file { OnOk result (Appends (F.contents (inner file.old)) (F.contents (inner file.new)) built.now) }
     ensures line { OnOk result (Appends (W.contents (inner out.old)) (W.contents (inner out.new)) line.now) }
-    ensures writer_unfailed { OnOk result ((failures file.new ≡ failures file.old) × (failures out.new ≡ failures out.old)) }
+    ensures writer_unfailed { OnOk result ((failures file.new ≡ failures file.old)
+        × (failures out.new ≡ failures out.old)) }
     // `Write(n)`: either the file failed after exactly n bytes, and `out` is unchanged; or the writer failed after
     // exactly n bytes of the line, and the file is complete.
     ensures failed { IfErr result (λ e. (n : ℕ) × (e ≡ ToolFault.Write n) × (

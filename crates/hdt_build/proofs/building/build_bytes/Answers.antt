@@ -9,7 +9,8 @@ use Rattle.hdt_build.proofs.building.build_bytes.Goals as goal
 pub returns-then-not-are_valid_options-clause-unread : goal.returns-then-not-are_valid_options-clause-unread
 returns-then-not-are_valid_options-clause-unread g c = λ _. refl
 
-pub returns-then-not-are_valid_options-clause-reader_reported : goal.returns-then-not-are_valid_options-clause-reader_reported
+pub returns-then-not-are_valid_options-clause-reader_reported
+    : goal.returns-then-not-are_valid_options-clause-reader_reported
 returns-then-not-are_valid_options-clause-reader_reported g c = λ _. refl
 
 pub returns-in_err-collector : goal.returns-in_err-collector
