@@ -75,7 +75,7 @@ def compare(path: Path, folder: Path) -> None:
 
 
 @pytest.mark.skipif(not documents(), reason="none of the packages lv2-dev, tracker and librdf-query-perl is installed")
-@pytest.mark.parametrize("path", documents(), ids=lambda it: "/".join(it.parts[-2:]))
+@pytest.mark.parametrize("path", documents(), ids=str)
 def test_document(path: Path, tmp_path: Path) -> None:
     """All converters agree on a document of a package."""
     compare(path, tmp_path)
@@ -92,7 +92,7 @@ def test_document_of_jena(jar: str, name: str, tmp_path: Path) -> None:
 
 
 @pytest.mark.skipif(not documents(), reason="none of the packages lv2-dev, tracker and librdf-query-perl is installed")
-@pytest.mark.parametrize("path", documents()[::8], ids=lambda it: "/".join(it.parts[-2:]))
+@pytest.mark.parametrize("path", documents()[::8], ids=str)
 def test_its_lines(path: Path, tmp_path: Path) -> None:
     """The N-Triples of a document give the same file, also compressed and as N-Quads, and as many triples as Turtle."""
     try:
