@@ -15,7 +15,7 @@ use Rattle.hdt_build.proofs.HeaderProperties.{new_length, new_no_zero}
 use Rattle.hdt_build.proofs.MovedParts as moving
 use Rattle.hdt_build.proofs.MovedParts.{SameFrom, moved, moved_dictionary, moved_triples}
 
--- what a file keeps of its triples
+-- what is kept of the triples: their lists, the widths of entries, and the offset after them
 abbrev Kept : Type 0
 Kept = BitmapTriples × (ℕ × ℕ) × ℕ
 

@@ -28,7 +28,7 @@ use Rattle.hdt_file.specs.declared.fault.OpenFault.{OpenFault}
 use Rattle.hdt_file.specs.declared.fault.OpenFault.TheVariants as opens
 use Rattle.hdt_file.specs.declared.layout.Layout.{Layout}
 
--- the triples that the checks read, with what is kept of them
+-- what is kept of the triples: their lists, the widths of entries, and the offset after them
 abbrev Kept : Type 0
 Kept = BitmapTriples × (ℕ × ℕ) × ℕ
 
