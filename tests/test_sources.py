@@ -31,7 +31,6 @@ STILL_LONG = {
     "hdt_file/src/term_flags.rt": 1,
     "hdt_seq/proofs/sequence_writer/SequenceWriter/begin/Answers.antt": 1,
     "hdt_seq/proofs/sequence_writer/SequenceWriter/finish/Answers.antt": 1,
-    "hdt_terms/proofs/split/write_part/Answers.antt": 1,
 }
 # The module of the help: it is text, which stands in one place.
 TEXTS = {"help.rt"}

@@ -91,7 +91,7 @@ triples-preserved g c =
           e)
           (λ triples ran e. c.triples_so_far.ensures.last most c.triples.lines new _ _ _ triples triple ran taken.2 e)
           taken.2;
-      count = read.count ∙ inv.count;
+      count = read.reader_unfailed ∙ inv.count;
     }
 
 abbrev pub returns-in-Ok-false-clause-document : goal.returns-in-Ok-false-clause-document

@@ -118,8 +118,8 @@ lines-preserved g c =
           (below_most c.lines.count c.args.most c.in_ok-lint_line.field-0
           (c.is_another_wanted.ensures.fewer c.lines-test.true));
       keep = done.others.0 ∙ lint.keep ∙ c.lines.invariant.keep;
-      kept = done.well.0 ∙ c.lines.invariant.kept;
-      reported = done.well.1 ∙ c.lines.invariant.reported;
+      kept = done.writer_unfailed.0 ∙ c.lines.invariant.kept;
+      reported = done.writer_unfailed.1 ∙ c.lines.invariant.reported;
       input = c.in-Ok.ensures.reader_unfailed ∙ c.lines.invariant.input;
       kept_count = done.kept_count _ c.lines.invariant.kept_count;
       reported_count = done.reported_count _ c.lines.invariant.reported_count;

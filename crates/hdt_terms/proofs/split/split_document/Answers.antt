@@ -147,7 +147,7 @@ lines-preserved g c =
       part = omega (arith, part, c.lines.invariant.parts);
       outs = wrote.lens.0 ∙ c.lines.invariant.outs;
       pending = rw whole (wrote.lens.1 ∙ len ∙ c.lines.invariant.pending);
-      well = wrote.well ∙ c.lines.invariant.well;
+      well = wrote.writer_unfailed ∙ c.lines.invariant.well;
       input = c.in-Ok.ensures.reader_unfailed ∙ c.lines.invariant.input;
     }
 

@@ -37,7 +37,7 @@ parts-preserved g c =
       at = omega (arith, c.parts-test.true, inv.outs);
       outs = done.lens.0 ∙ inv.outs;
       pending = done.lens.1 ∙ inv.pending;
-      well = done.well ∙ inv.well;
+      well = done.writer_unfailed ∙ inv.well;
     }
 
 pub returns-clause-ok : goal.returns-clause-ok

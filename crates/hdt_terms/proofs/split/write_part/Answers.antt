@@ -22,7 +22,8 @@ returns-in-Ok-clause-whole g c =
 
 pub returns-in-Ok-clause-writer_unfailed : goal.returns-in-Ok-clause-writer_unfailed
 returns-in-Ok-clause-writer_unfailed g c =
-    map-set_same failures c.args.outs.now c.args.at c.write_if_long.new.out c.index-outs-at.result c.in-Ok.ensures.writer_unfailed
+    map-set_same failures c.args.outs.now c.args.at c.write_if_long.new.out c.index-outs-at.result
+    c.in-Ok.ensures.writer_unfailed
 
 pub returns-in-Err-clause-others : goal.returns-in-Err-clause-others
 returns-in-Err-clause-others g c =

@@ -40,5 +40,5 @@ lines-preserved g c =
       taken = bare_taken _ c.lines.self c.take.new.self _ _ _ before.0 _ _ before.1 before.2 taken
           (rw c.in-Ok-true.field-0-test at c.in-Ok-true.ensures) going;
       going = going;
-      count = buffered.count ∙ c.lines.invariant.count;
+      count = buffered.reader_unfailed ∙ c.lines.invariant.count;
     }

@@ -50,7 +50,7 @@ pieces-preserved g c =
           (rw c.if-not-more.false at read.does) read.others read.below_limit;
       going = ap (λ (t : LinesState). t.ended) read.others ∙ ap (λ (t : LinesState). t.ended) c.take_buffered.ensures
           ∙ c.pieces.invariant.going;
-      count = read.count ∙ c.pieces.invariant.count;
+      count = read.reader_unfailed ∙ c.pieces.invariant.count;
       unread = λ h. holds_none s none (c.pieces.invariant.unread h).1;
     }
 
