@@ -232,7 +232,7 @@ own_form_rewritten b bytes g size h own = record {
 few_triples : (bytes : List ℕ) (g : GraphParts) → IsLayout bytes g → length g.triples < 2 ^ 64
 few_triples bytes g h =
     let same : triples_of h.file.triples ≡ g.triples = ap (λ (k : GraphParts). k.triples) h.denotes in
-    let kept = ap (λ (k : BitmapTriples × (ℕ × ℕ) × ℕ). length k.0.array_z) h.encoded.view in
+    let kept = ap (λ (f : BitmapTriples). length f.array_z) h.encoded.lists in
     let many = h.encoded.triples.array_z.spelled.spelled.2.counted in
     omega (arith, many, kept, length-triples h.file.triples, ap (λ (ts : List Triple). length ts) same)
 

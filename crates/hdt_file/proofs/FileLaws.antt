@@ -43,23 +43,27 @@ file_exact bytes fits small = record {
       bind_ok (decode_triples counts bytes d.objects.end) _ _ e (λ t e3 e.
       bind_ok (decode_triple_parts counts bytes d.objects.end) _ _ e3 (λ section e4 seen.
       demand_ok (eqb t.2 (length bytes)) t.2 TrailingBytes _ _ e (λ h e.
+      let kept : triple_parts_view section ≡ t = ok_is (triple_parts_view section) t seen in
       holds_of_ok (λ (file : FileParts). IsFile file bytes) _ _ e (record {
         head = (head_exact bytes fits small).found head e1;
         dictionary = (dictionary_exact bytes head.end fits).found d e2;
         parts = section;
         triples = (triples_exact counts bytes d.objects.end fits).found section e4;
-        view = ok_is (triple_parts_view section) t seen ∙ ap (λ (n : ℕ). (let k : Kept = (t.0, t.1, n) in k))
-            (eqb-true _ _ h);
+        lists = ap (λ (k : Kept). k.0) kept;
+        widths = ap (λ (k : Kept). k.1) kept;
+        end = ap (λ (k : Kept). k.2) kept ∙ eqb-true _ _ h;
       }))))));
   only = λ file h.
       let d = file.dictionary in
       let counts = role_counts (lists_of_dictionary d) in
       let r1 = (head_exact bytes fits small).only file.head h.head in
       let r2 = (dictionary_exact bytes file.head.end fits).only d h.dictionary in
+      let kept : triple_parts_view h.parts ≡ (file.triples, file.widths, length bytes) =
+      rw (h.lists, h.widths, h.end) refl in
       let r3 : decode_triples counts bytes d.objects.end ≡ done (file.triples, file.widths, length bytes) =
       ap (λ (r : Result TripleParts Fault). viewed triple_parts_view r)
       ((triples_exact counts bytes d.objects.end fits).only h.parts h.triples)
-      ∙ ap (λ (k : Kept). done k) h.view in
+      ∙ ap (λ (k : Kept). done k) kept in
       let t1 : eqb (length bytes) (length bytes) ≡ true = (Decides-eqb _ _).1 refl in
       rw (r1, r2, r3, t1) refl;
 }
@@ -110,7 +114,7 @@ file_graph bytes file h =
     let t = h.triples in
     let f = bitmap_triples h.parts in
     let counts = role_counts (lists_of_dictionary file.dictionary) in
-    let same : triples_of f ≡ triples_of file.triples = ap (λ (k : Kept). triples_of k.0) h.view in
+    let same : triples_of f ≡ triples_of file.triples = ap triples_of h.lists in
     record {
       shared = d.shared.strings;
       subjects = d.subjects.strings;

@@ -10,8 +10,8 @@ use Rattle.hdt_dict.specs.Dictionary.{lists_of_dictionary, role_strings}
 use Rattle.hdt_wire.specs.declared.Role.TheVariants.{Subject, Predicate, Object}
 use Rattle.hdt_triples.specs.TripleSequences.{BitmapTriples, Triple, triples_of}
 use Rattle.hdt_triples.specs.declared.pattern.Counts.{Counts}
-use Rattle.hdt_triples.specs.Triples.{TripleParts, IsTriplesAt}
-use Rattle.hdt_triples.specs.Views.{decode_triples, triple_parts_view}
+use Rattle.hdt_triples.specs.Triples.{TripleParts, IsTriplesAt, bitmap_triples}
+use Rattle.hdt_triples.specs.Views.{decode_triples}
 use Rattle.hdt_file.specs.Head.{HeadParts, IsHead, decode_head}
 
 -- a file, decoded: the bitmaps and arrays of its triples, and the width in bits of an entry of either array
@@ -35,7 +35,9 @@ pub record IsFile (file : FileParts) (bytes : List ℕ) : Type 0 where
   pub dictionary : IsDictionaryAt file.dictionary bytes file.head.end
   pub parts : TripleParts
   pub triples : IsTriplesAt (role_counts (lists_of_dictionary file.dictionary)) parts bytes file.dictionary.objects.end
-  pub view : triple_parts_view parts ≡ (file.triples, file.widths, length bytes)
+  pub lists : bitmap_triples parts ≡ file.triples
+  pub widths : (parts.array_y.offsets.width, parts.array_z.offsets.width) ≡ file.widths
+  pub end : parts.array_z.end ≡ length bytes
 
 -- decodes a file, or returns the first error
 unfoldable pub decode_file : List ℕ → Result FileParts Fault
