@@ -116,7 +116,7 @@ impl RoleStrings {
         if self.ids.get(*place) != Some(&n) {
             *place = self.ids.binary_search(&n).ok()?;
         }
-        if self.ids.get(*place) != Some(&n) || *place >= self.strings.len() {
+        if *place >= self.strings.len() {
             return None;
         }
         Some(self.strings.get(*place))
