@@ -189,8 +189,8 @@ fn take_matches(
 /// Adds the triples of a file, with the prefix before the labels of their strings. After an error, drop the collector.
 ///
 /// It does so in windows of as many triples as fit into a third of the memory, which is in bytes. Time: for each window
-/// it decodes the blocks that its strings are in, each once. Look-ups of each string would take quadratic time in a file
-/// with a large block.
+/// it decodes the blocks that its strings are in, each once. Look-ups of each string would take quadratic time in a
+/// file with a large block.
 pub(crate) fn collect_layout<C: Collector>(
     alloc: Global,
     prefix: &[u8],

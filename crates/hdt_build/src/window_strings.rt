@@ -26,7 +26,7 @@ pub(crate) fn relabel(alloc: Global, prefix: &[u8], string: &mut Vec<u8>) -> Res
     Ok(())
 }
 
-/// Replaces `out` by string n of a role, or by nothing if there is none.
+/// Replaces `out` by string n of a role; it becomes empty if the role has no string n.
 fn put_string(strings: &mut RoleSeeker<'_>, n: u64, out: &mut Vec<u8>) -> Result<(), AllocError>
     ensures same { strings.new ≡ strings.old }
     ensures ok { OnOk result ((g : GraphParts) (role : Role) → strings.old ≡ role_strings g.dictionary role
@@ -116,7 +116,7 @@ impl RoleStrings {
         if self.ids.get(*place) != Some(&n) {
             *place = self.ids.binary_search(&n).ok()?;
         }
-        if self.ids.get(*place) != Some(&n) || *place >= self.strings.len() {
+        if *place >= self.strings.len() {
             return None;
         }
         Some(self.strings.get(*place))
