@@ -7,17 +7,12 @@ use Rattle.hdt_wire.specs.Checks.{HasSlice}
 use Rattle.hdt_wire.specs.Control.{control, expected_control_info}
 use Rattle.hdt_wire.specs.Laws.Checks.{HasSlice-after, HasSlice-back, HasSlice-front}
 use Rattle.hdt_dict.specs.Dictionary.{IsDictionaryAt, lists_of_dictionary}
-use Rattle.hdt_triples.specs.TripleSequences.{BitmapTriples}
 use Rattle.hdt_file.specs.Head.{HeadParts, IsHead}
 use Rattle.hdt_file.specs.File.{FileParts, GraphParts, IsFile, IsLayout, graph_of_file, role_counts}
 use Rattle.hdt_build.specs.NewHeader.{ReplacesHeader, graph_with_header, new_control, with_length, with_new_header}
 use Rattle.hdt_build.proofs.HeaderProperties.{new_length, new_no_zero}
 use Rattle.hdt_build.proofs.MovedParts as moving
 use Rattle.hdt_build.proofs.MovedParts.{SameFrom, moved, moved_dictionary, moved_triples}
-
--- what is kept of the triples: their lists, the widths of entries, and the offset after them
-abbrev Kept : Type 0
-Kept = BitmapTriples × (ℕ × ℕ) × ℕ
 
 whole : (text : List ℕ) → HasSlice text 0 text (0 + length text)
 whole text = subst (λ (l : List ℕ). HasSlice l 0 text (0 + length text)) (append-nil text) (HasSlice-after [] text [])
@@ -125,7 +120,7 @@ module _ (body bytes : List ℕ) (file : FileParts) (is : IsFile file bytes) (sm
       let last = moving.after_triples bytes k new end s counts section file.dictionary.objects.end is.triples in
       let whole : moved k end section.array_z.end ≡ length new = omega (
         arith,
-        ap (λ (v : Kept). v.2) is.view,
+        is.end,
         moving.lens bytes k new end s,
         s.old_has,
         s.new_has,
@@ -138,8 +133,9 @@ module _ (body bytes : List ℕ) (file : FileParts) (is : IsFile file bytes) (sm
             (moving.dictionary bytes k new end s file.dictionary k (omega arith) is.dictionary);
         parts = moved_triples k end section;
         triples = moving.triples bytes k new end s counts section file.dictionary.objects.end after is.triples;
-        view = ap (λ (v : Kept). (let w : Kept = (v.0, v.1, moved k end section.array_z.end) in w)) is.view
-            ∙ ap (λ (n : ℕ). (let w : Kept = (file.triples, file.widths, n) in w)) whole;
+        lists = is.lists;
+        widths = is.widths;
+        end = whole;
       }
 
   pub new_layout : IsLayout (with_new_header file.head body bytes) (graph_with_header (graph_of_file file) body)
