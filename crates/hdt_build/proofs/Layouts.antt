@@ -150,10 +150,10 @@ module _ (header : List ℕ) (graph : List StringTriple) (b : ℕ) (d : SectionL
             (writable d ts form (some_triple graph d ts form some)) within
             (few bytes at (at + length D) small dict) many
             (subst (λ (a : ℕ). HasSlice bytes a T end) (sym place) last));
-        view = ap
-            (λ (n : ℕ). (bitmap_triples section, (section.array_y.offsets.width, section.array_z.offsets.width), n))
-            (triples_end (sequences_of ts) (canonical_dictionary_parts b d at).objects.end
-            ∙ ap (λ (a : ℕ). a + length T) place ∙ sym last.end_is ∙ whole);
+        lists = refl;
+        widths = refl;
+        end = triples_end (sequences_of ts) (canonical_dictionary_parts b d at).objects.end
+            ∙ ap (λ (a : ℕ). a + length T) place ∙ sym last.end_is ∙ whole;
       }
 
   file_graph : graph_of_file (file_of header b d ts) ≡ graph_parts_of header d ts
