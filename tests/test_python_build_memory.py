@@ -337,13 +337,18 @@ def test_ended_by_a_signal(name: str, tmp_path: Path, monkeypatch: pytest.Monkey
     (tmp_path / "a.ttl").write_text(TURTLE)
     shutil.copy(SAMPLES / "three.hdt", tmp_path / "a.hdt")
     before, child = sorted(os.listdir(tmp_path)), -1
+    ignored = signal.signal(number, signal.SIG_DFL)  # (tests that run after nohup ignore SIGHUP)
     with subprocess.Popen([sys.executable, *words], cwd=tmp_path, env={**os.environ, **ENVIRONMENT}) as process:
-        while child < 0 and process.poll() is None:
-            with suppress(OSError):  # (of a pipe that the child has not opened yet)
-                child = os.open(tmp_path / "pipe", os.O_WRONLY | os.O_NONBLOCK)
-            time.sleep(0.01)
-        process.send_signal(number)
-        assert process.wait(30) == 128 + number
+        signal.signal(number, ignored)
+        try:
+            while child < 0 and process.poll() is None:
+                with suppress(OSError):  # (of a pipe that the child has not opened yet)
+                    child = os.open(tmp_path / "pipe", os.O_WRONLY | os.O_NONBLOCK)
+                time.sleep(0.01)
+            process.send_signal(number)
+            assert process.wait(30) == 128 + number
+        finally:
+            process.kill()
     with pytest.raises(BrokenPipeError), open(child, "wb", buffering=0) as pipe:
         pipe.write(b"x")
     assert sorted(os.listdir(tmp_path)) == before

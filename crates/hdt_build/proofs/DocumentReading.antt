@@ -14,7 +14,7 @@ use Rattle.hdt_terms.specs.declared.triple.Triple.{Triple}
 use Rattle.hdt_build.specs.declared.fault.BuildFault.{BuildFault}
 use Rattle.hdt_terms.specs.Documents.{IsDocumentInput, TriplesSoFar, FaultInDocument}
 use Rattle.hdt_terms.specs.Lines.{EncodesTriple}
-use Rattle.hdt_terms.specs.LinesReader.{LinesState, TakesTriple, start, left}
+use Rattle.hdt_terms.specs.LinesReader.{LinesState, TakesTriple, start, unread_input}
 use Rattle.hdt_file.specs.Denoted.{StringTriple}
 use Rattle.hdt_build.specs.Graph.{subjects_of, predicates_of, objects_of}
 use Rattle.hdt_build.specs.Documents.{AddsDocument, is_blank_node, prefixed_strings, prefixed_triple}
@@ -149,13 +149,13 @@ triple_size x y old new triple t =
 
 pub run_begins : (known : Type 0) (prefix : List ℕ) (s : LinesState) (input : Option (List ℕ))
     (graph : List StringTriple)
-    → s ≡ start most → TriplesSoFar most (start most) input (left (start most) input) []
-    → IsReadSoFar known prefix s input (left s input) graph graph false
+    → s ≡ start most → TriplesSoFar most (start most) input (unread_input (start most) input) []
+    → IsReadSoFar known prefix s input (unread_input s input) graph graph false
 run_begins known prefix s input graph e h = record {
   triples = [];
   strings = λ _. sym (append-nil graph);
   blank_is = refl;
-  going = λ _. subst (λ (t : LinesState). TriplesSoFar most t input (left t input) []) (sym e) h;
+  going = λ _. subst (λ (t : LinesState). TriplesSoFar most t input (unread_input t input) []) (sym e) h;
   ended = λ end. absurd (let f : s.ended ≡ false = ap (λ (t : LinesState). t.ended) e in cc);
   end = λ end. absurd (let f : s.ended ≡ false = ap (λ (t : LinesState). t.ended) e in cc);
 }

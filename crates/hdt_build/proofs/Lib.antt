@@ -59,6 +59,8 @@ pub mod SectionBuilders
 pub mod TripleTapes
 pub mod RecordIds
 pub mod BatchEncoding
+pub mod Grouping
+pub mod FileBatches
 pub mod RecordBatches
 pub mod Outputs
 pub mod EntryWriting

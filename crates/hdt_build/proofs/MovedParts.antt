@@ -62,7 +62,7 @@ moved_dictionary k m d = record {
 
 abbrev pub moved_triples : ℕ → ℕ → TripleParts → TripleParts
 moved_triples k m t = record {
-  block = moved_control k m t.block;
+  control = moved_control k m t.control;
   bitmap_y = moved_sequence k m t.bitmap_y;
   bitmap_z = moved_sequence k m t.bitmap_z;
   array_y = moved_sequence k m t.array_y;
@@ -137,9 +137,9 @@ module _ (old : List ℕ) (k : ℕ) (new : List ℕ) (m : ℕ) (same : SameFrom 
             (omega arith) (omega arith) refl;
       }
 
-  block : (kind : Kind) (c : ControlInfo) (a : ℕ) → k ≤ a → IsControlAt kind c old a
+  control_info : (kind : Kind) (c : ControlInfo) (a : ℕ) → k ≤ a → IsControlAt kind c old a
       → IsControlAt kind (moved_control k m c) new (moved k m a)
-  block kind c a from h = record {
+  control_info kind c a from h = record {
     spelled = slice a (control kind c.properties) c.end from h.spelled;
     no_zero = h.no_zero;
     format = h.format;
@@ -197,14 +197,14 @@ module _ (old : List ℕ) (k : ℕ) (new : List ℕ) (m : ℕ) (same : SameFrom 
   pub dictionary : (d : DictionaryParts) (a : ℕ) → k ≤ a → IsDictionaryAt d old a
       → IsDictionaryAt (moved_dictionary k m d) new (moved k m a)
   dictionary d a from h =
-      let shared_from : k ≤ h.control.end = omega (arith, h.block.spelled.end_is) in
+      let shared_from : k ≤ h.control.end = omega (arith, h.control_is.spelled.end_is) in
       let subjects_from : k ≤ d.shared.end = omega (arith, after_section d.shared h.control.end h.shared) in
       let predicates_from : k ≤ d.subjects.end = omega (arith, after_section d.subjects d.shared.end h.subjects) in
       let objects_from : k ≤ d.predicates.end =
       omega (arith, after_section d.predicates d.subjects.end h.predicates) in
       record {
         control = moved_control k m h.control;
-        block = block kinds.Dictionary h.control a from h.block;
+        control_is = control_info kinds.Dictionary h.control a from h.control_is;
         shared = section d.shared h.control.end shared_from h.shared;
         subjects = section d.subjects d.shared.end subjects_from h.subjects;
         predicates = section d.predicates d.subjects.end predicates_from h.predicates;
@@ -218,7 +218,7 @@ module _ (old : List ℕ) (k : ℕ) (new : List ℕ) (m : ℕ) (same : SameFrom 
   after_dictionary d a h =
       omega (
         arith,
-        h.block.spelled.end_is,
+        h.control_is.spelled.end_is,
         after_section d.shared h.control.end h.shared,
         after_section d.subjects d.shared.end h.subjects,
         after_section d.predicates d.subjects.end h.predicates,
@@ -228,14 +228,14 @@ module _ (old : List ℕ) (k : ℕ) (new : List ℕ) (m : ℕ) (same : SameFrom 
   pub triples : (counts : Counts) (t : TripleParts) (a : ℕ) → k ≤ a → IsTriplesAt counts t old a
       → IsTriplesAt counts (moved_triples k m t) new (moved k m a)
   triples counts t a from h =
-      let first : k ≤ t.block.end = omega (arith, h.block.spelled.end_is) in
+      let first : k ≤ t.control.end = omega (arith, h.control.spelled.end_is) in
       let second : k ≤ t.bitmap_y.end = omega (arith, h.bitmap_y.spelled.in_order) in
       let third : k ≤ t.bitmap_z.end = omega (arith, h.bitmap_z.spelled.in_order) in
       let fourth : k ≤ t.array_y.end = omega (arith, h.array_y.spelled.in_order) in
       record {
-        block = block kinds.Triples t.block a from h.block;
+        control = control_info kinds.Triples t.control a from h.control;
         order = h.order;
-        bitmap_y = bitmap t.bitmap_y t.block.end first h.bitmap_y;
+        bitmap_y = bitmap t.bitmap_y t.control.end first h.bitmap_y;
         bitmap_z = bitmap t.bitmap_z t.bitmap_y.end second h.bitmap_z;
         array_y = log_sequence t.array_y t.bitmap_z.end third h.array_y;
         array_z = log_sequence t.array_z t.array_y.end fourth h.array_z;
@@ -246,7 +246,7 @@ module _ (old : List ℕ) (k : ℕ) (new : List ℕ) (m : ℕ) (same : SameFrom 
   after_triples counts t a h =
       omega (
         arith,
-        h.block.spelled.end_is,
+        h.control.spelled.end_is,
         h.bitmap_y.spelled.in_order,
         h.bitmap_z.spelled.in_order,
         h.array_y.spelled.in_order,

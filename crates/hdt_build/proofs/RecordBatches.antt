@@ -6,7 +6,7 @@ use Rattle.std.specs.List.{All, Contains}
 use Rattle.std.proofs.Math.Seq.{take-append_seam}
 use Rattle.std.proofs.lemmas.Bool.{cases_lt}
 use Rattle.std.proofs.lemmas.List.{get_or-append-add, get_or_append_left, get_or_default, get_or_push, length_push}
-use Rattle.std.proofs.lemmas.List.{map-append, map_push}
+use Rattle.std.proofs.lemmas.List.{length-map, map-append, map_push}
 use Rattle.std.proofs.lemmas.List.Elements.{All-append, All-contains, Contains-append_cases, Contains-append_left}
 use Rattle.std.proofs.lemmas.List.Elements.{Contains-append_right, Contains-get_or}
 use Rattle.hdt_wire.specs.declared.Role.{Role}
@@ -76,6 +76,11 @@ of_below : (n : ℕ) (ts : List Triple) (role : Role) (t : Triple) → AreBelow 
 of_below n ts Subject t h there = All-contains (λ (u : Triple). u.0 < n) ts t h.subjects there
 of_below n ts Predicate t h there = All-contains (λ (u : Triple). u.1 < n) ts t h.predicates there
 of_below n ts Object t h there = All-contains (λ (u : Triple). u.2 < n) ts t h.objects there
+
+plain_records : (g : List StringTriple) → plain_triples (map record_triple g) ≡ g
+plain_records [] = refl
+plain_records (t ∷ g) =
+    λ i. (plain_record Subject t.0 i, plain_record Predicate t.1 i, plain_record Object t.2 i) ∷ plain_records g i
 
 -- ---- one batch
 
@@ -292,3 +297,40 @@ module _ (known : Type 0) (runs : List (List (List ℕ))) (tss : List (List Trip
         ap (λ (l : List StringTriple). plain_triples (batch_triples (runs ++ run ∷ []) (tss ++ ts ∷ []))
         ++ plain_triples l) none
         ∙ (append-nil (plain_triples (batch_triples (runs ++ run ∷ []) (tss ++ ts ∷ []))) ∙ plain_are k)
+
+  -- the batch of a file is added, while the current one is empty
+  module _ (g : List StringTriple) (run : List (List ℕ)) (ts : List Triple)
+      (b : known → IsBatchOf (map record_triple g) run ts) (none : all ≡ []) where
+    file_are : known → batch_triples (runs ++ run ∷ []) (tss ++ ts ∷ []) ≡ batch_triples runs tss ++ map record_triple g
+    file_are k = triples_more runs tss run ts (h.finished k).long
+        ∙ ap (λ (l : List StringTriple). batch_triples runs tss ++ l) (b k).triples
+
+    file_plain : known → plain_triples (batch_triples (runs ++ run ∷ []) (tss ++ ts ∷ []))
+        ≡ plain_triples (batch_triples runs tss) ++ g
+    file_plain k = ap plain_triples (file_are k)
+        ∙ (map-append (λ (u : StringTriple). (plain u.0, plain u.1, plain u.2)) (batch_triples runs tss)
+        (map record_triple g)
+        ∙ ap (λ (l : List StringTriple). plain_triples (batch_triples runs tss) ++ l) (plain_records g))
+
+    pub file_had : 0 < length g → HaveRecords known (runs ++ run ∷ []) (tss ++ ts ∷ []) c
+    file_had filled = record {
+      sound = h.sound;
+      current = h.current;
+      finished = λ k. subst (AreBatches (runs ++ run ∷ []) (tss ++ ts ∷ [])) (sym (file_plain k))
+          (batch_added runs tss (plain_triples (batch_triples runs tss)) (h.finished k) g run ts (b k));
+      some = λ k e. absurd (omega (
+        arith,
+        ap length (end_empty (batch_triples runs tss) (map record_triple g) (sym (file_are k) ∙ e)),
+        length-map g record_triple,
+        filled,
+      ));
+    }
+
+    pub file_is : known → plain_triples (batch_triples (runs ++ run ∷ []) (tss ++ ts ∷ [])) ++ plain_triples all
+        ≡ (plain_triples (batch_triples runs tss) ++ plain_triples all) ++ g
+    file_is k =
+        let before = plain_triples (batch_triples runs tss) in
+        (λ i. file_plain k i ++ plain_triples (none i))
+        ∙ (append-nil (before ++ g)
+        ∙ ap (λ (l : List StringTriple). l ++ g)
+        (sym (append-nil before) ∙ ap (λ (l : List StringTriple). before ++ plain_triples l) (sym none)))

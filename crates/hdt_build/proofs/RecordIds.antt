@@ -18,7 +18,6 @@ use Rattle.hdt_build.specs.Inside.RecordMerging.{AreGroupsOf, AreMergedRecords}
 use Rattle.hdt_build.specs.Inside.Records.{AreRecordRuns, record_of, record_with, role_code}
 use Rattle.hdt_build.specs.Inside.Groups.{lists_of_states, SectionStates}
 use Rattle.hdt_build.specs.Inside.Rewriting.{IsIdOf}
-use Rattle.hdt_build.specs.Inside.TripleRuns.{joined_runs}
 use Rattle.hdt_build.proofs.Distinct.{Distinct-ascending}
 use Rattle.hdt_build.proofs.Groups.{role_id}
 use Rattle.hdt_build.proofs.RecordMerging.{in_joined}
@@ -112,6 +111,33 @@ module _ {X Y W : Type 0} (f : ℕ → X → Y) (g : ℕ → X → W) (d : Y) (e
       let here = now_within n x xs from now later in
       first_made from (nat_eq (r / 4) b) (r % 4) a.0 here (dealt f b a.0 a.1 es) (dealt g b a.0 a.1 es)
       (dealt_at from b a.0 a.1 es here (later_within n x xs from later)) i lt
+
+-- two functions make equally many elements
+module _ {X Y W : Type 0} (f : ℕ → X → Y) (g : ℕ → X → W) where
+  first_long : (own : Bool) (r : ℕ) (c : Option X)
+      → length (cond own (made_of f r c) []) ≡ length (cond own (made_of g r c) [])
+  unfolding made_of
+  first_long false r c = refl
+  first_long true r None = refl
+  first_long true r (Some x) = refl
+
+  dealt_long : (b : ℕ) (x : Option X) (xs : List X) (es : List ℕ)
+      → length (dealt f b x xs es) ≡ length (dealt g b x xs es)
+  unfolding dealt
+  dealt_long b x xs [] = refl
+  dealt_long b x xs (n ∷ []) = refl
+  dealt_long b x xs (n ∷ r ∷ es) =
+      let a = advanced n x xs in
+      let own = nat_eq (r / 4) b in
+      let one = cond own (made_of f (r % 4) a.0) [] in
+      let two = cond own (made_of g (r % 4) a.0) [] in
+      omega (
+        arith,
+        length-append one (dealt f b a.0 a.1 es),
+        length-append two (dealt g b a.0 a.1 es),
+        first_long own (r % 4) a.0,
+        dealt_long b a.0 a.1 es,
+      )
 
 -- ---- groups with their codes
 
@@ -220,6 +246,13 @@ module _ (known : Type 0) (n : ℕ) (runs : List (List (List ℕ))) (sections : 
       ap (λ (l : List (ℕ × ℕ)). dealt (id_of_codes (length d.shared)) b None l events)
       (ap pairs_of (sym (m.codes_are k records)) ∙ sym (coded_pairs d m.groups m.codes have))
       ∙ dealt_over (λ (z : Coded). z.1) (id_of_codes (length d.shared)) b None from events
+
+  pub record_count : (b : ℕ) → b < length runs → length (dealt_ids b) ≡ length (get_or runs b [])
+  record_count b lt =
+      ap length (ids_dealt b)
+      ∙ (dealt_long (λ r (z : Coded). id_of_codes (length d.shared) r z.1)
+      (λ r (z : Coded). record_with r z.0.text) b None from events
+      ∙ sym (ap length (texts_dealt b lt)))
 
   pub record_id : (b i : ℕ) → b < length runs → i < length (get_or runs b []) → (role : Role) (x : List ℕ)
       → get_or (get_or runs b []) i [] ≡ record_of role x → IsIdOf (role_strings d role) x (get_or (dealt_ids b) i 0)

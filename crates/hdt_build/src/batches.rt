@@ -1,15 +1,20 @@
 //! Triples in batches on scratch.
 ghost use Rattle.std.specs.Prelude.{◌≡◌, ◌<◌, ◌++◌, ◌∷◌, [], ℕ, List, length, IfOk, IfSome, IsFalse, IsTrue, OnOk};
 ghost use Rattle.hdt_triples.specs.TripleSequences.{Triple};
+ghost use Rattle.hdt_file.specs.Graph.{IsGraph, layout_view};
 ghost use Rattle.hdt_build.specs.Inside.Batches.{AreBatches, IsBatchOf, IsUsedIndex};
 ghost use Rattle.hdt_build.specs.Inside.Collecting.{IsValidCollector, collected_triples};
 ghost use Rattle.hdt_build.specs.Inside.Filtering.{AreFlagsOfRoles};
 ghost use Rattle.hdt_build.specs.Inside.Records.{record_of};
+ghost use Rattle.hdt_build.specs.Layouts.{denoted_by};
+ghost use Rattle.hdt_build.specs.Relabelling.{relabelled_triples};
 
 use crate::chunks::{fail_if, push_item};
 use crate::collector::TripleCollector;
 use crate::dedup::dedup_strings;
+use crate::file_batch::file_batch;
 use crate::packed_strings::PackedStrings;
+use crate::record_runs::RecordRuns;
 use crate::role_flags::{RoleFlags, flags_of_slice};
 use crate::scratch::Scratch;
 use crate::string_tape::{StringTape, StringWriter};
@@ -17,13 +22,14 @@ use crate::triple_runs::written;
 use crate::triple_tape::{TripleTape, TripleWriter};
 use crate::triples::map_ids;
 use hdt_dict::Role;
+use hdt_file::Layout;
 use std::alloc::{AllocError, Global};
 use std::marker::Model;
 use std::mem;
 
 /// Replaces `out` by the record of a string with a role.
 #[tactic(auto, using(std::proofs::Common::append_assoc))]
-fn put_record(text: &[u8], role: Role, out: &mut Vec<u8>) -> Result<(), AllocError>
+pub(crate) fn put_record(text: &[u8], role: Role, out: &mut Vec<u8>) -> Result<(), AllocError>
     ensures { OnOk result (out.new.items ≡ record_of role text.now) }
 {
     let number = match role {
@@ -114,7 +120,7 @@ fn written_batch<S: Scratch + Drop>(
     collector: TripleCollector,
     scratch: &mut S,
     chunk_len: usize,
-) -> Result<Option<(StringTape<S>, TripleTape<S>)>, S::Error>
+) -> Result<Option<(RecordRuns<S>, TripleTape<S>)>, S::Error>
     requires { IsValidCollector collector }
     ensures { IfOk result (λ found. IfSome found
         (λ made. S.IsKnown → IsBatchOf (collected_triples collector) made.0 made.1)) }
@@ -123,10 +129,11 @@ fn written_batch<S: Scratch + Drop>(
         return Ok(None);
     };
     let out = StringWriter::new(alloc, scratch.fresh()?, chunk_len);
-    let records = written_strings(alloc, &records, out)?;
+    let mut runs = RecordRuns::new(alloc);
+    runs.push(written_strings(alloc, &records, out)?)?;
     let out = TripleWriter::new(alloc, scratch.fresh()?, chunk_len);
     let triples = written(triples.as_slice(), out)?;
-    Ok(Some((records, triples)))
+    Ok(Some((runs, triples)))
 }
 
 /// The triples so far. In contracts it is the list of them; after an error it is empty.
@@ -139,8 +146,8 @@ pub(crate) struct Batches<S: Scratch> {
     chunk_len: usize,
     /// The current batch: triples of records.
     collector: TripleCollector,
-    /// The records of each finished batch, each once.
-    records: Vec<StringTape<S>>,
+    /// The records of each finished batch.
+    records: Vec<RecordRuns<S>>,
     /// The triples of each finished batch, as indices of its records.
     triples: Vec<TripleTape<S>>,
     /// The records of a triple.
@@ -218,6 +225,11 @@ impl<S: Scratch + Drop> Batches<S> {
         self.collector.is_empty()
     }
 
+    /// The number of finished batches.
+    pub(crate) fn count(&self) -> usize {
+        self.records.len()
+    }
+
     /// An estimate of the bytes that the current batch takes, also while it is sorted.
     pub(crate) fn memory(&self) -> usize {
         self.collector.memory()
@@ -225,7 +237,7 @@ impl<S: Scratch + Drop> Batches<S> {
 
     /// The scratch, and the records and the triples of each batch. None if there are triples that were not flushed, or
     /// after an error.
-    pub(crate) fn into_parts(self) -> Option<(S, Vec<StringTape<S>>, Vec<TripleTape<S>>)>
+    pub(crate) fn into_parts(self) -> Option<(S, Vec<RecordRuns<S>>, Vec<TripleTape<S>>)>
         ensures { IfSome result (λ made. S.IsKnown → AreBatches made.1.items made.2.items self) }
     {
         let Batches {
@@ -273,5 +285,34 @@ impl<S: Scratch + Drop> Batches<S> {
         push_item(&mut self.triples, triples)?;
         self.has_failed = false;
         Ok(true)
+    }
+
+    /// Adds the triples of a file as a batch, with the prefix before the labels of their strings. Returns false, with
+    /// no triple added, if the file has a string that no triple uses, or if there are triples that were not flushed.
+    pub(crate) fn add_file(
+        &mut self,
+        alloc: Global,
+        prefix: &[u8],
+        layout: &Layout<'_>,
+    ) -> Result<bool, S::Error>
+        requires { IsGraph (layout_view layout.now) }
+        ensures added { IfOk result (λ done. IsTrue done → S.IsKnown
+            → self.new ≡ self.old ++ relabelled_triples prefix.now (denoted_by (layout_view layout.now))) }
+        ensures none { IfOk result (λ done. IsFalse done → S.IsKnown → self.new ≡ self.old) }
+    {
+        fail_if(self.has_failed)?;
+        if !self.collector.is_empty() {
+            return Ok(false);
+        }
+        self.has_failed = true;
+        let found = file_batch(alloc, prefix, layout, &mut self.scratch, self.chunk_len)?;
+        if let Some((records, triples)) = found {
+            push_item(&mut self.records, records)?;
+            push_item(&mut self.triples, triples)?;
+            self.has_failed = false;
+            return Ok(true);
+        }
+        self.has_failed = false;
+        Ok(false)
     }
 }

@@ -34,7 +34,7 @@ pub(crate) fn flags_of_slice(
 }
 
 /// Sets the flag at an index. One past the end changes nothing.
-fn set_flag(flags: &mut Vec<bool>, id: u64)
+pub(crate) fn set_flag(flags: &mut Vec<bool>, id: u64)
     ensures len { length flags.new.items ≡ length flags.old.items }
     ensures is { (n : ℕ) → n < length flags.old.items → (slice_index_or flags.new.items n false ≡ true)
         ↔ ((id ≡ n) ⊎ (slice_index_or flags.old.items n false ≡ true)) }

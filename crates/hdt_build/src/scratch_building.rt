@@ -46,6 +46,25 @@ fn flush<S: Scratch + Drop>(batches: &mut Batches<S>) -> Result<(), ScratchFault
     }
 }
 
+/// Adds the triples of a file, as [`Batches::add_file`] does.
+fn add_file<S: Scratch + Drop>(
+    alloc: Global,
+    prefix: &[u8],
+    layout: &Layout<'_>,
+    batches: &mut Batches<S>,
+) -> Result<bool, ScratchFault<S::Error>>
+    requires { IsGraph (layout_view layout.now) }
+    ensures added { IfOk result (λ done. IsTrue done → S.IsKnown
+        → batches.new ≡ batches.old ++ relabelled_triples prefix.now (denoted_by (layout_view layout.now))) }
+    ensures none { IfOk result (λ done. IsFalse done → S.IsKnown → batches.new ≡ batches.old) }
+    ensures memory { IfErr result (IfBuildFault (λ e. e ≡ BuildFault.OutOfMemory)) }
+{
+    match batches.add_file(alloc, prefix, layout) {
+        Ok(added) => Ok(added),
+        Err(error) => Err(ScratchFault::Scratch(error)),
+    }
+}
+
 impl<S: Scratch + Drop> Collector for LimitedBatches<S> {
     type Error = S::Error;
 
@@ -68,6 +87,54 @@ impl<S: Scratch + Drop> Collector for LimitedBatches<S> {
         }
         flush(&mut self.batches)
     }
+}
+
+/// The number of batches from which on files are added in windows. A file that is one batch has up to six lists of
+/// records, and each list that is read has a chunk in memory.
+const MAX_FILE_BATCHES: usize = 64;
+
+/// Adds the triples of a file in windows.
+fn in_windows<S: Scratch + Drop>(
+    alloc: Global,
+    prefix: &[u8],
+    layout: &Layout<'_>,
+    memory: usize,
+    batches: Batches<S>,
+) -> Result<Batches<S>, ScratchFault<S::Error>>
+    requires { IsGraph (layout_view layout.now) }
+    ensures added { IfOk result (λ made. S.IsKnown
+        → made ≡ batches ++ relabelled_triples prefix.now (denoted_by (layout_view layout.now))) }
+    ensures memory { IfErr result (IfBuildFault (λ e. e ≡ BuildFault.OutOfMemory)) }
+{
+    let limit = memory / 2;
+    let mut limited = LimitedBatches { batches, limit };
+    collect_layout(alloc, prefix, layout, memory, &mut limited)?;
+    let LimitedBatches { batches, limit: _ } = limited;
+    Ok(batches)
+}
+
+/// Adds the triples of a file: as one batch, or else in windows.
+fn with_file<S: Scratch + Drop>(
+    alloc: Global,
+    prefix: &[u8],
+    layout: &Layout<'_>,
+    memory: usize,
+    batches: Batches<S>,
+) -> Result<Batches<S>, ScratchFault<S::Error>>
+    requires { IsGraph (layout_view layout.now) }
+    ensures added { IfOk result (λ made. S.IsKnown
+        → made ≡ batches ++ relabelled_triples prefix.now (denoted_by (layout_view layout.now))) }
+    ensures memory { IfErr result (IfBuildFault (λ e. e ≡ BuildFault.OutOfMemory)) }
+{
+    if batches.count() >= MAX_FILE_BATCHES {
+        return in_windows(alloc, prefix, layout, memory, batches);
+    }
+    let mut batches = batches;
+    flush(&mut batches)?;
+    if add_file(alloc, prefix, layout, &mut batches)? {
+        return Ok(batches);
+    }
+    in_windows(alloc, prefix, layout, memory, batches)
 }
 
 /// The length of a chunk of scratch in bytes, given the memory. Each chunk has an entry in a table in memory, and each
@@ -152,9 +219,11 @@ impl<S: Scratch + Drop> ScratchBuilder<S> {
     /// returned: `layouts_are_graphs` says that it is a graph. It is not needed after the call. The prefix is UTF-8
     /// without zero bytes. After an error the builder is dropped.
     ///
-    /// Time: the triples are read in windows of at most memory / 512 triples, or fewer if their strings are long. For
-    /// each window the blocks that its strings are in are decoded, each once, and its IDs are sorted; so a window takes
-    /// at most the time of decoding all strings. Each batch of triples is sorted.
+    /// Time: one pass over the strings and the triples, if each string is used and there are fewer than 64 batches;
+    /// later each part of the triples is sorted. Else the triples are read in windows of at most memory / 512 triples,
+    /// or fewer if their strings are long. For each window the blocks that its strings are in are decoded, each once,
+    /// and its IDs are sorted; so a window takes at most the time of decoding all strings. Each batch of triples is
+    /// sorted.
     ///
     /// # Errors
     ///
@@ -175,12 +244,7 @@ impl<S: Scratch + Drop> ScratchBuilder<S> {
         ensures fault { IfErr result (IfBuildFault (λ e. e ≡ BuildFault.OutOfMemory)) }
     {
         let ScratchBuilder { batches, memory } = self;
-        let mut limited = LimitedBatches {
-            batches,
-            limit: memory / 2,
-        };
-        collect_layout(alloc, prefix, layout, memory, &mut limited)?;
-        let LimitedBatches { batches, limit: _ } = limited;
+        let batches = with_file(alloc, prefix, layout, memory, batches)?;
         Ok(ScratchBuilder { batches, memory })
     }
 

@@ -75,7 +75,7 @@ pub record BuildsBytes (text base : List ℕ) (b : ℕ) (out : HdtBytes) (report
 -- there are no bytes, and the report is that of the error
 pub record FailsToBuild (text base : List ℕ) (b : ℕ) (out : HdtBytes) (reported : HdtReport) : Type 0 where
   pub fault : BuildFault
-  pub stands : HasBuildFault text base b fault
+  pub is_fault : HasBuildFault text base b fault
   pub made : HoldsNoBytes out
   pub is_reported : reported ≡ report_of_fault fault
 

@@ -86,7 +86,7 @@ pub record MergesBytes (triples : List StringTriple) (base : List ℕ) (b : ℕ)
 pub record FailsToMerge (handles : List HdtGraph) (base : List ℕ) (b : ℕ) (out : HdtBytes)
     (reported : HdtReport) : Type 0 where
   pub reason : ℕ
-  pub stands : RefusesMerging handles base b reason
+  pub is_fault : RefusesMerging handles base b reason
   pub made : HoldsNoBytes out
   pub is_reported : reported ≡ report_for reason
 

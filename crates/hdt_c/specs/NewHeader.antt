@@ -40,7 +40,7 @@ pub record HoldsNewHeader (header bytes : List ℕ) (out : HdtBytes) (v : HdtVer
 -- there are no bytes, and verdict and report are those of the error
 pub record FailsToReplace (header bytes : List ℕ) (out : HdtBytes) (v : HdtVerdict) (r : HdtReport) : Type 0 where
   pub fault : HeaderFault
-  pub stands : IsHeaderFaultOf header bytes fault
+  pub is_fault : IsHeaderFaultOf header bytes fault
   pub made : HoldsNoBytes out
   pub verdict : v ≡ verdict_of_header_fault fault
   pub report : r ≡ report_of_header_fault fault

@@ -42,7 +42,7 @@ pub record HoldsText (g : GraphParts) (found : List Triple) (out : HdtBytes) (ou
 -- which its role allows, or that memory ran out
 pub record HoldsNoText (g : GraphParts) (found : List Triple) (out : HdtBytes) (outcome : HdtTextResult) : Type 0 where
   pub fault : DumpFault
-  pub stands : ReportsFirstNonTerm g found fault
+  pub is_fault : ReportsFirstNonTerm g found fault
   pub bytes : HoldsNoBytes out
   pub is_reported : outcome ≡ text_result_of_fault fault
 

@@ -67,7 +67,7 @@ AreDisjoint xs ys = (x : List ℕ) → Contains xs x → Contains ys x → ⊥
 -- is in two of shared, subjects and objects.
 pub record IsDictionaryAt (d : DictionaryParts) (bytes : List ℕ) (at : ℕ) : Type 0 where
   pub control : ControlInfo
-  pub block : IsControlAt kinds.Dictionary control bytes at
+  pub control_is : IsControlAt kinds.Dictionary control bytes at
   pub shared : IsSectionAt d.shared bytes control.end
   pub subjects : IsSectionAt d.subjects bytes d.shared.end
   pub predicates : IsSectionAt d.predicates bytes d.subjects.end

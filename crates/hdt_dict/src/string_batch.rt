@@ -14,9 +14,9 @@ use std::alloc::{AllocError, Global};
 
 /// Whether all ids are valid IDs: from 1 to `count`.
 pub(crate) fn are_ids(ids: &[u64], count: u64) -> bool
-    ensures yes { result ≡ true → (i : ℕ) → i < length ids.now → (1 ≤ slice_index ids.now i)
+    ensures if_true { result ≡ true → (i : ℕ) → i < length ids.now → (1 ≤ slice_index ids.now i)
         × (slice_index ids.now i ≤ count) }
-    ensures no { result ≡ false
+    ensures if_false { result ≡ false
         → ((i : ℕ) → i < length ids.now → (1 ≤ slice_index ids.now i) × (slice_index ids.now i ≤ count)) → ⊥ }
 {
     for at in 0..ids.len() {

@@ -6,7 +6,7 @@ use hdt_triples::{Counts, IndexedTriples, Triples};
 use hdt_wire::Fault;
 use std::alloc::{AllocError, Global};
 
-/// The file, with one triple. Its triples section begins at byte 369, and in it the first bitmap at byte 425.
+/// The file, with one triple. Its triples part begins at byte 369, and in it the first bitmap at byte 425.
 static FILE: &[u8] =
     b"$HDT\x01<http://purl.org/HDT/hdt#HDTv1>\x00\x00v5$HDT\x02ntriples\x00length=150;\x00\x0EM<http://a/> <http://www.w3.org/1999/02/22-rdf-syntax-ns#type> <http://purl.org/HDT/hdt#Dataset> .\n<http://a/> <http://rdfs.org/ns/void#triples> \"1\" .\n$HDT\x03<http://purl.org/HDT/hdt#dictionaryFour>\x00mapping=1;\x00\x82\xB8\x02\x81\x8A\x90\x81\x01\x04\x82\xB8\xA0\xF7\xE66\xF0http://a/\x00\xF4\x81z\xD4\x02\x80\x80\x90h\x01\x01\x81\xF0\x00QS}R\x00\x00\x00\x00\x02\x81\x8A\x90\x81\x01\x04\x82\xB8\xA0\xF7\xE66\xF0http://a/\x00\xF4\x81z\xD4\x02\x80\x80\x90h\x01\x01\x81\xF0\x00QS}R\x00\x00\x00\x00$HDT\x04<http://purl.org/HDT/hdt#triplesBitmap>\x00order=1;\x00Y\xE9\x01\x81\x9B\x01R\xD0\x16\xA0\x01\x81\x9B\x01R\xD0\x16\xA0\x01\x01\x81\xF0\x01R\xD0\x16\xA0\x01\x01\x81\xF0\x01R\xD0\x16\xA0";
 

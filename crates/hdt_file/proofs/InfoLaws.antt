@@ -83,7 +83,7 @@ all_summed s w total i le h = omega (arith, h.all, none_left w.ahead (omega (ari
 control_is : (file : FileParts) (bytes : List ℕ) → IsBytes bytes → (is : IsFile file bytes)
     → control_at kinds.Dictionary bytes file.head.end ≡ Ok is.dictionary.control
 control_is file bytes fits is =
-    (control_exact kinds.Dictionary bytes file.head.end fits).only is.dictionary.control is.dictionary.block
+    (control_exact kinds.Dictionary bytes file.head.end fits).only is.dictionary.control is.dictionary.control_is
 
 -- the bytes that a layout was read from have that control information
 pub some_control : (file : FileParts) (bytes : List ℕ) (fault : Fault) → IsBytes bytes → length bytes < 2 ^ 64

@@ -51,7 +51,8 @@ pub record IsHead (head : HeadParts) (bytes : List ℕ) : Type 0 where
   pub stated : StatesLength head.header.properties (length head.body)
   pub body : HasSlice bytes head.header.end head.body head.end
 
--- the value of the property `length`, or an error if it is missing or not a decimal number below 2 ^ 64
+-- the value of the property `length`, or an error if it is missing or not a decimal number below 2 ^ 64 (the input is
+-- shorter than that, so no body has such a length)
 abbrev pub body_length : ControlInfo → Result ℕ Fault
 body_length header = ok_or (option_and_then decimal_number (property_value header.properties (codes "length")))
     (record { place = header.properties_at; reason = HeaderLength })

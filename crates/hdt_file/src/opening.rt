@@ -48,7 +48,8 @@ pub fn open<'a>(alloc: Global, bytes: &'a [u8]) -> Result<Graph<'a>, OpenFault>
     // If the bytes encode a graph, it is returned, unless memory ran out.
     ensures only { (graph : GraphParts) → IsLayout bytes.now graph
         → ReadsUnlessOom open_fault_of graph_view result (Ok graph) }
-    // Otherwise it is the first error.
+    // The result is what the checks in order give, the graph or the first error, unless memory ran out. So if the bytes
+    // encode a graph, the only error is out of memory.
     ensures exact { ReadsUnlessOom open_fault_of graph_view result (decode_graph bytes.now) }
     // Its parts are those that the bytes encode; the costs of its calls depend on them.
     ensures parts { ReadsUnlessOom open_fault_of parts_of_graph result (decode_file bytes.now) }
@@ -65,7 +66,7 @@ pub fn verify(alloc: Global, bytes: &[u8]) -> Result<[u64; 5], OpenFault>
     // If the bytes encode a graph, its counts are returned, unless memory ran out.
     ensures only { (graph : GraphParts) → IsLayout bytes.now graph
         → ReadsUnlessOom open_fault_of (λ lens. lens) result (Ok (graph_counts graph)) }
-    // Otherwise it is the first error.
+    // The result is what the checks in order give: these counts or the first error, unless memory ran out.
     ensures exact { ReadsUnlessOom open_fault_of (λ lens. lens) result (viewed graph_counts (decode_graph bytes.now)) }
 {
     let layout = Layout::read(alloc, bytes)?;

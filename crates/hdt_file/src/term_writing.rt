@@ -131,7 +131,7 @@ impl CachedTerm {
     }
 
     /// Appends string n of a role as it is written in a line, and caches it.
-    fn put(
+    fn append_and_cache(
         &mut self,
         layout: &Layout<'_>,
         role: Role,
@@ -152,7 +152,7 @@ impl CachedTerm {
     }
 
     /// Caches string n, which is written as `text`.
-    fn set(&mut self, n: u64, text: &[u8]) -> Result<(), AllocError>
+    fn store(&mut self, n: u64, text: &[u8]) -> Result<(), AllocError>
         ensures id { OnOk result (self.new.id ≡ Some n) }
         ensures text { OnOk result (self.new.text.items ≡ text.now) }
         ensures err { OnErr result (self.new.id ≡ None) }
@@ -196,7 +196,7 @@ fn cache_predicate(slots: &mut Vec<CachedTerm>, n: u64, text: &[u8]) -> Result<(
 {
     let at = slot_of(n);
     if at < slots.len() && text.len() <= MAX_CACHED_LEN && slots[at].id.is_none() {
-        slots[at].set(n, text)?;
+        slots[at].store(n, text)?;
     }
     Ok(())
 }
@@ -278,7 +278,7 @@ impl TermWriter {
             return Ok(out.extend_from_slice(text)?);
         }
         self.predicate
-            .put(layout, Role::Predicate, n, &mut self.string, out)?;
+            .append_and_cache(layout, Role::Predicate, n, &mut self.string, out)?;
         Ok(cache_predicate(&mut self.cached_predicates, n, &self.predicate.text)?)
     }
 
@@ -299,7 +299,7 @@ impl TermWriter {
         if self.last_object == n {
             return self
                 .object
-                .put(layout, Role::Object, n, &mut self.string, out);
+                .append_and_cache(layout, Role::Object, n, &mut self.string, out);
         }
         self.last_object = n;
         append_string_as_term(layout, Role::Object, n, &mut self.string, out)
@@ -320,7 +320,13 @@ pub(crate) fn append_line(
     ensures left { OnErr result (IsPrefixOf out.old.items out.new.items) }
 {
     let (subject, predicate, object) = triple;
-    term_writer.subject.put(layout, Role::Subject, subject, &mut term_writer.string, out)?;
+    term_writer.subject.append_and_cache(
+        layout,
+        Role::Subject,
+        subject,
+        &mut term_writer.string,
+        out,
+    )?;
     term_writer.put_predicate(layout, predicate, out)?;
     term_writer.put_object(layout, object, out)
 }

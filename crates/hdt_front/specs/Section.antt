@@ -1,6 +1,6 @@
 -- Dictionary sections (rdfhdt.org, "HDT binary format", Plain Front Coding): the type byte 2; as VBytes the number of
--- strings, the size of the front-coded bytes, and the block size; the CRC-8 of these; the block offsets as a log
--- sequence; the front-coded bytes with their CRC-32C.
+-- strings, the size of the front-coded bytes, and the block size; the CRC-8 of all these, the type byte too; the block
+-- offsets as a log sequence; the front-coded bytes with their CRC-32C.
 use Rattle.std.specs.Prelude.{◌≡◌, ℕ, zero, suc, ◌+◌, ◌-◌, ◌*◌, ◌/◌, ◌<◌, ◌==◌, ◌||◌, ◌⊎◌, not, Bool, nat_lt, nat_le}
 use Rattle.std.specs.Prelude.{List, [], ◌∷◌, ◌++◌, length, slice_index, slice_index_or, slice_range, take, true, Result}
 use Rattle.std.specs.Prelude.{Ok}
@@ -57,15 +57,15 @@ pub record AreSectionStrings (strings : List (List ℕ)) : Type 0 where
   pub no_zero : (i : ℕ) → i < length strings → HasNoZero (slice_index_or strings i [])
   pub ascend : IsAscending strings
 
--- The number of block offsets is valid for n strings: one for each block, and the end. Without strings there is none,
--- or the single block offset 0.
+-- There are as many block offsets as n strings need: one for each block, and the end. Without strings there is none, or
+-- the single block offset 0, which is the end.
 abbrev pub HasBlockOffsets : ℕ → ℕ → List ℕ → Type 0
 HasBlockOffsets zero block_size starts = (starts ≡ []) ⊎ (starts ≡ 0 ∷ [])
 HasBlockOffsets (suc n) block_size starts = length starts ≡ block_count (suc n) block_size + 1
 
 -- The section is encoded at the offset.
 pub record IsSectionAt (s : SectionParts) (bytes : List ℕ) (at : ℕ) : Type 0 where
-  -- the offsets of the numbers after the first, of the CRC-8, and of the block offsets
+  -- the byte offsets of the three parts of the preamble after the number of strings, and of the block offsets
   pub size_offset : ℕ
   pub block_size_offset : ℕ
   pub crc_offset : ℕ
@@ -134,10 +134,10 @@ preamble_at bytes at = do
   count ← vbyte_at bytes kind.1
   size ← vbyte_at bytes count.1
   block ← vbyte_at bytes size.1
-  start ← crc8_at bytes at block.1
+  starts_offset ← crc8_at bytes at block.1
   _ ← demand (count.0 == 0 || nat_lt 0 block.0) size.1 BlockSize
   _ ← demand (not (count.0 == 0) || size.0 == 0) count.1 PackedLength
-  Ok (record { count = count.0; size = size.0; block_size = block.0; starts_offset = start })
+  Ok (record { count = count.0; size = size.0; block_size = block.0; starts_offset = starts_offset })
 
 -- The checks before those of the strings, in order.
 unfoldable pub packed_parts_at : List ℕ → ℕ → Result PackedParts Fault

@@ -52,8 +52,8 @@ fn is_ascii_or_utf8(ascii: bool, text: &[u8]) -> bool
 fn is_char_boundary(string: &[u8], at: usize) -> bool
     requires within { at ≤ length string.now }
     requires utf8 { is_utf8 string.now ≡ true }
-    ensures yes { result ≡ true → IsCharBoundary string.now at }
-    ensures no { result ≡ false → 0 < at }
+    ensures if_true { result ≡ true → IsCharBoundary string.now at }
+    ensures if_false { result ≡ false → 0 < at }
 {
     if at == 0 {
         return true;

@@ -26,7 +26,7 @@ pub(crate) struct PackedStrings<'a> {
     pub(crate) count: u64,
     pub(crate) block_size: u64,
     pub(crate) packed_at: usize,
-    ghost counted: { count < 2 ^ 64 },
+    ghost count_fits: { count < 2 ^ 64 },
     ghost sized: { block_size < 2 ^ 64 },
     ghost some: { 0 < count → 1 ≤ block_size },
     ghost many: { 0 < count → length (numbers_of block_offsets) ≡ block_count count block_size + 1 },

@@ -22,22 +22,33 @@ fn slice_len_is_below_2_63(bytes: &[u8])
     ensures { length bytes.now < 2 ^ 63 }
 {}
 
-/// Whether a string is less than the searched one; or, with `past`, begins with it. Their order and the length of their
-/// longest common prefix decide this.
+/// Which strings a search counts as before the searched one.
+#[derive(Clone, Copy)]
+pub(crate) enum Bound {
+    /// Those that are less.
+    Lower,
+    /// Those that are less or begin with it.
+    Upper,
+}
+
+/// Whether a string is before the searched one, by their order and the length of their longest common prefix.
 #[inline(always)]
-fn is_before(order: Ordering, lcp: usize, x: &[u8], past: bool) -> bool
-    ensures { result ≡ is_before_by past (length x.now) order lcp }
+fn is_before(order: Ordering, lcp: usize, x: &[u8], bound: Bound) -> bool
+    ensures { result ≡ is_before_by bound (length x.now) order lcp }
 {
-    order.is_lt() || past && lcp == x.len()
+    match bound {
+        Bound::Lower => order.is_lt(),
+        Bound::Upper => order.is_lt() || lcp == x.len(),
+    }
 }
 
 /// How a string compares with the searched one, by their order and the length of their longest common prefix.
 #[inline(always)]
-fn probe(order: Ordering, lcp: usize, x: &[u8], past: bool) -> EntryProbe
+fn probe(order: Ordering, lcp: usize, x: &[u8], bound: Bound) -> EntryProbe
     ensures { (string : List ℕ) → order ≡ string_cmp string x.now → lcp ≡ lcp_len string x.now
-        → IsEntryProbe past string x.now result }
+        → IsEntryProbe bound string x.now result }
 {
-    if is_before(order, lcp, x, past) {
+    if is_before(order, lcp, x, bound) {
         EntryProbe::Before(lcp)
     } else if order.is_eq() {
         EntryProbe::Same
@@ -49,17 +60,17 @@ fn probe(order: Ordering, lcp: usize, x: &[u8], past: bool) -> EntryProbe
 /// How the string of an entry compares, given that the previous string is before and shares `same` bytes with the
 /// searched one. A string that shares more with the previous one compares as that one.
 #[inline(always)]
-fn probe_entry(kept: u64, text: &[u8], same: usize, x: &[u8], past: bool) -> EntryProbe
+fn probe_entry(kept: u64, text: &[u8], same: usize, x: &[u8], bound: Bound) -> EntryProbe
     requires { same ≤ length x.now }
-    ensures { (last : List ℕ) → kept ≤ length last → IsBefore past last x.now same
-        → IsEntryProbe past (take kept last ++ text.now) x.now result }
+    ensures { (last : List ℕ) → kept ≤ length last → IsBefore bound last x.now same
+        → IsEntryProbe bound (take kept last ++ text.now) x.now result }
 {
     if kept > same as u64 {
         return EntryProbe::Before(same);
     }
     let kept = kept as usize;
     let (order, lcp_len) = cmp_with_lcp(text, x.split_at(kept).1);
-    probe(order, kept + lcp_len, x, past)
+    probe(order, kept + lcp_len, x, bound)
 }
 
 impl<'a> Section<'a> {
@@ -99,40 +110,40 @@ impl<'a> Section<'a> {
     /// Finds the last block whose first string is before, by binary search. A first string between the two bounds
     /// shares with the searched one at least what both bounds do, so those bytes are not compared again.
     #[tactic(auto, using(hdt_seq::specs::Laws::Width::digits_split))]
-    fn find_block(&self, x: &[u8], past: bool, steps: &mut Steps) -> BlockProbe<'a>
+    fn find_block(&self, x: &[u8], bound: Bound, steps: &mut Steps) -> BlockProbe<'a>
         requires some { 0 < blocks_of self.now }
         requires sought { len_before_zero x.now ≡ length x.now }
-        ensures is { IsBlockProbe past (strings_of self.now) self.now.packed.block_size
+        ensures is { IsBlockProbe bound (strings_of self.now) self.now.packed.block_size
             (blocks_of self.now) self.now.packed.bytes.now x.now result }
         ensures cost { steps.new ≤ steps.old + digits (blocks_of self.now) }
         ensures more { steps.old ≤ steps.new }
     {
         let mut low = 0;
         let mut high = self.blocks();
-        let mut same = 0;
-        let mut above = 0;
+        let mut low_lcp = 0;
+        let mut high_lcp = 0;
         let mut last = self.packed.bytes;
         while low < high {
             let middle = low + (high - low) / 2;
-            let from = same.min(above);
+            let from = low_lcp.min(high_lcp);
             let (order, lcp_len, head) = self.compare_head(middle, x, from, steps);
-            match probe(order, lcp_len, x, past) {
+            match probe(order, lcp_len, x, bound) {
                 EntryProbe::Same => return BlockProbe::Head(middle),
                 EntryProbe::Before(lcp_len) => {
                     low = middle + 1;
-                    same = lcp_len;
+                    low_lcp = lcp_len;
                     last = head;
                 }
                 EntryProbe::After => {
                     high = middle;
-                    above = lcp_len;
+                    high_lcp = lcp_len;
                 }
             }
         }
         if low == 0 {
             BlockProbe::Before
         } else {
-            BlockProbe::Inside(low - 1, same, after_text(last))
+            BlockProbe::Inside(low - 1, low_lcp, after_text(last))
         }
     }
 
@@ -156,12 +167,12 @@ impl<'a> Section<'a> {
         same: usize,
         rest: &'a [u8],
         x: &[u8],
-        past: bool,
+        bound: Bound,
         steps: &mut Steps,
     ) -> Result<u64, u64>
-        requires is { IsBlockProbe past (strings_of self.now) self.now.packed.block_size
+        requires is { IsBlockProbe bound (strings_of self.now) self.now.packed.block_size
             (blocks_of self.now) self.now.packed.bytes.now x.now (BlockProbe.Inside block same rest) }
-        ensures place { IsPosition past (strings_of self.now) x.now result }
+        ensures place { IsPosition bound (strings_of self.now) x.now result }
         ensures cost { steps.new ≤ steps.old + (self.now.packed.block_size - 1) }
         ensures more { steps.old ≤ steps.new }
     {
@@ -172,7 +183,7 @@ impl<'a> Section<'a> {
         let mut rest = rest;
         for i in 1..many {
             let (kept, text, after) = Section::read_entry(rest, steps);
-            match probe_entry(kept, text, same, x, past) {
+            match probe_entry(kept, text, same, x, bound) {
                 EntryProbe::Same => return Ok(first + i),
                 EntryProbe::After => return Err(first + i),
                 EntryProbe::Before(lcp_len) => {
@@ -184,20 +195,19 @@ impl<'a> Section<'a> {
         Err(first + many)
     }
 
-    /// Returns the index of a string, or how many strings are before it; with `past`, those that begin with it count as
-    /// before, too.
-    fn search(&self, x: &[u8], past: bool, steps: &mut Steps) -> Result<u64, u64>
+    /// Returns the index of a string, or how many strings are before it.
+    fn search(&self, x: &[u8], bound: Bound, steps: &mut Steps) -> Result<u64, u64>
         requires some { 0 < blocks_of self.now }
         requires sought { len_before_zero x.now ≡ length x.now }
-        ensures place { IsPosition past (strings_of self.now) x.now result }
+        ensures place { IsPosition bound (strings_of self.now) x.now result }
         ensures cost { steps.new ≤ steps.old + section_search_cost (section_of self.now) }
         ensures more { steps.old ≤ steps.new }
     {
-        match self.find_block(x, past, steps) {
+        match self.find_block(x, bound, steps) {
             BlockProbe::Before => Err(0),
             BlockProbe::Head(block) => Ok(block * self.packed.block_size),
             BlockProbe::Inside(block, same, rest) => {
-                self.scan_block(block, same, rest, x, past, steps)
+                self.scan_block(block, same, rest, x, bound, steps)
             }
         }
     }
@@ -218,21 +228,21 @@ impl<'a> Section<'a> {
         if len_before_zero(x) < x.len() {
             return None;
         }
-        match self.search(x, false, steps) {
+        match self.search(x, Bound::Lower, steps) {
             Ok(at) => Some(at + 1),
             Err(_) => None,
         }
     }
 
-    /// Returns how many strings are before a prefix; with `past`, also those that begin with it.
-    fn boundary(&self, prefix: &[u8], past: bool, steps: &mut Steps) -> u64
+    /// Returns how many strings are before a prefix.
+    fn boundary(&self, prefix: &[u8], bound: Bound, steps: &mut Steps) -> u64
         requires some { 0 < blocks_of self.now }
         requires sought { len_before_zero prefix.now ≡ length prefix.now }
-        ensures place { IsBoundary past prefix.now (strings_of self.now) result }
+        ensures place { IsBoundary bound prefix.now (strings_of self.now) result }
         ensures cost { steps.new ≤ steps.old + section_search_cost (section_of self.now) }
         ensures more { steps.old ≤ steps.new }
     {
-        match self.search(prefix, past, steps) {
+        match self.search(prefix, bound, steps) {
             Ok(at) => at,
             Err(at) => at,
         }
@@ -257,8 +267,8 @@ impl<'a> Section<'a> {
         if len_before_zero(prefix) < prefix.len() {
             return 1..1;
         }
-        let start = self.boundary(prefix, false, steps);
-        let end = self.boundary(prefix, true, steps);
+        let start = self.boundary(prefix, Bound::Lower, steps);
+        let end = self.boundary(prefix, Bound::Upper, steps);
         start + 1..end + 1
     }
 }

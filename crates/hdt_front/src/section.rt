@@ -265,8 +265,8 @@ fn can_follow(first: bool, before: &[u8], string: &[u8]) -> bool
 /// Returns whether the strings can form a section: each is UTF-8 without a zero byte, and they ascend strictly by
 /// unsigned bytes. [`put_section`](crate::put_section) requires this. Takes time linear in their total length.
 pub fn are_section_strings(strings: &[&[u8]]) -> bool
-    ensures yes { result ≡ true → AreSectionStrings (borrowed_texts strings.now) }
-    ensures no { AreSectionStrings (borrowed_texts strings.now) → result ≡ true }
+    ensures found { result ≡ true → AreSectionStrings (borrowed_texts strings.now) }
+    ensures only { AreSectionStrings (borrowed_texts strings.now) → result ≡ true }
 {
     let mut before: &[u8] = &[];
     for i in 0..strings.len() {

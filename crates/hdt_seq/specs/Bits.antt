@@ -35,12 +35,12 @@ bits_at bytes at = do
   kind ← byte_at bytes at
   _ ← demand (kind.0 == 1) at BitsKind
   count ← vbyte_at bytes kind.1
-  start ← crc8_at bytes at count.1
+  packed_start ← crc8_at bytes at count.1
   _ ← demand (nat_lt 0 count.0) kind.1 NoTriples
-  packed ← packed_at count.0 bytes start
+  packed ← packed_at count.0 bytes packed_start
   Ok (record {
     items = bits packed.0 count.0;
-    offsets = record { count = kind.1; packed = start; width = 1 };
+    offsets = record { count = kind.1; packed = packed_start; width = 1 };
     end =
         packed.1;
   })

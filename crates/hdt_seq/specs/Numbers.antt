@@ -39,12 +39,12 @@ numbers_at bytes at = do
   width ← byte_at bytes kind.1
   _ ← demand (nat_le width.0 64) kind.1 Width
   count ← vbyte_at bytes width.1
-  start ← crc8_at bytes at count.1
-  packed ← packed_at (width.0 * count.0) bytes start
+  packed_start ← crc8_at bytes at count.1
+  packed ← packed_at (width.0 * count.0) bytes packed_start
   Ok (record {
     items = entries packed.0 width.0 count.0;
     offsets =
-        record { count = width.1; packed = start; width = width.0 };
+        record { count = width.1; packed = packed_start; width = width.0 };
     end = packed.1;
   })
 

@@ -14,15 +14,15 @@ use Rattle.hdt_seq.specs.PackedBits.{bytes_for}
 abbrev pub with_crcs : List ℕ → List ℕ → List ℕ
 with_crcs preamble packed = preamble ++ crc8 preamble ∷ (packed ++ little_bytes 4 (crc32 packed))
 
--- The text encodes the entries: `start`, which is what is before their number, that number, and some packed bytes, of
--- which `unpack` makes these entries. Padding bits may be anything.
-pub record EncodesSequence {X : Type 0} (unpack : List ℕ → ℕ → List X) (width : ℕ) (start text : List ℕ)
+-- The text encodes the entries: the bytes `before_count` (the type, and the width of a log sequence), the number of
+-- entries, and some packed bytes, of which `unpack` makes these entries. Padding bits may be anything.
+pub record EncodesSequence {X : Type 0} (unpack : List ℕ → ℕ → List X) (width : ℕ) (before_count text : List ℕ)
     (xs : List X) : Type 0 where
   pub packed : List ℕ
-  pub counted : length xs < 2 ^ 64
+  pub count_fits : length xs < 2 ^ 64
   pub size : length packed ≡ bytes_for (width * length xs)
   pub holds : unpack packed (length xs) ≡ xs
-  pub whole : text ≡ with_crcs (start ++ vbyte (length xs)) packed
+  pub whole : text ≡ with_crcs (before_count ++ vbyte (length xs)) packed
 
 -- the byte offsets of the number of entries and of the packed bytes in the input, and the width of an entry in bits
 pub record SequenceShape : Type 0 where
@@ -48,11 +48,11 @@ byte_at bytes at = do
   one ← bytes_at 1 bytes at
   Ok (slice_index one.0 0, one.1)
 
--- the CRC-8 of the bytes from a start up to an offset is there; the offset after it
+-- the CRC-8 of the bytes from the offset `from` up to `at` is there; the offset after it
 unfoldable pub crc8_at : List ℕ → ℕ → ℕ → Result ℕ Fault
-crc8_at bytes start at = do
+crc8_at bytes from at = do
   code ← byte_at bytes at
-  _ ← demand (code.0 == crc8 (slice_range bytes start at)) at Check8
+  _ ← demand (code.0 == crc8 (slice_range bytes from at)) at Check8
   Ok code.1
 
 -- the bytes that hold so many bits, with their CRC-32C after them, and the offset after that

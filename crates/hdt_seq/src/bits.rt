@@ -18,7 +18,7 @@ pub struct Bits<'a> {
     count: u64,
     count_at: usize,
     packed_at: usize,
-    ghost counted: { count < 2 ^ 64 },
+    ghost count_fits: { count < 2 ^ 64 },
     ghost packed_fits: { count ≤ 8 * length packed.now },
     ghost inside: { packed_at + length packed.now < 2 ^ 64 },
 }

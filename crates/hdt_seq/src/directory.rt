@@ -63,7 +63,7 @@ impl Directory {
     /// is the number of all 1-bits, in one step. `i` must be at most `bits.len()`.
     #[tactic(auto, unfolding(crate::specs::Directory::stored_counts), using(crate::specs::Laws::RankSelect::ones_before_le, crate::proofs::GroupCounts::group_end))]
     pub fn rank(&self, bits: &Bits<'_>, i: u64, steps: &mut Steps) -> u64
-        requires counted { IsDirectoryOf self.now (bits_of bits.now) }
+        requires is_directory { IsDirectoryOf self.now (bits_of bits.now) }
         requires within { i ≤ length (bits_of bits.now) }
         ensures is { result ≡ ones_before (bits_of bits.now) i }
         ensures most { result ≤ i }
@@ -90,7 +90,7 @@ impl Directory {
     /// Returns the position, from 0, of the k-th 1-bit, k from 1. `k` must be at most the number of 1-bits. Takes at
     /// most 8 steps, plus one for each binary digit of the number of groups.
     pub fn select(&self, bits: &Bits<'_>, k: u64, steps: &mut Steps) -> u64
-        requires counted { IsDirectoryOf self.now (bits_of bits.now) }
+        requires is_directory { IsDirectoryOf self.now (bits_of bits.now) }
         requires some { 0 < k }
         requires many { k ≤ ones_before (bits_of bits.now) (length (bits_of bits.now)) }
         ensures is { IsSelect (bits_of bits.now) k result }

@@ -22,7 +22,7 @@ pub struct Numbers<'a> {
     count_at: usize,
     packed_at: usize,
     ghost narrow: { width ≤ 64 },
-    ghost counted: { count < 2 ^ 64 },
+    ghost count_fits: { count < 2 ^ 64 },
     ghost packed_fits: { width * count ≤ 8 * length packed.now },
     ghost inside: { packed_at + length packed.now < 2 ^ 64 },
 }

@@ -11,7 +11,7 @@ use Rattle.std.specs.Int.{from_bool}
 use Rattle.std.specs.Io.KnownBytes.{Appends, IsAtEnd}
 use Rattle.hdt_terms.specs.Chars.{is_line_end}
 use Rattle.hdt_terms.specs.Lines.{HasNoLineEnd, count_line_ends, ends_in_cr}
-use Rattle.hdt_terms.specs.LinesReader.{LinesState, Takes, left, line_number, start}
+use Rattle.hdt_terms.specs.LinesReader.{LinesState, Takes, unread_input, line_number, start}
 use Rattle.hdt_terms.specs.LinesTexts.{TakesWholeLine, IsNextLineError}
 use Rattle.hdt_terms.specs.Documents.{AreDocumentLines, AreEndedLines, BeginsWithLines, DocumentLine}
 use Rattle.hdt_terms.specs.Documents.{FaultAfterDocumentLines, document_lines}
@@ -95,9 +95,9 @@ pub record HasReadLines (s : LinesState) (input left : Option (List ℕ)) (lines
       ⊎ ((s.ended ≡ true) × (document_lines false 0 front ≡ lines) × IsAtEnd left)
 
 pub none_read : (s : LinesState) (input : Option (List ℕ)) → s ≡ start 9223372036854775807
-    → HasReadLines s input (left s input) []
+    → HasReadLines s input (unread_input s input) []
 none_read s input is =
-    subst (λ (t : LinesState). HasReadLines t input (left t input) []) (sym is) (record {
+    subst (λ (t : LinesState). HasReadLines t input (unread_input t input) []) (sym is) (record {
       front = [];
       takes = record {
         consumed = nothing_taken input;

@@ -15,7 +15,7 @@ use Rattle.hdt_terms.specs.declared.fault.LineReason.TheVariants.{ZeroCharacter,
 use Rattle.hdt_terms.specs.Chars.{is_line_end}
 use Rattle.hdt_terms.specs.Inside.LineBuffer.{IsFirstLineEnd, AppendsInput, ReadMore}
 use Rattle.hdt_terms.specs.Lines.{HasNoLineEnd, ends_in_cr, count_line_ends}
-use Rattle.hdt_terms.specs.LinesReader.{HasBufferedLine, IsTakenLineText, LinesState, Takes, left, take_bytes}
+use Rattle.hdt_terms.specs.LinesReader.{HasBufferedLine, IsTakenLineText, LinesState, Takes, unread_input, take_bytes}
 use Rattle.hdt_terms.specs.LinesTexts.{IsNextLineError, IsUnreadLineError, TakesLinePrefix}
 use Rattle.hdt_terms.proofs.LineEndCounts.{Takes-trans, count_line_ends-no_end}
 use Rattle.hdt_terms.proofs.LineTaking.{AppendsInput-same, ended_taken, left_front, left_kept}
@@ -67,8 +67,8 @@ none_left : (s : LinesState) → drop (length s.buffered) s.buffered ≡ []
 none_left s = drop-length s.buffered
 
 takes_held : (s : LinesState) (given : Option (List ℕ)) → s.taken + length s.buffered ≤ s.limit
-    → Takes s (take_bytes s (length s.buffered)) (left s given)
-    (left (take_bytes s (length s.buffered)) given) s.buffered
+    → Takes s (take_bytes s (length s.buffered)) (unread_input s given)
+    (unread_input (take_bytes s (length s.buffered)) given) s.buffered
 takes_held s given within =
     let all : take (length s.buffered) s.buffered ≡ s.buffered = take-length s.buffered in
     let cut : s.buffered ≡ s.buffered ++ drop (length s.buffered) s.buffered =
@@ -86,23 +86,23 @@ takes_held s given within =
 
 -- the complete buffer is consumed
 passing_held : (most : ℕ) (old s taken : LinesState) (before given : Option (List ℕ)) (front more : List ℕ)
-    → Passing most old s before (left s given) front → HasNoLineEnd s.buffered
+    → Passing most old s before (unread_input s given) front → HasNoLineEnd s.buffered
     → taken ≡ take_bytes s (length s.buffered) → more ≡ front ++ take (most - length front) s.buffered
-    → Passing most old taken before (left taken given) more
+    → Passing most old taken before (unread_input taken given) more
 passing_held most old s taken before given front more p none is e =
-    subst (λ (t : LinesState). Passing most old t before (left t given) more) (sym is) (
+    subst (λ (t : LinesState). Passing most old t before (unread_input t given) more) (sym is) (
       p.0 ++ s.buffered,
-      Takes-trans old s (take_bytes s (length s.buffered)) before (left s given)
-          (left (take_bytes s (length s.buffered)) given) p.0 s.buffered p.1 (takes_held s given p.1.within),
+      Takes-trans old s (take_bytes s (length s.buffered)) before (unread_input s given)
+          (unread_input (take_bytes s (length s.buffered)) given) p.0 s.buffered p.1 (takes_held s given p.1.within),
       All-append (λ c. is_line_end c ≡ false) p.0 s.buffered p.2 none,
       e ∙ ap (λ l. l ++ take (most - length l) s.buffered) p.3 ∙ front_grows most p.0 s.buffered,
     )
 
 pub passing_all : (most : ℕ) (old s taken : LinesState) (before given : Option (List ℕ)) (front more : List ℕ) (n : ℕ)
-    → Passing most old s before (left s given) front → HasNoLineEnd s.buffered
+    → Passing most old s before (unread_input s given) front → HasNoLineEnd s.buffered
     → taken ≡ take_bytes s (length s.buffered) → n ≡ length s.buffered
     → more ≡ front ++ take (most - length front) (take n s.buffered)
-    → Passing most old taken before (left taken given) more
+    → Passing most old taken before (unread_input taken given) more
 passing_all most old s taken before given front more n p none is all e =
     passing_held most old s taken before given front more p none is (e
     ∙ ap (λ l. front ++ take (most - length front) l) (ap (λ k. take k s.buffered) all ∙ take-length s.buffered))
@@ -112,11 +112,11 @@ none_held s taken is = ap (λ (t : LinesState). t.buffered) is ∙ none_left s
 
 -- after a read that gave more bytes, or none
 read_behind : (old taken : LinesState) (before given given' : Option (List ℕ)) (bytes buffered : List ℕ) (b : Bool)
-    → Takes old taken before (left taken given) bytes → AppendsInput taken.buffered buffered given given'
+    → Takes old taken before (unread_input taken given) bytes → AppendsInput taken.buffered buffered given given'
     → taken.taken + length buffered ≤ taken.limit
     → Takes old (record taken { buffered = buffered; ended = b }) before (prepend_known buffered given') bytes
 read_behind old taken before given given' bytes buffered b t grew within = record {
-  consumed = Consumes-kept before (left taken given) (prepend_known buffered given') bytes t.consumed
+  consumed = Consumes-kept before (unread_input taken given) (prepend_known buffered given') bytes t.consumed
       (left_kept taken.buffered buffered given given' grew);
   taken = t.taken;
   ends = t.ends;
@@ -127,12 +127,12 @@ read_behind old taken before given given' bytes buffered b t grew within = recor
 }
 
 pub passing_on : (most : ℕ) (old taken new : LinesState) (before given given' : Option (List ℕ)) (front : List ℕ)
-    → Passing most old taken before (left taken given) front
+    → Passing most old taken before (unread_input taken given) front
     → ReadMore (Ok true) taken.buffered new.buffered given given' (taken.limit - taken.taken)
     → new ≡ record taken { buffered = new.buffered } → taken.taken + length taken.buffered ≤ taken.limit
-    → Passing most old new before (left new given') front
+    → Passing most old new before (unread_input new given') front
 passing_on most old taken new before given given' front p more is within =
-    subst (λ (t : LinesState). Passing most old t before (left t given') front) (sym is) (
+    subst (λ (t : LinesState). Passing most old t before (unread_input t given') front) (sym is) (
       p.0,
       read_behind old taken before given given' p.0 new.buffered taken.ended p.1 more.0 (omega (arith, more.2)),
       p.2,
@@ -152,34 +152,35 @@ line_behind gone text bytes new after none p = (
 )
 
 pub front_ended : (most : ℕ) (old s new : LinesState) (before given : Option (List ℕ)) (n : ℕ) (front more : List ℕ)
-    → Passing most old s before (left s given) front → s.ended ≡ false
+    → Passing most old s before (unread_input s given) front → s.ended ≡ false
     → IsFirstLineEnd s.buffered (Some n) → new ≡ take_bytes s (n + 1)
     → more ≡ front ++ take (most - length front) (take n s.buffered)
-    → TakesLinePrefix most old new before (left new given) more
+    → TakesLinePrefix most old new before (unread_input new given) more
 front_ended most old s new before given n front more p going found is e =
-    subst (λ (t : LinesState). TakesLinePrefix most old t before (left t given) more) (sym is)
+    subst (λ (t : LinesState). TakesLinePrefix most old t before (unread_input t given) more) (sym is)
     (let line = ended_taken s s.buffered n given given
     (AppendsInput-same s.buffered given) found.2 p.1.within going found.0 found.1 in
     let text = take n s.buffered in
-    let after = left (take_bytes s (n + 1)) given in (
+    let after = unread_input (take_bytes s (n + 1)) given in (
       p.0 ++ text,
       (
         p.0 ++ take (n + 1) s.buffered,
-        Takes-trans old s (take_bytes s (n + 1)) before (left s given) after p.0 (take (n + 1) s.buffered) p.1 line.0,
+        Takes-trans old s (take_bytes s (n + 1)) before (unread_input s given) after p.0
+            (take (n + 1) s.buffered) p.1 line.0,
         line_behind p.0 text (take (n + 1) s.buffered) (take_bytes s (n + 1)) after p.2 line.1,
       ),
       e ∙ ap (λ l. l ++ take (most - length l) text) p.3 ∙ front_grows most p.0 text,
     ))
 
 pub front_last : (most : ℕ) (old taken read new : LinesState) (before given given' : Option (List ℕ)) (front : List ℕ)
-    → Passing most old taken before (left taken given) front → taken.buffered ≡ []
+    → Passing most old taken before (unread_input taken given) front → taken.buffered ≡ []
     → ReadMore (Ok false) taken.buffered read.buffered given given' (taken.limit - taken.taken)
     → read ≡ record taken { buffered = read.buffered } → new ≡ record read { ended = true }
-    → TakesLinePrefix most old new before (left new given') front
+    → TakesLinePrefix most old new before (unread_input new given') front
 front_last most old taken read new before given given' front p none end others is =
     let buffered : read.buffered ≡ [] = end.1 ∙ none in
     let within : taken.taken + length read.buffered ≤ taken.limit = omega (arith, ap length end.1, p.1.within) in
-    subst (λ (t : LinesState). TakesLinePrefix most old t before (left t given') front)
+    subst (λ (t : LinesState). TakesLinePrefix most old t before (unread_input t given') front)
     (sym (is ∙ ap (λ (r : LinesState). record r { ended = true }) others)) (
       p.0,
       (
@@ -193,7 +194,7 @@ front_last most old taken read new before given given' front p none end others i
 -- ---- errors
 
 module _ (most : ℕ) (old taken : LinesState) (before given given' : Option (List ℕ)) (front buffered : List ℕ)
-    (p : Passing most old taken before (left taken given) front) (none : taken.buffered ≡ []) where
+    (p : Passing most old taken before (unread_input taken given) front) (none : taken.buffered ≡ []) where
   given_up_to : Consumes before given p.0
   given_up_to = subst (λ a. Consumes before a p.0) (ap (λ l. prepend_known l given) none
       ∙ prepend_known-nil given) p.1.consumed
@@ -237,7 +238,7 @@ no_memory most old s before after given front fault p is =
     (record { line = ap (λ n. n + 1) (passing_ends most old s before after front p); column = refl; fault_is = tt })
 
 pub unread_on : (most : ℕ) (old taken read : LinesState) (before given given' : Option (List ℕ)) (front : List ℕ)
-    (reason : LineReason) (fault : LineFault) → Passing most old taken before (left taken given) front
+    (reason : LineReason) (fault : LineFault) → Passing most old taken before (unread_input taken given) front
     → taken.buffered ≡ [] → ReadMore (Err reason) taken.buffered read.buffered given given' (taken.limit - taken.taken)
     → read ≡ record taken { buffered = read.buffered }
     → fault ≡ record { line = read.ends + 1; column = 0; reason = reason } → IsNextLineError fault old before given'
@@ -245,7 +246,7 @@ unread_on most old taken read before given given' front reason fault p none h ot
     subst (λ (f : LineFault). IsNextLineError f old before given') (sym is)
     (record {
       line = ap (λ n. n + 1) (ap (λ (r : LinesState). r.ends) others
-          ∙ passing_ends most old taken before (left taken given) front p);
+          ∙ passing_ends most old taken before (unread_input taken given) front p);
       column = refl;
       fault_is = stands_passing most old taken before given given' front read.buffered p none reason h;
     })

@@ -5,7 +5,7 @@ use Rattle.hdt_terms.specs.declared.fault.LineFault.{LineFault}
 use Rattle.hdt_terms.specs.declared.triple.Triple.{Triple}
 use Rattle.hdt_terms.specs.LineParsing.{line_triple}
 use Rattle.hdt_terms.specs.Lines.{HasNoLineEnd, Line, LinesWithoutTriples}
-use Rattle.hdt_terms.specs.LinesReader.{LinesState, left, take_line, Takes, IsTakenLine, TakesTriple, TakesRest}
+use Rattle.hdt_terms.specs.LinesReader.{LinesState, unread_input, take_line, Takes, IsTakenLine, TakesTriple, TakesRest}
 use Rattle.hdt_terms.specs.LinesReader.{IsNextTripleError, FindsTripleLine, IsTripleLineError}
 use Rattle.hdt_terms.proofs.LineEndCounts.{LinesWithoutTriples-append, Takes-trans}
 use Rattle.hdt_terms.proofs.LineSoundness.{line_found}
@@ -53,29 +53,30 @@ module _ (a s new : LinesState) (before mid after : Option (List ℕ)) (front te
 -- ---- a line with a triple is buffered
 
 module _ (a s : LinesState) (before given : Option (List ℕ)) (n : ℕ)
-    (found : FindsTripleLine (Ok (Some n)) a s before (left s given) given) where
+    (found : FindsTripleLine (Ok (Some n)) a s before (unread_input s given) given) where
   pub ready_fault : (fault : LineFault) → (fault.line ≡ s.ends + 1)
       × IsTripleLineError fault.reason fault.column (take n s.buffered) → IsNextTripleError fault a before given
   ready_fault fault h =
       let ready = found.3 in
-      stands_behind fault a s before (left s given) given found.0 found.1 found.2 h.0
-      (stands_in_triple fault.reason fault.column s.taken s.limit (left s given) given
+      stands_behind fault a s before (unread_input s given) given found.0 found.1 found.2 h.0
+      (stands_in_triple fault.reason fault.column s.taken s.limit (unread_input s given) given
       (take n s.buffered) ready.utf8 ready.triple ready.front.no_end
       (whole_line s.buffered s.buffered given given n s.taken s.limit
       (AppendsInput-same s.buffered given) ready.front found.1.within) h.1)
 
   pub ready_taken : (new : LinesState) (triple : Triple) → new ≡ take_line s n
-      → line_triple (take n s.buffered) ≡ Ok triple → TakesTriple a new before (left new given) triple
+      → line_triple (take n s.buffered) ≡ Ok triple → TakesTriple a new before (unread_input new given) triple
   ready_taken new triple is e =
       let ready = found.3 in
       let bytes = take (n + 1) s.buffered in
-      let taken : LineTaken s new (take n s.buffered) bytes (left s given) (left new given) =
-      subst (λ (t : LinesState). LineTaken s t (take n s.buffered) bytes (left s given) (left t given)) (sym is)
+      let taken : LineTaken s new (take n s.buffered) bytes (unread_input s given) (unread_input new given) =
+      subst (λ (t : LinesState). LineTaken s t (take n s.buffered) bytes (unread_input s given)
+      (unread_input t given)) (sym is)
       (line_taken s s.buffered n given given
       (AppendsInput-same s.buffered given) ready.front found.1.within ready.going) in (
         found.0,
         bytes,
-        Takes-trans a s new before (left s given) (left new given) found.0 bytes found.1 taken.0,
+        Takes-trans a s new before (unread_input s given) (unread_input new given) found.0 bytes found.1 taken.0,
         found.2,
         (take n s.buffered, line_found (take n s.buffered) triple ready.utf8 e, taken.1),
       )

@@ -16,7 +16,8 @@ use Rattle.hdt_terms.specs.Chars.{is_line_end}
 use Rattle.hdt_terms.specs.Inside.LineBuffer.{AppendsInput, IsFirstLineLength, BuffersLine}
 use Rattle.hdt_terms.specs.LineParsing.{is_blank_or_comment}
 use Rattle.hdt_terms.specs.Lines.{HasNoLineEnd, LinesWithoutTriples}
-use Rattle.hdt_terms.specs.LinesReader.{LinesState, IsTakenLineText, left, take_bytes, take_line, Takes, BeginsWithLine}
+use Rattle.hdt_terms.specs.LinesReader.{LinesState, IsTakenLineText, unread_input, take_bytes, take_line, Takes}
+use Rattle.hdt_terms.specs.LinesReader.{BeginsWithLine}
 use Rattle.hdt_terms.specs.LinesReader.{IsLineError, IsNextTripleError, IsTripleLineError, ChecksLine}
 use Rattle.hdt_terms.proofs.LineSoundness.{line_fault}
 
@@ -94,7 +95,7 @@ module _ (old : LinesState) (h : List ℕ) (n : ℕ) (given given' : Option (Lis
     (going : old.ended ≡ false) where
   -- the first bytes of the buffer after the read are consumed
   pub takes_front : (m : ℕ) (b : Bool) → m ≤ length h
-      → Takes old (record (take_bytes (record old { buffered = h }) m) { ended = b }) (left old given)
+      → Takes old (record (take_bytes (record old { buffered = h }) m) { ended = b }) (unread_input old given)
       (prepend_known (drop m h) given') (take m h)
   takes_front m b le = record {
     consumed = left_front old.buffered h (take m h) (drop m h) given given' grew (sym (take-append-drop m h));
@@ -107,7 +108,8 @@ module _ (old : LinesState) (h : List ℕ) (n : ℕ) (given given' : Option (Lis
   }
 
   pub ended_taken : n < length h → is_line_end (get_or h n 0) ≡ true
-      → LineTaken old (take_bytes (record old { buffered = h }) (n + 1)) (take n h) (take (n + 1) h) (left old given)
+      → LineTaken old (take_bytes (record old { buffered = h }) (n + 1)) (take n h) (take (n + 1) h)
+      (unread_input old given)
       (prepend_known (drop (n + 1) h) given')
   ended_taken lt end = (
     takes_front (n + 1) old.ended (omega (arith, lt)),
@@ -116,7 +118,7 @@ module _ (old : LinesState) (h : List ℕ) (n : ℕ) (given given' : Option (Lis
 
   last_taken : n ≡ length h → IsAtEnd given'
       → LineTaken old (record (take_bytes (record old { buffered = h }) n) { ended = true }) (take n h) (take (n + 1) h)
-      (left old given) (prepend_known (drop n h) given')
+      (unread_input old given) (prepend_known (drop n h) given')
   last_taken all end =
       let none : drop n h ≡ [] = ap (λ k. drop k h) all ∙ drop-length h in
       let same : take (n + 1) h ≡ take n h = take_all (n + 1) h (omega (arith, all))
@@ -128,17 +130,19 @@ module _ (old : LinesState) (h : List ℕ) (n : ℕ) (given given' : Option (Lis
 pub line_taken : (old : LinesState) (h : List ℕ) (n : ℕ) (given given' : Option (List ℕ))
     → AppendsInput old.buffered h given given' → IsFirstLineLength n h given' → old.taken + length h ≤ old.limit
     → old.ended ≡ false
-    → LineTaken old (take_line (record old { buffered = h }) n) (take n h) (take (n + 1) h) (left old given)
-    (left (take_line (record old { buffered = h }) n) given')
+    → LineTaken old (take_line (record old { buffered = h }) n) (take n h) (take (n + 1) h) (unread_input old given)
+    (unread_input (take_line (record old { buffered = h }) n) given')
 line_taken old h n given given' grew front within going =
     elim front.end [
       | inl p ↦
-          subst (λ (new : LinesState). LineTaken old new (take n h) (take (n + 1) h) (left old given) (left new given'))
+          subst (λ (new : LinesState). LineTaken old new (take n h) (take (n + 1) h) (unread_input old given)
+          (unread_input new given'))
           (sym (ap (λ b. cond b (take_bytes (record old { buffered = h }) (n + 1))
           (record (take_bytes (record old { buffered = h }) n) { ended = true })) (lt-ltb n (length h) p.0)))
           (ended_taken old h n given given' grew front.no_end within going p.0 p.1)
       | inr p ↦
-          subst (λ (new : LinesState). LineTaken old new (take n h) (take (n + 1) h) (left old given) (left new given'))
+          subst (λ (new : LinesState). LineTaken old new (take n h) (take (n + 1) h) (unread_input old given)
+          (unread_input new given'))
           (sym (ap (λ b. cond b (take_bytes (record old { buffered = h }) (n + 1))
           (record (take_bytes (record old { buffered = h }) n) { ended = true }))
           (le-ltb n (length h) (omega (arith, p.0)))))
@@ -232,22 +236,24 @@ pub line_held : (s buffered new : LinesState) (given given' : Option (List ℕ))
     → BuffersLine (Ok n) s.buffered buffered.buffered given given' most
     → buffered ≡ record s { buffered = buffered.buffered } → s.taken + length buffered.buffered ≤ s.limit
     → s.ended ≡ false → new ≡ take_line buffered n
-    → LineTaken s new (take n buffered.buffered) (take (n + 1) buffered.buffered) (left s given) (left new given')
+    → LineTaken s new (take n buffered.buffered) (take (n + 1) buffered.buffered) (unread_input s given)
+    (unread_input new given')
 line_held s buffered new given given' n most filled others within going is =
-    subst (λ (t : LinesState). LineTaken s t (take n buffered.buffered) (take (n + 1) buffered.buffered) (left s given)
-    (left t given')) (sym (is ∙ ap (λ (x : LinesState). take_line x n) others))
+    subst (λ (t : LinesState). LineTaken s t (take n buffered.buffered) (take (n + 1) buffered.buffered)
+    (unread_input s given)
+    (unread_input t given')) (sym (is ∙ ap (λ (x : LinesState). take_line x n) others))
     (line_taken s buffered.buffered n given given' filled.0 filled.1 within going)
 
 module _ (a s buffered new : LinesState) (before given given' : Option (List ℕ)) (n most : ℕ) (front : List ℕ)
-    (takes : Takes a s before (left s given) front) (bare : LinesWithoutTriples front)
+    (takes : Takes a s before (unread_input s given) front) (bare : LinesWithoutTriples front)
     (filled : BuffersLine (Ok n) s.buffered buffered.buffered given given' most) (others : buffered
     ≡ record s { buffered = buffered.buffered }) (within : s.taken + length buffered.buffered ≤ s.limit) where
   pub look_fault : (fault : LineFault) → ChecksLine (Err fault) buffered (take n buffered.buffered)
       → IsNextTripleError fault a before given'
   look_fault fault h =
-      stands_behind fault a s before (left s given) given' front takes bare (h.0
+      stands_behind fault a s before (unread_input s given) given' front takes bare (h.0
       ∙ ap (λ (x : LinesState). x.ends + 1) others)
-      (subst (λ r. IsLineError r fault.column s.taken s.limit (left s given) given') (sym h.1) (
+      (subst (λ r. IsLineError r fault.column s.taken s.limit (unread_input s given) given') (sym h.1) (
         take n buffered.buffered,
         filled.1.no_end,
         h.2,
@@ -255,5 +261,6 @@ module _ (a s buffered new : LinesState) (before given given' : Option (List ℕ
       ))
 
   pub held_taken : s.ended ≡ false → new ≡ take_line buffered n
-      → LineTaken s new (take n buffered.buffered) (take (n + 1) buffered.buffered) (left s given) (left new given')
+      → LineTaken s new (take n buffered.buffered) (take (n + 1) buffered.buffered) (unread_input s given)
+      (unread_input new given')
   held_taken going is = line_held s buffered new given given' n most filled others within going is

@@ -9,7 +9,8 @@ use Rattle.hdt_terms.specs.declared.fault.LineFault.{LineFault}
 use Rattle.hdt_terms.specs.declared.triple.Triple.{Triple}
 use Rattle.hdt_terms.specs.Documents.{IsDocumentInput, FaultInDocument, TriplesSoFar}
 use Rattle.hdt_terms.specs.Lines.{HasNoLineEnd, Line, TerminatedLines, triples_of_lines, count_line_ends, ends_in_cr}
-use Rattle.hdt_terms.specs.LinesReader.{LinesState, start, left, Takes, TakesTriple, TakesRest, IsNextTripleError}
+use Rattle.hdt_terms.specs.LinesReader.{LinesState, start, unread_input, Takes, TakesTriple, TakesRest}
+use Rattle.hdt_terms.specs.LinesReader.{IsNextTripleError}
 use Rattle.hdt_terms.specs.LinesReader.{IsLineError}
 use Rattle.hdt_terms.proofs.LineEndCounts.{TerminatedLines-append, Takes-trans, count_line_ends-append}
 
@@ -17,7 +18,8 @@ pub nothing_taken : (all : Option (List ℕ)) → Consumes all (prepend_known []
 nothing_taken None = tt
 nothing_taken (Some x) = refl
 
-pub ran_begins : (limit : ℕ) (all : Option (List ℕ)) → TriplesSoFar limit (start limit) all (left (start limit) all) []
+pub ran_begins : (limit : ℕ) (all : Option (List ℕ)) → TriplesSoFar limit (start limit) all
+    (unread_input (start limit) all) []
 ran_begins limit all = record {
   front = [];
   lines = [];

@@ -8,7 +8,7 @@ use Rattle.hdt_terms.specs.declared.fault.LineReason.{LineReason}
 use Rattle.hdt_terms.specs.declared.fault.LineReason.TheVariants.{Syntax, NotUtf8, BadEscape, RelativeIri, IriCharacter}
 use Rattle.hdt_terms.specs.declared.fault.LineReason.TheVariants.{ZeroCharacter, Read, OutOfMemory, TooLong}
 use Rattle.hdt_terms.specs.Inside.LineBuffer.{BuffersLine}
-use Rattle.hdt_terms.specs.LinesReader.{LinesState, left, take_line, IsTakenLineText}
+use Rattle.hdt_terms.specs.LinesReader.{LinesState, unread_input, take_line, IsTakenLineText}
 use Rattle.hdt_terms.specs.LinesTexts.{TakesWholeLine, IsNextLineError, IsUnreadLineError}
 use Rattle.hdt_terms.proofs.LineTaking.{line_held, stands_unread}
 
@@ -30,9 +30,10 @@ unread_of TooLong buffered new given given' taken limit le p =
 pub buffer_fails : (r : LineReason) (s h : LinesState) (given given' : Option (List ℕ)) (fault : LineFault)
     → s.taken ≤ s.limit → BuffersLine (Err r) s.buffered h.buffered given given' (s.limit - s.taken)
     → h ≡ record s { buffered = h.buffered }
-    → fault ≡ record { line = h.ends + 1; column = 0; reason = r } → IsNextLineError fault s (left s given) given'
+    → fault ≡ record { line = h.ends + 1; column = 0; reason = r } → IsNextLineError fault s
+    (unread_input s given) given'
 buffer_fails r s h given given' fault room does others is =
-    subst (λ (f : LineFault). IsNextLineError f s (left s given) given') (sym is)
+    subst (λ (f : LineFault). IsNextLineError f s (unread_input s given) given') (sym is)
     (record {
       line = ap (λ (t : LinesState). t.ends + 1) others;
       column = refl;
@@ -44,7 +45,7 @@ pub whole_taken : (s h new : LinesState) (given given' : Option (List ℕ)) (n m
     → BuffersLine (Ok n) s.buffered h.buffered given given' most → h ≡ record s { buffered = h.buffered }
     → s.taken + length h.buffered ≤ s.limit
     → s.ended ≡ false → new ≡ take_line h n → bytes ≡ take (n + 1) h.buffered
-    → TakesWholeLine n s new (left s given) (left new given') bytes
+    → TakesWholeLine n s new (unread_input s given) (unread_input new given') bytes
 whole_taken s h new given given' n most bytes filled others within going is bytes_is =
     let hb = h.buffered in
     let taken = line_held s h new given given' n most filled others within going is in
@@ -60,11 +61,11 @@ whole_taken s h new given given' n most bytes filled others within going is byte
         p.0,
       )
     ] in
-    subst (TakesWholeLine n s new (left s given) (left new given')) (sym bytes_is)
+    subst (TakesWholeLine n s new (unread_input s given) (unread_input new given')) (sym bytes_is)
     (record {
       takes = taken.0;
       is =
-          subst (λ text. IsTakenLineText text (take (n + 1) hb) new (left new given'))
+          subst (λ text. IsTakenLineText text (take (n + 1) hb) new (unread_input new given'))
           (sym (take-take n (n + 1) hb (omega arith))) taken.1;
       within = size;
     })

@@ -44,8 +44,8 @@ start limit = record {
 }
 
 -- The remaining input: the buffer, then what the reader still gives.
-abbrev pub left : LinesState → Option (List ℕ) → Option (List ℕ)
-left s given = prepend_known s.buffered given
+abbrev pub unread_input : LinesState → Option (List ℕ) → Option (List ℕ)
+unread_input s given = prepend_known s.buffered given
 
 -- A line is buffered with its end: the first line has n bytes of text.
 abbrev pub HasBufferedLine : LinesState → Type 0

@@ -16,13 +16,13 @@ use std::io::Read;
 impl Lines {
     ghost use Rattle.hdt_terms.specs.LinesTexts.{TakesLinePrefix, TakesWholeLine, IsNextLineError, ReturnsNextPrefix};
     ghost use Rattle.hdt_terms.specs.LinesTexts.{TakesLineStart, TextClearedUnlessFound, last_end};
-    ghost use Rattle.hdt_terms.specs.LinesReader.{HasBufferedLine, left};
+    ghost use Rattle.hdt_terms.specs.LinesReader.{HasBufferedLine, unread_input};
 
     /// Returns whether a complete line with its end is buffered. If so, the next call of [`Lines::next_prefix`] reads
     /// nothing, so it can't block. Linear time in the length of that line, or of the buffer if there is none.
     pub fn has_buffered_line(&self) -> bool
-        ensures yes { result ≡ true → HasBufferedLine self.now }
-        ensures no { result ≡ false → HasNoLineEnd self.now.buffered }
+        ensures if_true { result ≡ true → HasBufferedLine self.now }
+        ensures if_false { result ≡ false → HasNoLineEnd self.now.buffered }
     {
         match find_line_end(self.buffered.as_slice(), 0) {
             Some(_) => true,
@@ -75,10 +75,10 @@ impl Lines {
         requires going { self.old.ended ≡ false }
         requires empty { text.old.items ≡ [] }
         ensures does { OnOk result
-            (TakesLinePrefix most self.old self.new (left self.old (R.remaining (inner input.old)))
-            (left self.new (R.remaining (inner input.new))) text.new.items) }
+            (TakesLinePrefix most self.old self.new (unread_input self.old (R.remaining (inner input.old)))
+            (unread_input self.new (R.remaining (inner input.new))) text.new.items) }
         ensures fault { IfErr result
-            (λ f. IsNextLineError f self.old (left self.old (R.remaining (inner input.old)))
+            (λ f. IsNextLineError f self.old (unread_input self.old (R.remaining (inner input.old)))
             (R.remaining (inner input.new))) }
         ensures unread { HasBufferedLine self.old → input.new ≡ input.old }
         ensures reader_unfailed { OnOk result (failures input.new ≡ failures input.old) }
@@ -132,8 +132,8 @@ impl Lines {
         // Until then the result is determined by the remaining input.
         ensures answers { self.old.failed ≡ None → self.old.ended ≡ false →
             ReturnsNextPrefix result most text.new.items self.old self.new
-            (left self.old (R.remaining (inner input.old)))
-            (left self.new (R.remaining (inner input.new))) (R.remaining (inner input.new)) }
+            (unread_input self.old (R.remaining (inner input.old)))
+            (unread_input self.new (R.remaining (inner input.new))) (R.remaining (inner input.new)) }
         ensures none { TextClearedUnlessFound result text.new.items }
         // If a line is buffered with its end, nothing is read.
         ensures unread { HasBufferedLine self.old → input.new ≡ input.old }
@@ -174,10 +174,10 @@ impl Lines {
     ) -> Result<usize, LineFault>
         requires { self.old.ended ≡ false }
         ensures does { IfOk result
-            (λ n. TakesWholeLine n self.old self.new (left self.old (R.remaining (inner input.old)))
-            (left self.new (R.remaining (inner input.new))) bytes.new.items) }
+            (λ n. TakesWholeLine n self.old self.new (unread_input self.old (R.remaining (inner input.old)))
+            (unread_input self.new (R.remaining (inner input.new))) bytes.new.items) }
         ensures fault { IfErr result
-            (λ f. IsNextLineError f self.old (left self.old (R.remaining (inner input.old)))
+            (λ f. IsNextLineError f self.old (unread_input self.old (R.remaining (inner input.old)))
             (R.remaining (inner input.new))) }
         ensures reader_unfailed { OnOk result (failures input.new ≡ failures input.old) }
         ensures read { IfErr result (λ f. f.reason ≡ Read → failures input.new ≡ failures input.old + 1) }
@@ -198,10 +198,10 @@ impl Lines {
     ) -> Result<usize, LineFault>
         requires { self.old.ended ≡ false }
         ensures does { IfOk result
-            (λ n. TakesLineStart most n self.old self.new (left self.old (R.remaining (inner input.old)))
-            (left self.new (R.remaining (inner input.new))) bytes.new.items) }
+            (λ n. TakesLineStart most n self.old self.new (unread_input self.old (R.remaining (inner input.old)))
+            (unread_input self.new (R.remaining (inner input.new))) bytes.new.items) }
         ensures fault { IfErr result
-            (λ f. IsNextLineError f self.old (left self.old (R.remaining (inner input.old)))
+            (λ f. IsNextLineError f self.old (unread_input self.old (R.remaining (inner input.old)))
             (R.remaining (inner input.new))) }
         ensures reader_unfailed { OnOk result (failures input.new ≡ failures input.old) }
         ensures read { IfErr result (λ f. f.reason ≡ Read → failures input.new ≡ failures input.old + 1) }

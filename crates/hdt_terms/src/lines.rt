@@ -65,7 +65,8 @@ impl Model for Lines {
 
 impl Lines {
     ghost use Rattle.hdt_terms.specs.LineParsing.{is_blank_or_comment};
-    ghost use Rattle.hdt_terms.specs.LinesReader.{HasBufferedLine, start, left, line_number, take_bytes, take_line};
+    ghost use Rattle.hdt_terms.specs.LinesReader.{HasBufferedLine, start, unread_input, line_number, take_bytes};
+    ghost use Rattle.hdt_terms.specs.LinesReader.{take_line};
     ghost use Rattle.hdt_terms.specs.LinesReader.{ChecksLine, ParsesTriple, ParsesTripleStrings, FindsTripleLine};
     ghost use Rattle.hdt_terms.specs.LinesReader.{ReturnsNextTriple, ReturnsNextStrings, StringsClearedUnlessFound};
 
@@ -230,8 +231,8 @@ impl Lines {
         input: &mut Counted<R>,
     ) -> Result<Option<usize>, LineFault>
         requires { self.old.ended ≡ false }
-        ensures does { FindsTripleLine result self.old self.new (left self.old (R.remaining (inner input.old)))
-            (left self.new (R.remaining (inner input.new))) (R.remaining (inner input.new)) }
+        ensures does { FindsTripleLine result self.old self.new (unread_input self.old (R.remaining (inner input.old)))
+            (unread_input self.new (R.remaining (inner input.new))) (R.remaining (inner input.new)) }
         ensures reader_unfailed { OnOk result (failures input.new ≡ failures input.old) }
         ensures read { IfErr result (λ f. f.reason ≡ Read → failures input.new ≡ failures input.old + 1) }
         ensures reader_reported { IfErr result (λ f. f.reason ≢ Read → failures input.new ≡ failures input.old) }
@@ -258,8 +259,9 @@ impl Lines {
     /// Consumes the next line with a triple and the lines before it.
     fn take_triple<R: Read>(&mut self, input: &mut Counted<R>) -> Result<Option<Triple>, LineFault>
         requires { self.old.ended ≡ false }
-        ensures does { ReturnsNextTriple result self.old self.new (left self.old (R.remaining (inner input.old)))
-            (left self.new (R.remaining (inner input.new))) (R.remaining (inner input.new)) }
+        ensures does { ReturnsNextTriple result self.old self.new
+            (unread_input self.old (R.remaining (inner input.old)))
+            (unread_input self.new (R.remaining (inner input.new))) (R.remaining (inner input.new)) }
         ensures reader_unfailed { OnOk result (failures input.new ≡ failures input.old) }
         ensures read { IfErr result (λ f. f.reason ≡ Read → failures input.new ≡ failures input.old + 1) }
         ensures reader_reported { IfErr result (λ f. f.reason ≢ Read → failures input.new ≡ failures input.old) }
@@ -287,8 +289,8 @@ impl Lines {
     ) -> Result<bool, LineFault>
         requires { self.old.ended ≡ false }
         ensures does { ReturnsNextStrings result s.new.items p.new.items o.new.items self.old self.new
-            (left self.old (R.remaining (inner input.old)))
-            (left self.new (R.remaining (inner input.new))) (R.remaining (inner input.new)) }
+            (unread_input self.old (R.remaining (inner input.old)))
+            (unread_input self.new (R.remaining (inner input.new))) (R.remaining (inner input.new)) }
         ensures reader_unfailed { OnOk result (failures input.new ≡ failures input.old) }
         ensures read { IfErr result (λ f. f.reason ≡ Read → failures input.new ≡ failures input.old + 1) }
         ensures reader_reported { IfErr result (λ f. f.reason ≢ Read → failures input.new ≡ failures input.old) }
@@ -323,8 +325,8 @@ impl Lines {
             (result ≡ Ok None) × (self.new ≡ self.old) × (input.new ≡ input.old) }
         // Until then the result is determined by the remaining input.
         ensures answers { self.old.failed ≡ None → self.old.ended ≡ false →
-            ReturnsNextTriple result self.old self.new (left self.old (R.remaining (inner input.old)))
-            (left self.new (R.remaining (inner input.new))) (R.remaining (inner input.new)) }
+            ReturnsNextTriple result self.old self.new (unread_input self.old (R.remaining (inner input.old)))
+            (unread_input self.new (R.remaining (inner input.new))) (R.remaining (inner input.new)) }
         ensures fault { IfErr result (λ f. self.new.failed ≡ Some f) }
         // The reader failed in this call if the error says so, and only then.
         ensures read { self.old.failed ≡ None
@@ -367,8 +369,8 @@ impl Lines {
             (result ≡ Ok false) × (self.new ≡ self.old) × (input.new ≡ input.old) }
         ensures answers { self.old.failed ≡ None → self.old.ended ≡ false →
             ReturnsNextStrings result s.new.items p.new.items o.new.items self.old self.new
-            (left self.old (R.remaining (inner input.old)))
-            (left self.new (R.remaining (inner input.new))) (R.remaining (inner input.new)) }
+            (unread_input self.old (R.remaining (inner input.old)))
+            (unread_input self.new (R.remaining (inner input.new))) (R.remaining (inner input.new)) }
         ensures none { StringsClearedUnlessFound result s.new.items p.new.items o.new.items }
         ensures fault { IfErr result (λ f. self.new.failed ≡ Some f) }
         // The reader failed in this call if the error says so, and only then.

@@ -10,8 +10,8 @@ use crate::fault::{LineReason, ParseError, TermFault, fail_at, locate_error};
 use crate::line::is_blank_or_comment;
 use crate::utf8::check_utf8;
 
-/// The byte that a backslash and this letter encode.
-fn letter(letter: u8) -> Option<u8>
+/// Returns the byte that a backslash and this letter encode.
+fn escaped_byte(letter: u8) -> Option<u8>
     ensures { result ≡ raw_escape_byte letter }
 {
     match letter {
@@ -28,7 +28,7 @@ fn letter_at(rest: &[u8]) -> Option<(u8, &[u8])>
     ensures { IsRawEscapeAt (λ x. x.0) (λ x. x.1.now) rest.now result }
 {
     let (first, behind) = rest.split_first()?;
-    Some((letter(*first)?, behind))
+    Some((escaped_byte(*first)?, behind))
 }
 
 /// Appends the string up to a tab or the end, with its escapes decoded. Returns the bytes from there on.

@@ -7,7 +7,7 @@ use Rattle.std.proofs.Math.Seq.{take-append-add, take-append_seam}
 use Rattle.std.proofs.lemmas.Bool.{cases_lt, lt-ltb}
 use Rattle.std.proofs.lemmas.List.{length-append, length-take-le, take_all}
 use Rattle.hdt_terms.specs.Documents.{AreLines, LinesSoFar, FaultAfterLines}
-use Rattle.hdt_terms.specs.LinesReader.{LinesState, start, left, line_number}
+use Rattle.hdt_terms.specs.LinesReader.{LinesState, start, unread_input, line_number}
 use Rattle.hdt_terms.specs.LinesTexts.{ReturnsNextPrefix, TakesLinePrefix, TakesText, IsNextLineError}
 use Rattle.hdt_terms.specs.LinesTexts.{IsUnreadLineError}
 use Rattle.hdt_terms.specs.declared.fault.LineFault.{LineFault}
@@ -335,13 +335,18 @@ unread_line g options s mid input out lines report text fault gone all gained sa
 -- ---- the initial state
 
 abbrev Begins : Type 0
-Begins = (limit : ℕ) (input : Option (List ℕ)) → LinesSoFar limit (start limit) input (left (start limit) input) []
+Begins = (limit : ℕ) (input : Option (List ℕ)) → LinesSoFar limit (start limit) input
+    (unread_input (start limit) input) []
 
 pub nothing_answered : Begins → (g : GraphParts) (options : AnswerOptions) (input out : Change)
     → out.after ≡ out.before → IsUnfailed out → AnswersUntilFault g options input out OutOfMemory
 nothing_answered begins g options input out same well = record {
   lines = [];
-  are = inl (start max_input_bytes, left (start max_input_bytes) input.before, begins max_input_bytes input.before);
+  are = inl (
+    start max_input_bytes,
+    unread_input (start max_input_bytes) input.before,
+    begins max_input_bytes input.before,
+  );
   behind = tt;
   report = plain_report false;
   text = [];
@@ -350,9 +355,9 @@ nothing_answered begins g options input out same well = record {
 }
 
 pub begun : Begins → (s : LinesState) (input : Option (List ℕ)) → s ≡ start max_input_bytes
-    → HasTakenLines s input (left s input) [] × (s.failed ≡ None)
+    → HasTakenLines s input (unread_input s input) [] × (s.failed ≡ None)
 begun begins s input is =
-    subst (λ (t : LinesState). HasTakenLines t input (left t input) []
+    subst (λ (t : LinesState). HasTakenLines t input (unread_input t input) []
     × (t.failed ≡ None)) (sym is) (inl (refl, begins max_input_bytes input), refl)
 
 -- ---- the given strings

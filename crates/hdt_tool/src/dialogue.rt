@@ -3,7 +3,7 @@ ghost use Rattle.std.specs.Prelude.{◌≡◌, ◌≢◌, ◌+◌, ◌<◌, ◌�
 ghost use Rattle.std.specs.Prelude.{IfErr, OnOk, IsErrOf, take};
 ghost use Rattle.hdt_wire.specs.Counted.{inner, failures};
 ghost use Rattle.hdt_terms.specs.Documents.{AreLines, FaultAfterLines};
-ghost use Rattle.hdt_terms.specs.LinesReader.{HasBufferedLine, left, line_number};
+ghost use Rattle.hdt_terms.specs.LinesReader.{HasBufferedLine, unread_input, line_number};
 ghost use Rattle.hdt_terms.specs.declared.fault.LineReason.TheVariants as reasons;
 ghost use Rattle.hdt_file.specs.Graph.{graph_view};
 ghost use Rattle.hdt_tool.specs.Changes.{change};
@@ -33,15 +33,16 @@ fn next_line<R: Read>(
 ) -> Result<bool, LineFault>
     requires { lines.old.failed ≡ None }
     ensures more { (all : Option (List ℕ)) (done : List (ℕ × List ℕ))
-        → HasTakenLines lines.old all (left lines.old (R.remaining (inner input.old))) done → result ≡ Ok true →
+        → HasTakenLines lines.old all (unread_input lines.old (R.remaining (inner input.old))) done → result ≡ Ok true →
         (line : List ℕ) × (text.new.items ≡ take (longest + 1) line)
-        × HasTakenLines lines.new all (left lines.new (R.remaining (inner input.new))) (done
+        × HasTakenLines lines.new all (unread_input lines.new (R.remaining (inner input.new))) (done
         ++ (line_number lines.new, line) ∷ []) }
     ensures all { (all : Option (List ℕ)) (done : List (ℕ × List ℕ))
-        → HasTakenLines lines.old all (left lines.old (R.remaining (inner input.old))) done → result ≡ Ok false →
+        → HasTakenLines lines.old all (unread_input lines.old (R.remaining (inner input.old))) done
+        → result ≡ Ok false →
         AreLines max_input_bytes all done }
     ensures fault { (all : Option (List ℕ)) (done : List (ℕ × List ℕ))
-        → HasTakenLines lines.old all (left lines.old (R.remaining (inner input.old))) done →
+        → HasTakenLines lines.old all (unread_input lines.old (R.remaining (inner input.old))) done →
         IfErr result (λ f. FaultAfterLines f max_input_bytes all (R.remaining (inner input.new)) done) }
     ensures fewer { result ≡ Ok true → lines_left lines.new < lines_left lines.old }
     ensures well { OnOk result (lines.new.failed ≡ None) }

@@ -55,7 +55,7 @@ pub next_taken : (p : Pattern) (f : BitmapTriples) (s o from : ℕ) (at : Triple
 next_taken p f s o from at given_s free given_o n =
     jumped p f from at.at n.later (omega (arith, n.within))
     (λ i l w. other_object p o (triple_at f i) given_o (n.first i l w))
-    ∙ scan_taken p f s o at given_s free given_o n.stands n.within n.own n.object
+    ∙ scan_taken p f s o at given_s free given_o n.positioned n.within n.own n.object
 
 none_by : (p : Pattern) (f : BitmapTriples) (s o i : ℕ) → p.s ≡ Some s → p.o ≡ Some o
     → (slice_index f.array_z i ≡ o → subject_at f (pair_of f i) ≢ s) → (slice_index f.array_z i ≡ o)

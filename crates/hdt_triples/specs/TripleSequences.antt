@@ -40,8 +40,8 @@ pub record AreConsistentSequences (f : BitmapTriples) : Type 0 where
   pub last_triple : slice_get f.bitmap_z (length f.bitmap_z - 1) ≡ Some true
   pub each_pair : ones_before f.bitmap_z (length f.bitmap_z) ≡ length f.array_y
 
--- Each number is from 1 to `count`, and greater than the previous one of its group: entries i and i + 1 are of one
--- group if bit i is 0.
+-- Each number is from 1 to `count`, and greater than the previous one of its group. Entries i and i + 1 are of one
+-- group if as many 1-bits are before the one as before the other: bit i is 0.
 pub record AreAscendingGroups (marks : List Bool) (xs : List ℕ) (count : ℕ) : Type 0 where
   pub from : (i : ℕ) → i < length xs → 1 ≤ slice_index xs i
   pub to : (i : ℕ) → i < length xs → slice_index xs i ≤ count

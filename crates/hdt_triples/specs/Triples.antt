@@ -1,4 +1,4 @@
--- The triples section (HDT submission, Triples; rdfhdt.org, "HDT binary format", Bitmap Triples): control information
+-- The triples part (HDT submission, Triples; rdfhdt.org, "HDT binary format", Bitmap Triples): control information
 -- whose property `order` is 1, bitmap Y, bitmap Z, array Y, array Z.
 use Rattle.std.specs.Prelude.{◌≡◌, ℕ, ◌+◌, ◌-◌, ◌==◌, ◌&&◌, Bool, false, nat_le, nat_lt, List, codes, length}
 use Rattle.std.specs.Prelude.{slice_index, slice_index_or, Option, Some, None, Result, Ok, zero, suc, if◌then◌else◌}
@@ -21,9 +21,9 @@ use Rattle.hdt_seq.specs.ExactSequences.{IsLogSequenceAt, IsBitmapAt}
 use Rattle.hdt_triples.specs.TripleSequences.{BitmapTriples, AreValidSequences}
 use Rattle.hdt_triples.specs.declared.pattern.Counts.{Counts}
 
--- A decoded triples section: its control information and its four sequences, each with its byte offsets.
+-- A decoded triples part: its control information and its four sequences, each with its byte offsets.
 pub record TripleParts : Type 0 where
-  pub block : ControlInfo
+  pub control : ControlInfo
   pub bitmap_y : Sequence Bool
   pub bitmap_z : Sequence Bool
   pub array_y : Sequence ℕ
@@ -36,11 +36,11 @@ bitmap_triples_of_sequences bitmap_y bitmap_z array_y array_z =
 abbrev pub bitmap_triples : TripleParts → BitmapTriples
 bitmap_triples t = bitmap_triples_of_sequences t.bitmap_y t.bitmap_z t.array_y t.array_z
 
--- The triples section t is encoded at byte offset `at`, and its IDs are within the counts.
+-- The triples part t is encoded at byte offset `at`, and its IDs are within the counts.
 pub record IsTriplesAt (counts : Counts) (t : TripleParts) (bytes : List ℕ) (at : ℕ) : Type 0 where
-  pub block : IsControlAt kinds.Triples t.block bytes at
-  pub order : property_value t.block.properties (codes "order") ≡ Some (codes "1")
-  pub bitmap_y : IsBitmapAt t.bitmap_y bytes t.block.end
+  pub control : IsControlAt kinds.Triples t.control bytes at
+  pub order : property_value t.control.properties (codes "order") ≡ Some (codes "1")
+  pub bitmap_y : IsBitmapAt t.bitmap_y bytes t.control.end
   pub bitmap_z : IsBitmapAt t.bitmap_z bytes t.bitmap_y.end
   pub array_y : IsLogSequenceAt t.array_y bytes t.bitmap_z.end
   pub array_z : IsLogSequenceAt t.array_z bytes t.array_y.end
@@ -100,14 +100,14 @@ sequence_checks counts bitmap_y bitmap_z array_y array_z = do
   _ ← all_pair_checks counts bitmap_y array_y
   all_object_checks bitmap_z.items array_z counts.objects
 
--- Decoding: the triples section at byte offset `at`, or the first error.
+-- Decoding: the triples part at byte offset `at`, or the first error.
 unfoldable pub decode_triple_parts : Counts → List ℕ → ℕ → Result TripleParts Fault
 decode_triple_parts counts bytes at = do
-  block ← control_at kinds.Triples bytes at
-  _ ← demand (is_spo_order (property_value block.properties (codes "order"))) block.properties_at TripleOrder
-  bitmap_y ← bits_at bytes block.end
+  control ← control_at kinds.Triples bytes at
+  _ ← demand (is_spo_order (property_value control.properties (codes "order"))) control.properties_at TripleOrder
+  bitmap_y ← bits_at bytes control.end
   bitmap_z ← bits_at bytes bitmap_y.end
   array_y ← numbers_at bytes bitmap_z.end
   array_z ← numbers_at bytes array_y.end
   _ ← sequence_checks counts bitmap_y bitmap_z array_y array_z
-  Ok (record { block = block; bitmap_y = bitmap_y; bitmap_z = bitmap_z; array_y = array_y; array_z = array_z })
+  Ok (record { control = control; bitmap_y = bitmap_y; bitmap_z = bitmap_z; array_y = array_y; array_z = array_z })

@@ -49,7 +49,7 @@ sequences_parts f at =
     let c : ℕ = b + length (bits_encoding f.bitmap_z) in
     let d : ℕ = c + length (numbers_encoding f.array_y) in
     record {
-      block = expected_control_info kinds.Triples order_property at a;
+      control = expected_control_info kinds.Triples order_property at a;
       bitmap_y = record { items = f.bitmap_y; offsets = expected_bits_offsets a (length f.bitmap_y); end = b };
       bitmap_z = record { items = f.bitmap_z; offsets = expected_bits_offsets b (length f.bitmap_z); end = c };
       array_y = record {

@@ -98,7 +98,7 @@ impl<'a> IndexedTriples<'a> {
     pub(crate) fn position_at(&self, at: u64, steps: &mut Steps) -> TriplePosition
         requires { at < length (triples_view (triples_indexed self.now)).array_z }
         ensures at { result.at ≡ at }
-        ensures stands { IsTriplePosition (triples_view (triples_indexed self.now)) result }
+        ensures positioned { IsTriplePosition (triples_view (triples_indexed self.now)) result }
         ensures cost { steps.new ≤ steps.old + 16 }
         ensures more { steps.old ≤ steps.new }
     {
@@ -142,7 +142,7 @@ impl<'a> IndexedTriples<'a> {
     /// Returns the position of a subject's first triple, or the end if it has none.
     #[tactic(auto, unfolding(crate::specs::Views::triples_view))]
     pub(crate) fn start_of_subject(&self, subject: u64, steps: &mut Steps) -> TriplePosition
-        ensures stands { IsTriplePosition (triples_view (triples_indexed self.now)) result }
+        ensures positioned { IsTriplePosition (triples_view (triples_indexed self.now)) result }
         ensures reached { result.at < length (triples_view (triples_indexed self.now)).array_z
             → subject ≤ result.subject }
         ensures before { (i : ℕ) → i < result.at
@@ -174,7 +174,7 @@ impl<'a> IndexedTriples<'a> {
         steps: &mut Steps,
     ) -> TriplePosition
         requires { from < length (triples_view (triples_indexed self.now)).array_z }
-        ensures stands { IsTriplePosition (triples_view (triples_indexed self.now)) result }
+        ensures positioned { IsTriplePosition (triples_view (triples_indexed self.now)) result }
         ensures reached { result.at < length (triples_view (triples_indexed self.now)).array_z
             → subject ≤ result.subject }
         ensures later { from ≤ result.at }

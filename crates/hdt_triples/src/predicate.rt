@@ -23,7 +23,7 @@ pub struct PredicateMatches<'a> {
     predicate: u64,
     cursor: PredicateCursor<'a>,
     steps: Steps,
-    ghost stands: { IsPredicateCursor (triples_view indexed.now.triples) predicate cursor },
+    ghost positioned: { IsPredicateCursor (triples_view indexed.now.triples) predicate cursor },
     pub ghost few: { IsWithinBudget (predicate_cost (triples_view indexed.now.triples) predicate)
         (triples_view indexed.now.triples) steps (triples_from (triples_view indexed.now.triples) cursor.at) },
 }

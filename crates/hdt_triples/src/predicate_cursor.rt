@@ -39,10 +39,10 @@ impl<'a> PredicateCursor<'a> {
         predicate: u64,
         steps: &mut Steps,
     ) -> PredicateCursor<'a>
-        requires stands { IsPredicateCursor (triples_view (triples_indexed indexed.now)) predicate self }
+        requires positioned { IsPredicateCursor (triples_view (triples_indexed indexed.now)) predicate self }
         requires some { self.inside ≡ false → 0 < length self.rest.now }
         ensures inside { result.inside ≡ true }
-        ensures stands { IsPredicateCursor (triples_view (triples_indexed indexed.now)) predicate result }
+        ensures positioned { IsPredicateCursor (triples_view (triples_indexed indexed.now)) predicate result }
         ensures left { matches (of_predicate predicate)
             (triples_from (triples_view (triples_indexed indexed.now)) self.entry.at)
             ≡ matches (of_predicate predicate) (triples_from (triples_view (triples_indexed indexed.now)) result.at) }
@@ -76,7 +76,7 @@ impl<'a> PredicateCursor<'a> {
     ) -> PredicateCursor<'a>
         requires pairs { pairs.now ≡ positions_of (triples_view (triples_indexed indexed.now)).array_y predicate }
         requires within { from < length (triples_view (triples_indexed indexed.now)).array_z }
-        ensures stands { IsPredicateCursor (triples_view (triples_indexed indexed.now)) predicate result }
+        ensures positioned { IsPredicateCursor (triples_view (triples_indexed indexed.now)) predicate result }
         ensures within { result.at ≤ length (triples_view (triples_indexed indexed.now)).array_z }
         ensures left { matches (of_predicate predicate)
             (triples_from (triples_view (triples_indexed indexed.now)) result.at)
@@ -115,7 +115,7 @@ impl<'a> PredicateCursor<'a> {
         requires inside { self.inside ≡ true }
         requires within { self.at < length (triples_view triples.now).array_z }
         ensures at { result.at ≡ self.entry.at + 1 }
-        ensures stands { (p : ℕ) → IsPredicateCursor (triples_view triples.now) p self.entry
+        ensures positioned { (p : ℕ) → IsPredicateCursor (triples_view triples.now) p self.entry
             → IsPredicateCursor (triples_view triples.now) p result }
         ensures cost { steps.new ≡ steps.old + 1 }
     {

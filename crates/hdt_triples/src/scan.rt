@@ -18,7 +18,7 @@ pub struct ScanMatches<'a> {
     pattern: Pattern,
     position: TriplePosition,
     steps: Steps,
-    ghost stands: { IsTriplePosition (triples_view triples) position },
+    ghost positioned: { IsTriplePosition (triples_view triples) position },
     ghost few: { steps ≤ 4 * position.at },
 }
 

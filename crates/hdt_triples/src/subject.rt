@@ -23,7 +23,7 @@ pub struct SubjectMatches<'a> {
     position: TriplePosition,
     steps: Steps,
     ghost given: { pattern.s ≡ Some subject },
-    ghost stands: { IsTriplePosition (triples_view triples) position },
+    ghost positioned: { IsTriplePosition (triples_view triples) position },
     ghost reached: { position.at < length (triples_view triples).array_z → subject ≤ position.subject },
     pub ghost few: { IsWithinBudget (subject_cost (triples_view triples) subject) (triples_view triples) steps
         (triples_from (triples_view triples) position.at) },

@@ -41,7 +41,7 @@ pub struct SubjectObjectMatches<'a> {
     ghost object_given: { pattern.o ≡ Some object },
     ghost places_are: { places.now ≡ positions_of (triples_view indexed.now.triples).array_z object },
     ghost price_is: { search_cost ≡ list_search_cost (triples_view indexed.now.triples) object },
-    ghost stands: { position.at < length (triples_view indexed.now.triples).array_z
+    ghost positioned: { position.at < length (triples_view indexed.now.triples).array_z
         → IsTriplePosition (triples_view indexed.now.triples) position },
     ghost reached: { position.at < length (triples_view indexed.now.triples).array_z → subject ≤ position.subject },
     ghost room: { saved_steps ≤ search_cost },

@@ -63,7 +63,7 @@ impl<'a> Triples<'a> {
     ghost use Rattle.hdt_triples.specs.IndexViews.{string_counts};
     ghost use Rattle.hdt_triples.specs.Views.{triples_view, entry_widths, read_view, decode_triples};
 
-    /// Reads the triples section at byte offset `at`, from 0, and checks that each ID is at most the count of its role.
+    /// Reads the triples part at byte offset `at`, from 0, and checks that each ID is at most the count of its role.
     /// Returns the triples and the byte offset after them; more bytes may follow. Each count must be at most
     /// `bytes.len()`. Linear time, no allocation: one pass over the pairs and one over the triples.
     ///
@@ -84,13 +84,13 @@ impl<'a> Triples<'a> {
         // The triples keep the counts they were checked against.
         ensures roles { IfOk result (λ r. string_counts r.0 ≡ counts) }
     {
-        let block = read_control(bytes, at, Kind::Triples)?;
+        let control = read_control(bytes, at, Kind::Triples)?;
         demand(
-            has_spo_order(block.properties()),
-            block.properties_at(),
+            has_spo_order(control.properties()),
+            control.properties_at(),
             Reason::TripleOrder,
         )?;
-        let (bitmap_y, bitmap_y_end) = Bits::read(bytes, block.end())?;
+        let (bitmap_y, bitmap_y_end) = Bits::read(bytes, control.end())?;
         let (bitmap_z, bitmap_z_end) = Bits::read(bytes, bitmap_y_end)?;
         let (array_y, array_y_end) = Numbers::read(bytes, bitmap_z_end)?;
         let (array_z, end) = Numbers::read(bytes, array_y_end)?;
@@ -137,7 +137,7 @@ impl<'a> Triples<'a> {
     #[tactic(auto, using(hdt_seq::specs::Laws::RankSelect::ones_before_at_0), unfolding(crate::specs::Views::triples_view))]
     pub(crate) fn first(&self) -> TriplePosition
         ensures at { result.at ≡ 0 }
-        ensures stands { IsTriplePosition (triples_view self.now) result }
+        ensures positioned { IsTriplePosition (triples_view self.now) result }
     {
         TriplePosition {
             at: 0,
@@ -150,7 +150,7 @@ impl<'a> Triples<'a> {
     pub(crate) fn end(&self, subjects: u64) -> TriplePosition
         requires { subjects ≡ ones_before (triples_view self.now).bitmap_y (length (triples_view self.now).bitmap_y) }
         ensures at { result.at ≡ length (triples_view self.now).array_z }
-        ensures stands { IsTriplePosition (triples_view self.now) result }
+        ensures positioned { IsTriplePosition (triples_view self.now) result }
     {
         TriplePosition {
             at: self.array_z.len(),
@@ -161,7 +161,7 @@ impl<'a> Triples<'a> {
 
     /// Returns the triple at a position. Two steps.
     pub(crate) fn read_triple(&self, position: TriplePosition, steps: &mut Steps) -> (u64, u64, u64)
-        requires stands { IsTriplePosition (triples_view self.now) position }
+        requires positioned { IsTriplePosition (triples_view self.now) position }
         requires within { position.at < length (triples_view self.now).array_z }
         ensures is { result ≡ triple_at (triples_view self.now) position.at }
         ensures cost { steps.new ≡ steps.old + 2 }
@@ -175,11 +175,11 @@ impl<'a> Triples<'a> {
 
     /// Returns the next position. At most two steps.
     pub(crate) fn advance(&self, position: TriplePosition, steps: &mut Steps) -> TriplePosition
-        requires stands { IsTriplePosition (triples_view self.now) position }
+        requires positioned { IsTriplePosition (triples_view self.now) position }
         requires within { position.at < length (triples_view self.now).array_z }
         ensures at { result.at ≡ position.at + 1 }
         ensures later { position.subject ≤ result.subject }
-        ensures stands { IsTriplePosition (triples_view self.now) result }
+        ensures positioned { IsTriplePosition (triples_view self.now) result }
         ensures cost { steps.new ≤ steps.old + 2 }
         ensures more { steps.old ≤ steps.new }
     {

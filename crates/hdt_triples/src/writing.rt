@@ -71,8 +71,8 @@ pub fn put_triples(
 
 /// Whether a triple can follow another one: it is greater, and its subject is the same or the next ID.
 fn can_follow(before: (u64, u64, u64), next: (u64, u64, u64)) -> bool
-    ensures yes { result ≡ true → TripleLess before next × (next.0 ≤ before.0 + 1) }
-    ensures no { TripleLess before next → next.0 ≤ before.0 + 1 → result ≡ true }
+    ensures found { result ≡ true → TripleLess before next × (next.0 ≤ before.0 + 1) }
+    ensures only { TripleLess before next → next.0 ≤ before.0 + 1 → result ≡ true }
 {
     let (subject, predicate, object) = before;
     if next.0 != subject {
@@ -84,8 +84,8 @@ fn can_follow(before: (u64, u64, u64), next: (u64, u64, u64)) -> bool
 /// Whether triple i has no ID 0 and can follow the previous one; the first triple must have subject 1.
 fn is_writable_at(triples: &[(u64, u64, u64)], i: usize) -> bool
     requires { i < length triples.now }
-    ensures yes { result ≡ true → IsWritableAt triples.now i }
-    ensures no { IsWritableAt triples.now i → result ≡ true }
+    ensures found { result ≡ true → IsWritableAt triples.now i }
+    ensures only { IsWritableAt triples.now i → result ≡ true }
 {
     let (subject, predicate, object) = triples[i];
     if predicate == 0 || object == 0 {
@@ -100,8 +100,8 @@ fn is_writable_at(triples: &[(u64, u64, u64)], i: usize) -> bool
 /// Returns whether [`put_triples`](crate::put_triples) can write these triples: there is at least one, they strictly
 /// ascend, their subjects are 1, 2, 3, .. without a gap, and their predicates and objects are at least 1. Linear time.
 pub fn are_writable(triples: &[(u64, u64, u64)]) -> bool
-    ensures yes { result ≡ true → AreWritable triples.now }
-    ensures no { AreWritable triples.now → result ≡ true }
+    ensures found { result ≡ true → AreWritable triples.now }
+    ensures only { AreWritable triples.now → result ≡ true }
 {
     for i in 0..triples.len() {
         if !is_writable_at(triples, i) {
@@ -133,7 +133,7 @@ pub fn triples_ascend()
 /// follows them.
 pub fn triples_round_trip()
     ensures counted { (ts : List Triple) → AreWritable ts → triples_of (sequences_of ts) ≡ ts }
-    ensures stands { (ts : List Triple) (counts : Counts) (bytes : List ℕ) (at end : ℕ) → AreWritable ts
+    ensures written { (ts : List Triple) (counts : Counts) (bytes : List ℕ) (at end : ℕ) → AreWritable ts
         → AreAtMostCounts counts ts → CountsFit64 counts
         → length ts < 2 ^ 64 → HasSlice bytes at (canonical_triples ts) end
         → IsTriplesAt counts (canonical_triples_parts ts at) bytes at }

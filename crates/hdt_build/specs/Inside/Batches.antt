@@ -1,11 +1,14 @@
 -- The triples of documents, in batches of records.
-use Rattle.std.specs.Prelude.{◌≡◌, ◌↔◌, ◌<◌, ◌-◌, ◌++◌, ◌∷◌, ℕ, List, [], None, length, map, slice_index_or, take}
+use Rattle.std.specs.Prelude.{◌≡◌, ◌↔◌, ◌<◌, ◌+◌, ◌-◌, ◌%◌, ◌^◌, ◌++◌, ◌∷◌, ℕ, List, [], None, drop, length, map, take}
+use Rattle.std.specs.Prelude.{slice_index_or}
 use Rattle.std.specs.List.{Contains}
 use Rattle.hdt_wire.specs.declared.Role.{Role}
 use Rattle.hdt_wire.specs.declared.Role.TheVariants.{Subject, Predicate, Object}
 use Rattle.hdt_triples.specs.TripleSequences.{Triple}
 use Rattle.hdt_triples.specs.Uses.{Uses, role_component}
 use Rattle.hdt_file.specs.Denoted.{StringTriple}
+use Rattle.hdt_file.specs.File.{GraphParts}
+use Rattle.hdt_dict.specs.Dictionary.{role_strings}
 use Rattle.hdt_dict.specs.Writing.{AreSections}
 use Rattle.hdt_build.specs.declared.collector.TripleCollector.{TripleCollector}
 use Rattle.hdt_build.specs.Graph.{IsEncodedGraph, mapped_triple, string_triples_of}
@@ -14,6 +17,7 @@ use Rattle.hdt_build.specs.Inside.Events.{dealt, id_of_codes, pairs_of}
 use Rattle.hdt_build.specs.Inside.Groups.{HaveSize, lists_of_states, SectionStates}
 use Rattle.hdt_build.specs.Inside.Records.{AreRecordRuns, record_of}
 use Rattle.hdt_build.specs.Inside.TripleRuns.{joined_runs}
+use Rattle.hdt_build.specs.Relabelling.{relabelled}
 
 -- the string of a record
 abbrev pub plain : List ℕ → List ℕ
@@ -59,6 +63,21 @@ pub record IsBatchOf (all : List StringTriple) (run : List (List ℕ)) (ts : Lis
   pub below : AreBelow (length run) ts
   pub used : (k : ℕ) → k < length run → IsUsedIndex ts k
 
+-- ---- the batch of a file
+
+-- the records of the strings of a role, with the prefix before their labels
+abbrev pub records_of : List ℕ → GraphParts → Role → List (List ℕ)
+records_of prefix g role = map (λ x. record_of role (relabelled prefix x)) (role_strings g.dictionary role)
+
+-- The indices of the records of a triple, given the number of predicates and that of subjects: first come the records
+-- of the predicates, then those of the subjects, then those of the objects.
+abbrev pub indices_of : ℕ → ℕ → Triple → Triple
+indices_of predicates subjects t = (
+  (predicates + (t.0 + (2 ^ 64 - 1)) % 2 ^ 64) % 2 ^ 64,
+  (t.1 + (2 ^ 64 - 1)) % 2 ^ 64,
+  ((predicates + subjects) % 2 ^ 64 + (t.2 + (2 ^ 64 - 1)) % 2 ^ 64) % 2 ^ 64,
+)
+
 -- ---- while triples are added
 
 -- the finished batches, and the collector of the current one, have triples of records
@@ -70,6 +89,11 @@ pub record HaveRecords (known : Type 0) (runs : List (List (List ℕ))) (tss : L
   pub some : known → batch_triples runs tss ≡ [] → runs ≡ []
 
 -- ---- IDs
+
+-- consecutive lists joined, so many each time
+unfoldable pub grouped : {X : Type 0} → List ℕ → List (List X) → List (List X)
+grouped [] xss = []
+grouped (n ∷ ns) xss = joined_runs (take n xss) ∷ grouped ns (drop n xss)
 
 -- the triples of all batches, given the ID of each record of each batch
 unfoldable pub joined_mapped : List (List Triple) → List (List ℕ) → List Triple

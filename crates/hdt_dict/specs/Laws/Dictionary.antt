@@ -71,7 +71,7 @@ dictionary_exact bytes at fits = record {
       let apart = (apart_exact (shared.strings ++ subjects.strings) objects).found v e7 in
       holds_of_ok (λ (d : DictionaryParts). IsDictionaryAt d bytes at) _ _ e (record {
         control = control;
-        block = (control_exact kinds.Dictionary bytes at fits).found control e1;
+        control_is = (control_exact kinds.Dictionary bytes at fits).found control e1;
         shared = (section_exact bytes control.end fits).found shared e2;
         subjects = (section_exact bytes shared.end fits).found subjects e3;
         predicates = (section_exact bytes subjects.end fits).found predicates e4;
@@ -81,7 +81,7 @@ dictionary_exact bytes at fits = record {
         subjects_objects = λ x a b. apart x (Contains-append_right shared.strings subjects.strings x a) b;
       }))))))));
   only = λ d h.
-      let r1 = (control_exact kinds.Dictionary bytes at fits).only h.control h.block in
+      let r1 = (control_exact kinds.Dictionary bytes at fits).only h.control h.control_is in
       let r2 = (section_exact bytes h.control.end fits).only d.shared h.shared in
       let r3 = (section_exact bytes d.shared.end fits).only d.subjects h.subjects in
       let r4 = (section_exact bytes d.subjects.end fits).only d.predicates h.predicates in

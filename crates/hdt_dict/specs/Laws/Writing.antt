@@ -33,7 +33,7 @@ dictionary_encoded b d bytes at end some low are small h =
     let t4 = HasSlice-back bytes (a + length s + length u) p o end t3 in
     record {
       control = expected_control_info kinds.Dictionary mapping at a;
-      block = record { spelled = front; no_zero = mapping_no_zero; format = refl; properties_at = refl };
+      control_is = record { spelled = front; no_zero = mapping_no_zero; format = refl; properties_at = refl };
       shared = canonical_encoded b d.shared bytes a (a + length s) some low are.shared small
           (HasSlice-front bytes a s (u ++ (p ++ o)) end t1);
       subjects = canonical_encoded b d.subjects bytes (a + length s)

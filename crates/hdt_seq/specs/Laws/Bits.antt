@@ -13,7 +13,7 @@ unfolding bits_of
 bits_len s = length-bits s.packed.now s.count
 
 pub bits_below : (s : Bits) → length (bits_of s) < 2 ^ 64
-bits_below s = omega (arith, bits_len s, s.counted)
+bits_below s = omega (arith, bits_len s, s.count_fits)
 
 bit_is : (s : Bits) (i : ℕ) → i < length (bits_of s) → get_or (bits_of s) i false ≡ bit s.packed.now i
 unfolding bits_of

@@ -56,7 +56,7 @@ together bytes at kind count start packed fits one some e1 e3 e4 e5 =
       rw size some,
       record {
         packed = packed.0;
-        counted = rw size b.value;
+        count_fits = rw size b.value;
         size = omega (arith, size, f.1);
         holds = rw size refl;
         whole = ap (λ (t : List ℕ). with_crcs (1 ∷ t) packed.0) (number ∙ ap vbyte (sym size));
@@ -95,8 +95,8 @@ encoding_read bytes at text xs end s fits h =
     let f = with_crcs_only (length xs) bytes at head e.packed end fits size slice in
     let r1 = byte_only bytes at 1 (at + 1) (HasSlice-front bytes at (1 ∷ []) count _ f.head_is) in
     let t1 = HasSlice-back bytes at (1 ∷ []) count _ f.head_is in
-    let r3 = vbyte_only bytes (at + 1) (length xs) (at + length head) e.counted
-    (encoded_if_has_slice VByte bytes (at + 1) count (length xs) _ t1 (vbyte_encodes (length xs) e.counted)) in
+    let r3 = vbyte_only bytes (at + 1) (length xs) (at + length head) e.count_fits
+    (encoded_if_has_slice VByte bytes (at + 1) count (length xs) _ t1 (vbyte_encodes (length xs) e.count_fits)) in
     let p3 : at + length head + 1 ≡ at + 2 + length (vbyte (length xs)) = omega arith in
     let some : ltb 0 (length xs) ≡ true = lt-ltb 0 (length xs) s.0 in
     rw (r1, r3, f.code_is, some, f.packed_is, e.holds, p3) refl
@@ -119,7 +119,7 @@ bits_encodes xs some lt = (
   some,
   record {
     packed = packed_bits xs;
-    counted = lt;
+    count_fits = lt;
     size = omega (arith, length-packed_bits xs);
     holds = bits_packed xs;
     whole = refl;

@@ -12,7 +12,7 @@ unfolding numbers_of
 numbers_len s = length-entries s.packed.now s.width s.count
 
 pub numbers_below : (s : Numbers) → length (numbers_of s) < 2 ^ 64
-numbers_below s = omega (arith, numbers_len s, s.counted)
+numbers_below s = omega (arith, numbers_len s, s.count_fits)
 
 -- entry i of the list is entry i of the packed bytes
 pub numbers_get : (s : Numbers) (i : ℕ) → i < length (numbers_of s)

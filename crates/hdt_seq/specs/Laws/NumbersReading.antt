@@ -63,7 +63,7 @@ together bytes at kind width count start packed fits one narrow e1 e2 e3 e4 e5 =
       narrow,
       record {
         packed = packed.0;
-        counted = rw size b.value;
+        count_fits = rw size b.value;
         size = rw size f.1;
         holds = rw size refl;
         whole = ap (λ (t : List ℕ). with_crcs (1 ∷ w ∷ t) packed.0) (number ∙ ap vbyte (sym size));
@@ -113,8 +113,8 @@ encoding_read bytes at text xs end s fits h =
     let t1 = HasSlice-back bytes at (1 ∷ []) (s.0 ∷ count) _ f.head_is in
     let r2 = byte_only bytes (at + 1) s.0 (at + 1 + 1) (HasSlice-front bytes (at + 1) (s.0 ∷ []) count _ t1) in
     let t2 = HasSlice-back bytes (at + 1) (s.0 ∷ []) count _ t1 in
-    let r3 = vbyte_only bytes (at + 1 + 1) (length xs) (at + length head) e.counted
-    (encoded_if_has_slice VByte bytes (at + 1 + 1) count (length xs) _ t2 (vbyte_encodes (length xs) e.counted)) in
+    let r3 = vbyte_only bytes (at + 1 + 1) (length xs) (at + length head) e.count_fits
+    (encoded_if_has_slice VByte bytes (at + 1 + 1) count (length xs) _ t2 (vbyte_encodes (length xs) e.count_fits)) in
     let p2 : at + 1 + 1 ≡ at + 2 = omega arith in
     let p3 : at + length head + 1 ≡ at + 3 + length (vbyte (length xs)) = omega arith in
     let narrow : leb s.0 64 ≡ true = le-leb s.0 64 s.1 in
@@ -145,7 +145,7 @@ numbers_encodes xs lt fits = (
   width_narrow xs fits,
   record {
     packed = packed (width_of xs) xs;
-    counted = lt;
+    count_fits = lt;
     size = length-packed (width_of xs) xs;
     holds = entries_packed (width_of xs) xs (width_fits xs);
     whole = refl;

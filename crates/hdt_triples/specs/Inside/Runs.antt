@@ -55,7 +55,7 @@ pub record IsMatchRange (f : BitmapTriples) (pattern : Pattern) (at end : ℕ) :
 
 -- p is the position of the first triple from index `from` on that has object o, and its subject is s.
 pub record IsNextWithObject (f : BitmapTriples) (s o from : ℕ) (p : TriplePosition) : Type 0 where
-  pub stands : IsTriplePosition f p
+  pub positioned : IsTriplePosition f p
   pub later : from ≤ p.at
   pub within : p.at < length f.array_z
   pub own : p.subject ≡ s

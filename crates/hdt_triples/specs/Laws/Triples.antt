@@ -1,4 +1,4 @@
--- The checks of the triples section are exact: they pass exactly for a valid encoding.
+-- The checks of the triples part are exact: they pass exactly for a valid encoding.
 use Rattle.std.proofs.Common.{◌≡◌, ℕ, zero, suc, ◌+◌, ◌-◌, ◌<◌, ◌≤◌, ◌&&◌, Bool, true, false, List, length, get_or}
 use Rattle.std.proofs.Common.{slice_get, slice_index, eqb, ltb, leb, Option, Some, None, inl, inr, refl, sym, ap, subst}
 use Rattle.std.proofs.Common.{◌∙◌, arith, add-one, cond}
@@ -236,27 +236,28 @@ pub triples_exact : (counts : Counts) (bytes : List ℕ) (at : ℕ) → IsBytes 
 unfolding decode_triple_parts
 triples_exact counts bytes at fits = record {
   found = λ t e.
-      bind_ok (control_at kinds.Triples bytes at) _ _ e (λ block e1 e.
-      demand_ok (is_spo_order (property_value block.properties (codes "order"))) block.properties_at TripleOrder _ _ e
+      bind_ok (control_at kinds.Triples bytes at) _ _ e (λ control e1 e.
+      demand_ok (is_spo_order (property_value control.properties (codes "order"))) control.properties_at TripleOrder
+      _ _ e
       (λ h1 e.
-      bind_ok (bits_at bytes block.end) _ _ e (λ bitmap_y e2 e.
+      bind_ok (bits_at bytes control.end) _ _ e (λ bitmap_y e2 e.
       bind_ok (bits_at bytes bitmap_y.end) _ _ e (λ bitmap_z e3 e.
       bind_ok (numbers_at bytes bitmap_z.end) _ _ e (λ array_y e4 e.
       bind_ok (numbers_at bytes array_y.end) _ _ e (λ array_z e5 e.
       bind_ok (sequence_checks counts bitmap_y bitmap_z array_y array_z) _ _ e (λ u e6 e.
       holds_of_ok (λ (t : TripleParts). IsTriplesAt counts t bytes at) _ _ e (record {
-        block = (control_exact kinds.Triples bytes at fits).found block e1;
+        control = (control_exact kinds.Triples bytes at fits).found control e1;
         order = one_found _ h1;
-        bitmap_y = (bits_exact bytes block.end fits).found bitmap_y e2;
+        bitmap_y = (bits_exact bytes control.end fits).found bitmap_y e2;
         bitmap_z = (bits_exact bytes bitmap_y.end fits).found bitmap_z e3;
         array_y = (numbers_exact bytes bitmap_z.end fits).found array_y e4;
         array_z = (numbers_exact bytes array_y.end fits).found array_z e5;
         valid = (sequence_checks_exact counts bitmap_y bitmap_z array_y array_z).found u e6;
       }))))))));
   only = λ t h.
-      let r1 = (control_exact kinds.Triples bytes at fits).only t.block h.block in
+      let r1 = (control_exact kinds.Triples bytes at fits).only t.control h.control in
       let t1 = one_only _ h.order in
-      let r2 = (bits_exact bytes t.block.end fits).only t.bitmap_y h.bitmap_y in
+      let r2 = (bits_exact bytes t.control.end fits).only t.bitmap_y h.bitmap_y in
       let r3 = (bits_exact bytes t.bitmap_y.end fits).only t.bitmap_z h.bitmap_z in
       let r4 = (numbers_exact bytes t.bitmap_z.end fits).only t.array_y h.array_y in
       let r5 = (numbers_exact bytes t.array_y.end fits).only t.array_z h.array_z in

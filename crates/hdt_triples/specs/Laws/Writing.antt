@@ -353,7 +353,7 @@ sequences_stand counts f bytes at end can h =
     subst (λ (e : ℕ). HasSlice bytes d array_z e) t4.end_is t4 in
     let m = can.valid.marked in
     record {
-      block = record { spelled = front; no_zero = ordered_no_zero; format = refl; properties_at = refl };
+      control = record { spelled = front; no_zero = ordered_no_zero; format = refl; properties_at = refl };
       order = ordered_is;
       bitmap_y = bits_stand bytes a b f.bitmap_y can.some_pairs (omega (arith, m.pairs, can.few_pairs))
           (HasSlice-front bytes a bitmap_y (bitmap_z ++ (array_y ++ array_z)) end t1);

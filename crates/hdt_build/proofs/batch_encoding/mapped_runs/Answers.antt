@@ -1,35 +1,32 @@
-use Rattle.std.proofs.Common.{◌++◌, arith, drop, refl, ap, subst, sym}
-use Rattle.hdt_dict.specs.Strings.{SameMembers}
-use Rattle.hdt_build.specs.Inside.Batches.{joined_mapped}
+use Rattle.std.proofs.Common.{◌∙◌, ◌++◌, ℕ, List, arith, drop, ap, slice_index, sym}
+use Rattle.std.proofs.lemmas.List.{drop_all, get_or_default}
+use Rattle.hdt_triples.specs.TripleSequences.{Triple}
+use Rattle.hdt_build.specs.Inside.Batches.{grouped, joined_mapped}
 use Rattle.hdt_build.specs.Inside.TripleRuns.{joined_runs}
-use Rattle.hdt_build.proofs.BatchEncoding.{no_items, runs_done, runs_more}
+use Rattle.hdt_build.proofs.BatchEncoding.{runs_done, runs_more}
 use Rattle.hdt_build.proofs.TripleRuns.{joined_none, same_lists}
 use Rattle.hdt_build.proofs.batch_encoding.mapped_runs.Goals as goal
 
-pub loop-list-init : goal.loop-list-init
-loop-list-init g c known =
-    let all = joined_mapped c.args.triples.now c.args.lists.items in
-    rw (c.new-made.ensures.items, c.into_iter-list-iterator.ensures.into_iter_gives.0)
-    (same_lists _ _ (ap (λ l. l ++ all) joined_none))
+pub loop-at-init : goal.loop-at-init
+loop-at-init g c known =
+    let all = joined_mapped c.args.triples.now (grouped c.args.counts.now c.args.lists.now) in
+    rw c.new-made.ensures.items (same_lists _ _ (ap (λ (l : List Triple). l ++ all) joined_none))
 
-pub loop-list-preserved : goal.loop-list-preserved
-loop-list-preserved g c known =
-    let run = rw (c.in_ok-ids.ensures known) at ((rw c.in-Some-2.is at c.in_ok-run.ensures) known
-    (c.new-out.ensures known)) in
-    let all = joined_mapped c.args.triples.now c.args.lists.items in
-    runs_more c.loop-list.made.items c.push_item.new.out.items c.in-Some-2.run' c.args.triples.now c.loop-list.at
-    c.in-Some.list c.index-triples-at.result c.next.new.self.rest.items all (omega (arith, c.if-at-triples.false))
-    (sym c.index-triples-at.is) c.in_ok-push_item.ensures run
-    (subst (λ l. SameMembers (joined_runs c.loop-list.made.items ++ joined_mapped
-    (drop c.loop-list.at c.args.triples.now) l)
-    all) c.in-Some.ensures.steps.0 (c.loop-list.invariant known))
+pub loop-at-preserved : goal.loop-at-preserved
+loop-at-preserved g c known =
+    let all = joined_mapped c.args.triples.now (grouped c.args.counts.now c.args.lists.now) in
+    let l = c.loop-at in
+    let n : ℕ = slice_index c.args.counts.now l.at in
+    let ids = (rw c.in-Some.is at c.in_ok-ids.ensures) known in
+    let made = rw c.deref.ensures.value at (c.in_ok-push_mapped.ensures c.if-not-branch.false known) in
+    runs_more l.made.items c.push_mapped.new.runs.items c.args.triples.now l.at c.index-triples-at.result
+    c.args.counts.now n l.rest.now c.split_at.result.1.now c.in-Some.ids.items all (omega arith)
+    (sym c.index-triples-at.is) (omega arith) (get_or_default c.args.counts.now l.at n 0 (omega arith))
+    (ids ∙ ap joined_runs c.split_at.ensures.front) c.split_at.ensures.back made (l.invariant known)
 
 pub returns : goal.returns
 returns g c known =
-    let all = joined_mapped c.args.triples.now c.args.lists.items in
-    let none = no_items c.loop-list.list-iterator.rest.items
-    (omega (arith, c.in-None.ensures.steps.0, c.loop-list.list-iterator.rest.ok.0)) in
-    runs_done c.loop-list.made.items (drop c.loop-list.at c.args.triples.now) all
-    (subst (λ l. SameMembers (joined_runs c.loop-list.made.items ++ joined_mapped
-    (drop c.loop-list.at c.args.triples.now) l)
-    all) none (c.loop-list.invariant known))
+    let all = joined_mapped c.args.triples.now (grouped c.args.counts.now c.args.lists.now) in
+    let l = c.loop-at in
+    runs_done l.made.items (drop l.at c.args.triples.now) (drop l.at c.args.counts.now) l.rest.now all
+    (drop_all l.at c.args.counts.now (omega arith)) (l.invariant known)

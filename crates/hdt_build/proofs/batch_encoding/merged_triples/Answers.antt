@@ -8,5 +8,6 @@ returns-clause-same g c =
     IfOk-weaker c.merge_triple_runs.result _ _
     (λ found. some_weaker _ _ found
     (λ made same known. SameMembers-trans _ _ _ (same known)
-    (rw c.as_slice.ensures.value at (rw c.in-Some.is at c.in_ok-found.ensures) known)))
-    (rw c.as_slice-2.ensures.value at c.merge_triple_runs.ensures.same)
+    (rw (c.deref.ensures.value, c.deref-2.ensures.value, c.in_ok-lists.ensures known)
+    at ((rw c.in-Some.is at c.in_ok-found.ensures) known))))
+    (rw c.as_slice.ensures.value at c.merge_triple_runs.ensures.same)

@@ -8,8 +8,8 @@ use Rattle.hdt_build.proofs.grouped_sections.is_dictionary_string.Goals as goal
 pub returns : goal.returns
 unfolding IsStrictlySortedBy
 returns c = (
-  λ is. let h = c.are_section_strings.ensures.yes is in
+  λ is. let h = c.are_section_strings.ensures.found is in
       record { utf8 = h.utf8 0 (omega arith); no_zero = h.no_zero 0 (omega arith) },
-  λ h. c.are_section_strings.ensures.no
+  λ h. c.are_section_strings.ensures.only
       (texts_ascend _ (All-push IsDictionaryString [] c.args.text.now (All-nil IsDictionaryString) h) (tt, tt)),
 )

@@ -26,22 +26,22 @@ err_is : {A : Type 0} (r : Result A BuildFault) (e f : BuildFault) → r ≡ Err
 err_is r e f a b = cc
 
 -- the error that is returned is in the options or in the text
-stands : (text base : List ℕ) (b : ℕ) (options : Options) → AreGivenOptions base b options
+has_fault : (text base : List ℕ) (b : ℕ) (options : Options) → AreGivenOptions base b options
     → (after : Option (List ℕ)) (fault : BuildFault)
     → (fault ≡ BadOptions → AreValidOptions options → ⊥) → (fault ≢ BadOptions → (AreValidOptions options → ⊥) → ⊥)
     → (fault ≢ BadOptions → IsBuildFaultOf (Some text) after fault)
     → HasBuildFault text base b fault
 unfolding is_bad
-stands text base b options given after (Line fault) bad right is_reported =
+has_fault text base b options given after (Line fault) bad right is_reported =
     let other : (Line fault) ≢ BadOptions = λ e. true≢false (sym (ap is_bad e)) in
     (not_invalid base b options given (right other), record { after = after; is_reported = is_reported other })
-stands text base b options given after NoTriples bad right is_reported =
+has_fault text base b options given after NoTriples bad right is_reported =
     let other : NoTriples ≢ BadOptions = λ e. true≢false (sym (ap is_bad e)) in
     (not_invalid base b options given (right other), record { after = after; is_reported = is_reported other })
-stands text base b options given after BadOptions bad right is_reported =
+has_fault text base b options given after BadOptions bad right is_reported =
     record { options = options; given = given; bad = bad refl }
-stands text base b options given after OutOfMemory bad right is_reported = tt
-stands text base b options given after (Write n) bad right is_reported =
+has_fault text base b options given after OutOfMemory bad right is_reported = tt
+has_fault text base b options given after (Write n) bad right is_reported =
     let other : (Write n) ≢ BadOptions = λ e. true≢false (sym (ap is_bad e)) in
     (not_invalid base b options given (right other), record { after = after; is_reported = is_reported other })
 
@@ -60,7 +60,7 @@ pub returns-clause-err : goal.returns-clause-err
 returns-clause-err c =
     let options : Options = record { block_size = c.args.block_size; base = c.in_ok-from_slice.field-0 } in
     let after : Option (List ℕ) = Some (inner c.build_bytes.new.input).now in
-    stands c.args.text.now c.args.base.now c.args.block_size options
+    has_fault c.args.text.now c.args.base.now c.args.block_size options
     (record { base_is = c.in_ok-from_slice.ensures.items; size_is = refl }) after c.in-Err.fault
     (λ e. (c.build_bytes.ensures.bad).0 (c.in-Err.is ∙ ap Err e))
     (λ ne no. ne (err_is _ c.in-Err.fault BadOptions c.in-Err.is ((c.build_bytes.ensures.bad).1 no)))

@@ -6,7 +6,7 @@ use Rattle.hdt_c.proofs.building.hdt_build.Goals as goal
 pub returns-in-Err-put : goal.returns-in-Err-put
 returns-in-Err-put c = inr (record {
   fault = OutOfMemory;
-  stands = tt;
+  is_fault = tt;
   made = c.in-Err-put.ensures.err;
   is_reported =
       c.report_of_fault.ensures;

@@ -7,18 +7,18 @@ use Rattle.hdt_file.proofs.term_writing.append_line.Goals as goal
 pub returns-clause-ok : goal.returns-clause-ok
 returns-clause-ok c =
     on_ok_weaker c.put_object.result
-    (line_made (layout_view c.args.layout.now) c.args.triple _ _ _ _ c.in_ok-put.ensures.ok
+    (line_made (layout_view c.args.layout.now) c.args.triple _ _ _ _ c.in_ok-append_and_cache.ensures.ok
     c.in_ok-put_predicate.ensures.ok) c.put_object.ensures.ok
 
 pub returns-clause-err : goal.returns-clause-err
 returns-clause-err c =
     IfErr-weaker c.put_object.result _ _
-    (λ e. object_reported (layout_view c.args.layout.now) c.args.triple _ _ _ _ e c.in_ok-put.ensures.ok
+    (λ e. object_reported (layout_view c.args.layout.now) c.args.triple _ _ _ _ e c.in_ok-append_and_cache.ensures.ok
     c.in_ok-put_predicate.ensures.ok) c.put_object.ensures.err
 
 pub returns-clause-left : goal.returns-clause-left
 returns-clause-left c =
     on_err_weaker c.put_object.result
     (keeps_kept _ _ _ (keeps_more _ _ _ _
-    (keeps_grown _ _ _ c.in_ok-put.ensures.ok.grown) c.in_ok-put_predicate.ensures.ok.grown))
+    (keeps_grown _ _ _ c.in_ok-append_and_cache.ensures.ok.grown) c.in_ok-put_predicate.ensures.ok.grown))
     c.put_object.ensures.left

@@ -6,7 +6,7 @@ use Rattle.hdt_front.proofs.search.probe_entry.Goals as goal
 
 pub returns-then-kept-same : goal.returns-then-kept-same
 returns-then-kept-same c = λ last fits before.
-    kept_before c.args.past c.args.x.now last c.args.text.now c.args.kept c.args.same fits
+    kept_before c.args.bound c.args.x.now last c.args.text.now c.args.kept c.args.same fits
     (omega (arith, c.if-kept-same.true)) before
 
 pub returns : goal.returns

@@ -25,9 +25,9 @@ loop-i-preserved c =
           (drop l.i (borrowed_texts xs)) rest left l.invariant.back h).1;
     }
 
-pub returns-then-not-can_follow-clause-no : goal.returns-then-not-can_follow-clause-no
+pub returns-then-not-can_follow-clause-only : goal.returns-then-not-can_follow-clause-only
 unfolding nothing
-returns-then-not-can_follow-clause-no c = λ are.
+returns-then-not-can_follow-clause-only c = λ are.
     let l = c.loop-i in
     let xs = c.args.strings.now in
     let all = Ascending 0 [] (borrowed_texts xs) in
@@ -37,8 +37,8 @@ returns-then-not-can_follow-clause-no c = λ are.
     ∙ (back all l.i l.before.now (get_or xs l.i nothing).now
     (drop l.i (borrowed_texts xs)) rest left l.invariant.back (strings_ascend (borrowed_texts xs) are)).0
 
-pub returns-clause-yes : goal.returns-clause-yes
-returns-clause-yes c = λ _.
+pub returns-clause-found : goal.returns-clause-found
+returns-clause-found c = λ _.
     let l = c.loop-i in
     let xs = c.args.strings.now in
     let end : l.i ≡ length xs = omega (arith, c.loop-i-test.false, l.auto.i-end) in

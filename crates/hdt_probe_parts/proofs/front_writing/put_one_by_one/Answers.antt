@@ -8,4 +8,4 @@ nothing = record { ref_ptr = (0, 0); now = [] }
 
 pub push-requires : goal.push-requires
 unfolding nothing
-push-requires c = record { no_zero = no_zero_in c.args.strings.now c.loop-string.string-index nothing (c.are_section_strings.ensures.yes c.if-not-are_section_strings.false) c.loop-string-test.true }
+push-requires c = record { no_zero = no_zero_in c.args.strings.now c.loop-string.string-index nothing (c.are_section_strings.ensures.found c.if-not-are_section_strings.false) c.loop-string-test.true }

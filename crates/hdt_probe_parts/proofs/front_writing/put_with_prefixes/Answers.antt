@@ -8,4 +8,4 @@ nothing = record { ref_ptr = (0, 0); now = [] }
 
 pub push_with_lcp-requires-clause-no_zero : goal.push_with_lcp-requires-clause-no_zero
 unfolding nothing
-push_with_lcp-requires-clause-no_zero c = no_zero_in c.args.strings.now c.loop-string.string-index nothing (c.are_section_strings.ensures.yes c.if-not-are_section_strings.false) c.loop-string-test.true
+push_with_lcp-requires-clause-no_zero c = no_zero_in c.args.strings.now c.loop-string.string-index nothing (c.are_section_strings.ensures.found c.if-not-are_section_strings.false) c.loop-string-test.true

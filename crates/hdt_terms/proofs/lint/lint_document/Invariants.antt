@@ -1,6 +1,6 @@
 use Rattle.std.proofs.Common.{◌≡◌, ◌+◌, ◌-◌, ◌<◌, ◌≤◌, ◌∷◌, ◌++◌, [], cond, List, length}
 use Rattle.hdt_wire.specs.Counted.{inner, failures}
-use Rattle.hdt_terms.specs.LinesReader.{left}
+use Rattle.hdt_terms.specs.LinesReader.{unread_input}
 use Rattle.hdt_terms.specs.Documents.{DocumentLine}
 use Rattle.hdt_terms.specs.Lint.{GainsBytes, faulty_lines_within}
 use Rattle.hdt_terms.proofs.DocumentLines.{HasReadLines, Linted}
@@ -11,7 +11,7 @@ abbrev pub invariant-lines : goal.invariant-lines
 invariant-lines g l = record {
   linted : (lines : List DocumentLine)
       × HasReadLines l.lines (g.R.Read.remaining (inner l.fn.input))
-      (left l.lines (g.R.Read.remaining (inner l.input))) lines
+      (unread_input l.lines (g.R.Read.remaining (inner l.input))) lines
       × Linted l.longest l.keep lines (g.K.Write.contents (inner l.fn.kept)) (g.K.Write.contents (inner l.kept))
       (g.T.Write.contents (inner l.fn.reported))
       (g.T.Write.contents (inner l.reported)) l.linter.kept.items l.linter.reported.items l.linter.faulty

@@ -1,7 +1,7 @@
 use Rattle.std.proofs.Common.{◌≡◌, ◌+◌, ◌-◌, ◌<◌, ◌≤◌, cond, List, length, map}
 use Rattle.std.specs.Int.{from_bool}
 use Rattle.hdt_wire.specs.Counted.{inner, failures}
-use Rattle.hdt_terms.specs.LinesReader.{left}
+use Rattle.hdt_terms.specs.LinesReader.{unread_input}
 use Rattle.hdt_terms.specs.Documents.{DocumentLine}
 use Rattle.hdt_terms.proofs.DocumentLines.{HasReadLines}
 use Rattle.hdt_terms.proofs.SplitLines.{Collected}
@@ -12,7 +12,7 @@ abbrev pub invariant-lines : goal.invariant-lines
 invariant-lines g l = record {
   split : (lines : List DocumentLine)
       × HasReadLines l.lines (g.R.Read.remaining (inner l.fn.input))
-      (left l.lines (g.R.Read.remaining (inner l.input))) lines
+      (unread_input l.lines (g.R.Read.remaining (inner l.input))) lines
       × Collected l.prefix (length (map (λ out. g.W.Write.contents (inner out)) l.fn.outs)) lines
       (map (λ out. g.W.Write.contents (inner out)) l.fn.outs) (map (λ out. g.W.Write.contents (inner out)) l.outs)
       (map (λ text. text.items) l.pending.items)

@@ -124,7 +124,8 @@ lines-preserved g c =
       c.in-Ok-true.ensures.reader_unfailed ∙ inv.7,
       c.in-Ok-true.ensures.well,
       c.in-Ok.ensures.cached,
-      pending_or_held _ c.has_buffered_line.result c.in_ok-accept-in-Ok.ensures.none c.has_buffered_line.ensures.yes,
+      pending_or_held _ c.has_buffered_line.result c.in_ok-accept-in-Ok.ensures.none
+          c.has_buffered_line.ensures.if_true,
       inv.11,
       inv.12,
       inv.13,

@@ -1,6 +1,6 @@
 use Rattle.std.proofs.Common.{◌≡◌, ◌⊎◌, ◌+◌, ◌^◌, ◌<◌, ℕ, List, [], None, length}
 use Rattle.hdt_wire.specs.Counted.{inner, failures}
-use Rattle.hdt_terms.specs.LinesReader.{HasBufferedLine, left}
+use Rattle.hdt_terms.specs.LinesReader.{HasBufferedLine, unread_input}
 use Rattle.hdt_file.specs.CachedTerms.{CachesTerms}
 use Rattle.hdt_file.specs.Graph.{graph_view}
 use Rattle.hdt_tool.specs.Dialogue.{AnswersLines, AreFlagsIfSkipping, skips}
@@ -12,7 +12,7 @@ use Rattle.hdt_tool.proofs.dialogue.answer_requests.Given as goal
 abbrev pub invariant-lines : goal.invariant-lines
 invariant-lines g l = (lines : List (ℕ × List ℕ)) × (text : List ℕ)
     × HasTakenLines l.lines (g.R.Read.remaining (inner l.fn.input))
-    (left l.lines (g.R.Read.remaining (inner l.input))) lines
+    (unread_input l.lines (g.R.Read.remaining (inner l.input))) lines
     × AnswersLines (graph_view l.fn.graph) l.options lines l.report text
     × GainedButFor (g.W.Write.contents (inner l.fn.out))
     (g.W.Write.contents (inner l.out)) text l.pending.bytes.items l.pending.written

@@ -4,5 +4,5 @@ use Rattle.hdt_triples.proofs.writing.triples_round_trip.Goals as goal
 pub returns-clause-counted : goal.returns-clause-counted
 returns-clause-counted c = triples_are
 
-pub returns-clause-stands : goal.returns-clause-stands
-returns-clause-stands c = triples_stand
+pub returns-clause-written : goal.returns-clause-written
+returns-clause-written c = triples_stand

@@ -13,7 +13,7 @@ pub invariant_of-result : goal.invariant_of-result
 invariant_of-result g c known =
     let graph = layout_view c.args.layout.now in
     let prefix = c.args.prefix.now in
-    subst HasDictionaryStrings (sym (c.in_ok-collect_layout.ensures.added known))
+    subst HasDictionaryStrings (sym (c.in_ok-batches.ensures.added known))
     (joined_texts c.self.inside.batches (relabelled_triples prefix (denoted_by graph)) (c.self.invariant known)
     (relabelled_texts prefix (denoted_by graph) c.requires.prefix (denoted_texts graph c.requires.graph)))
 
@@ -23,7 +23,7 @@ returns-clause-some g c known =
     let prefix = c.args.prefix.now in
     omega (
       arith,
-      ap length (c.in_ok-collect_layout.ensures.added known),
+      ap length (c.in_ok-batches.ensures.added known),
       length-append c.self.inside.batches (relabelled_triples prefix (denoted_by graph)),
       length-map (denoted_by graph) (relabelled_triple prefix),
       some_denoted graph c.requires.graph,

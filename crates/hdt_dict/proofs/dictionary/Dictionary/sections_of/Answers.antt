@@ -19,7 +19,7 @@ invariant_of-result c =
             few = omega (
               arith,
               count_is d.predicates,
-              d.predicates.packed.counted,
+              d.predicates.packed.count_fits,
               length-append (strings_of d.predicates) [],
             );
             apart = λ x a b. absurd (omega (arith, b.1));

@@ -1,4 +1,4 @@
--- The first match stands at an index.
+-- The first match is at an index.
 use Rattle.std.proofs.Common.{ap, sym, ◌∙◌}
 use Rattle.std.proofs.lemmas.Option.{none-some}
 use Rattle.hdt_triples.specs.IndexViews.{triples_indexed, triples_listed}

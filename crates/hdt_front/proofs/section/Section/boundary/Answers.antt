@@ -8,5 +8,5 @@ pub returns-in-Ok-clause-place : goal.returns-in-Ok-clause-place
 unfolding strings_of
 returns-in-Ok-clause-place c =
     let s = c.args.self.now in let p = c.args.self.now.packed in
-    boundary_at c.args.past c.args.prefix.now (strings_of s) c.in-Ok.at
+    boundary_at c.args.bound c.args.prefix.now (strings_of s) c.in-Ok.at
     (ascends (block_layout p) p.count p.bytes.now s.read) c.in-Ok.ensures.place

@@ -12,16 +12,17 @@ abbrev pub invariant-loop-low : goal.invariant-loop-low
 invariant-loop-low l = record {
   in_order : l.low ≤ l.high;
   inside : l.high ≤ blocks_of l.self;
-  before : 0 < l.low → IsBefore l.past (get_or (strings_of l.self) ((l.low - 1) * l.self.packed.block_size) []) l.x
-      l.same;
+  before : 0 < l.low → IsBefore l.bound (get_or (strings_of l.self) ((l.low - 1) * l.self.packed.block_size) []) l.x
+      l.low_lcp;
   ends : 0 < l.low → len_before_zero l.last < length l.last;
   rest : 0 < l.low → drop (len_before_zero l.last + 1) l.last
       ≡ bytes_from_entry l.self.packed.block_size ((l.low - 1) * l.self.packed.block_size + 1) l.self.packed.bytes.now;
   next : l.high < blocks_of l.self
-      → Compares l.past (get_or (strings_of l.self) (l.high * l.self.packed.block_size) []) l.x Greater;
-  some_low : 0 < l.same → 0 < l.low;
-  some_high : 0 < l.above → l.high < blocks_of l.self;
-  above : 0 < l.above → lcp_len (get_or (strings_of l.self) (l.high * l.self.packed.block_size) []) l.x ≡ l.above;
+      → Compares l.bound (get_or (strings_of l.self) (l.high * l.self.packed.block_size) []) l.x Greater;
+  some_low : 0 < l.low_lcp → 0 < l.low;
+  some_high : 0 < l.high_lcp → l.high < blocks_of l.self;
+  high_lcp : 0 < l.high_lcp
+      → lcp_len (get_or (strings_of l.self) (l.high * l.self.packed.block_size) []) l.x ≡ l.high_lcp;
   cost : l.steps + digits (l.high - l.low) ≤ l.fn.steps + digits (blocks_of l.self);
   more : l.fn.steps ≤ l.steps;
 }

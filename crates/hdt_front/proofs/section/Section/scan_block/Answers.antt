@@ -63,7 +63,7 @@ returns-in-Same-clause-place c =
     (omega (arith, c.loop-i-test.true, c.min-many.ensures, first)) l.invariant.rest e.kept e.text e.rest in
     let last : List ℕ = get_or (strings_of s) (c.args.block * p.block_size + l.i - 1) [] in (
       here.inside,
-      subst (λ (t : List ℕ). Compares c.args.past t c.args.x.now Equal) here.string
+      subst (λ (t : List ℕ). Compares c.args.bound t c.args.x.now Equal) here.string
           (c.in-Same.ensures last here.fits l.invariant.before),
     )
 
@@ -79,7 +79,7 @@ returns-in-After-clause-place c =
     c.read_entry-kept.result.2.now l.auto.i (omega (arith, c.loop-i-test.true, c.min-many.ensures))
     (omega (arith, c.loop-i-test.true, c.min-many.ensures, first)) l.invariant.rest e.kept e.text e.rest in
     let last : List ℕ = get_or (strings_of s) (c.args.block * p.block_size + l.i - 1) [] in
-    let r = subst (λ (t : List ℕ). Compares c.args.past t c.args.x.now Greater) here.string
+    let r = subst (λ (t : List ℕ). Compares c.args.bound t c.args.x.now Greater) here.string
     (c.in-After.ensures last here.fits l.invariant.before) in
     (record { within = omega (arith, here.inside); last = λ _. l.invariant.before.before; next = λ _. r.0 }, λ _. r.1)
 
@@ -99,7 +99,7 @@ loop-i-preserved c =
     let back : c.args.block * p.block_size + l.i ≡ c.args.block * p.block_size + (l.i + 1) - 1 = omega arith in
     record {
       rest = here.rest ∙ ap (λ (k : ℕ). bytes_from_entry p.block_size k p.bytes.now) next;
-      before = subst (λ (t : List ℕ). IsBefore c.args.past t c.args.x.now c.in-Before.lcp_len) (here.string
+      before = subst (λ (t : List ℕ). IsBefore c.args.bound t c.args.x.now c.in-Before.lcp_len) (here.string
           ∙ ap (λ (k : ℕ). get_or (strings_of s) k []) back) (c.in-Before.ensures last here.fits l.invariant.before);
       cost = omega (arith, e.cost, l.invariant.cost);
     }
@@ -126,16 +126,16 @@ returns-clause-place c =
     omega (arith, bound, first, some, l.auto.i, l.auto.i-end, c.loop-i-test.false) in
     let many = length-decoded_strings p.block_size p.count 0 [] p.bytes.now in
     let next : c.args.block * p.block_size + c.min-many.result < length (strings_of s)
-    → Compares c.args.past (get_or (strings_of s) (c.args.block * p.block_size + c.min-many.result) []) c.args.x.now
+    → Compares c.args.bound (get_or (strings_of s) (c.args.block * p.block_size + c.min-many.result) []) c.args.x.now
     Greater = λ h.
     let full : c.min-many.result ≡ p.block_size = omega (arith, h, many, bound, first) in
     let at : (c.args.block + 1) * p.block_size ≡ c.args.block * p.block_size + c.min-many.result =
     omega (arith, full) in
-    subst (λ (k : ℕ). Compares c.args.past (get_or (strings_of s) k []) c.args.x.now Greater) at
+    subst (λ (k : ℕ). Compares c.args.bound (get_or (strings_of s) k []) c.args.x.now Greater) at
     (c.requires.is.3 (next_inside p.count p.block_size c.args.block some (omega (arith, h, many, full)))) in (
       record {
         within = omega (arith, many, bound, first);
-        last = λ _. subst (λ (k : ℕ). is_before c.args.past c.args.x.now
+        last = λ _. subst (λ (k : ℕ). is_before c.args.bound c.args.x.now
             (get_or (strings_of s) (c.args.block * p.block_size + k - 1) []) ≡ true) ended l.invariant.before.before;
         next = λ h. (next h).0;
       },

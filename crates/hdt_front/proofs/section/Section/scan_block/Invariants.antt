@@ -8,6 +8,6 @@ abbrev pub invariant-loop-i : goal.invariant-loop-i
 invariant-loop-i l = record {
   rest : l.rest ≡ bytes_from_entry l.self.packed.block_size
       (l.block * l.self.packed.block_size + l.i) l.self.packed.bytes.now;
-  before : IsBefore l.past (get_or (strings_of l.self) (l.block * l.self.packed.block_size + l.i - 1) []) l.x l.same;
+  before : IsBefore l.bound (get_or (strings_of l.self) (l.block * l.self.packed.block_size + l.i - 1) []) l.x l.same;
   cost : l.steps + 1 ≡ l.fn.steps + l.i;
 }

@@ -27,7 +27,7 @@ overflow_add-self c =
     let s = c.self.inside.section in
     let inside : c.self.inside.at < length (strings_of s) =
     subst (λ (w : SeekerState). w.at < length (strings_of w.section)) (sym c.self.view_is) c.requires in
-    omega (arith, inside, count_is s, s.packed.counted)
+    omega (arith, inside, count_is s, s.packed.count_fits)
 
 pub invariant_of-self-2 : goal.invariant_of-self-2
 invariant_of-self-2 c =

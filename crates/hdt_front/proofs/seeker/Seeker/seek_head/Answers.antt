@@ -10,7 +10,7 @@ overflow_mul-self c =
     let h : c.args.block * s.packed.block_size < s.packed.count =
     head_within s c.args.block
     (subst (λ (w : SeekerState). c.args.block < blocks_of w.section) (sym c.self.view_is) c.requires) in
-    omega (arith, h, s.packed.counted)
+    omega (arith, h, s.packed.count_fits)
 
 pub overflow_add-self : goal.overflow_add-self
 overflow_add-self c =
@@ -18,7 +18,7 @@ overflow_add-self c =
     let h : c.args.block * s.packed.block_size < s.packed.count =
     head_within s c.args.block
     (subst (λ (w : SeekerState). c.args.block < blocks_of w.section) (sym c.self.view_is) c.requires) in
-    omega (arith, h, s.packed.counted)
+    omega (arith, h, s.packed.count_fits)
 
 pub invariant_of-self-2 : goal.invariant_of-self-2
 invariant_of-self-2 c =

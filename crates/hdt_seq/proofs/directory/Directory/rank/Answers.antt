@@ -10,7 +10,7 @@ unfolding stored_counts
 returns-then-i-len-clause-is c =
     c.count.ensures.is
     ∙ last_count (stored_counts c.args.self.now)
-    (bits_of c.args.bits.now) c.args.i c.len-then-i-len.result c.requires.counted
+    (bits_of c.args.bits.now) c.args.i c.len-then-i-len.result c.requires.is_directory
     (omega (arith, c.len-then-i-len.ensures, c.args.self.now.counts.ok.0)) (c.if-i-len.true ∙ c.len.ensures)
 
 pub returns-then-i-len-clause-most : goal.returns-then-i-len-clause-most

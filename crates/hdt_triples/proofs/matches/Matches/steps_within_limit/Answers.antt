@@ -8,7 +8,7 @@ use Rattle.hdt_triples.proofs.matches.Matches.steps_within_limit.Goals as goal
 few : (m : Matches) → steps_taken m ≤ step_limit m
 unfolding steps_taken step_limit
 few Empty = omega arith
-few (Scan m) = omega (arith, m.few, m.stands.within)
+few (Scan m) = omega (arith, m.few, m.positioned.within)
 few (Subject m) = omega (arith, m.few)
 few (SubjectObject m) = omega (arith, m.few)
 few (Pair m) = omega (arith, m.few)

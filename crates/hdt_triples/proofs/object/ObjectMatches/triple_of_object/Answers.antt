@@ -14,7 +14,7 @@ pub rank-subject-requires : goal.rank-subject-requires
 unfolding triples_view
 rank-subject-requires c = let t = c.args.indexed.now.triples in
     record {
-      counted = c.args.indexed.now.y_counted;
+      is_directory = c.args.indexed.now.y_counted;
       within =
           omega (
             arith,

@@ -11,7 +11,7 @@ pub invariant_of-result : goal.invariant_of-result
 invariant_of-result c =
     let f = triples_view c.args.listed.now.indexed.triples in
     record {
-      stands = record {
+      positioned = record {
         between =
             λ u. between_first f c.args.predicate c.pairs_of-rest.result.now c.pairs_of-rest.ensures.is;
         inside =

@@ -9,7 +9,7 @@ invariant_of-result c =
     let f = triples_view c.args.listed.now.indexed.triples in
     let e = c.from_triple-cursor.ensures in
     record {
-      stands = e.stands;
+      positioned = e.positioned;
       few =
           within_budget (predicate_cost f c.args.predicate) f c.from_triple-cursor.result.at c.new.result e.within
           c.new.ensures;

@@ -17,14 +17,14 @@ unfolding remaining_matches triples_view
 returns-then-is_empty-clause-steps c =
     let m = c.args.self.now in
     let none = predicate_over (triples_view m.indexed.now.triples) m.predicate m.cursor.at m.cursor.rest.now
-    m.indexed.now.triples.valid.marked (m.stands.between c.if-not-self.true)
+    m.indexed.now.triples.valid.marked (m.positioned.between c.if-not-self.true)
     (nil_from_length m.cursor.rest.now
     (eqb-true (length m.cursor.rest.now) 0 (sym c.is_empty.ensures ∙ c.if-is_empty.true))) in
     (none, none)
 
 pub read_entry-object-requires : goal.read_entry-object-requires
 unfolding triples_view
-read_entry-object-requires c = (c.enter_pair-cursor.ensures.stands.inside c.enter_pair-cursor.ensures.inside).within
+read_entry-object-requires c = (c.enter_pair-cursor.ensures.positioned.inside c.enter_pair-cursor.ensures.inside).within
 
 pub invariant_of-self : goal.invariant_of-self
 invariant_of-self c =
@@ -32,12 +32,12 @@ invariant_of-self c =
     let f = triples_view m.indexed.now.triples in
     let cursor = c.enter_pair-cursor.result in
     record {
-      stands = c.next_in_pair-self.ensures.stands m.predicate c.enter_pair-cursor.ensures.stands;
+      positioned = c.next_in_pair-self.ensures.positioned m.predicate c.enter_pair-cursor.ensures.positioned;
       few = subst (λ j. IsWithinBudget (predicate_cost f m.predicate) f c.next_in_pair-self.new.steps
           (triples_from f j)) (sym c.next_in_pair-self.ensures.at)
           (predicate_budget_step f m.predicate m.cursor.at cursor.at cursor.subject m.steps
           c.next_in_pair-self.new.steps cursor.rest.now c.enter_pair-cursor.ensures.left
-          (c.enter_pair-cursor.ensures.stands.inside c.enter_pair-cursor.ensures.inside)
+          (c.enter_pair-cursor.ensures.positioned.inside c.enter_pair-cursor.ensures.inside)
           (omega (
             arith,
             c.enter_pair-cursor.ensures.cost,
@@ -55,7 +55,7 @@ returns-clause-steps c =
     let rest = λ (j : ℕ). matches (of_predicate m.predicate) (triples_from f j) in
     c.enter_pair-cursor.ensures.left
     ∙ predicate_taken f m.predicate cursor.at cursor.subject cursor.rest.now
-    (c.enter_pair-cursor.ensures.stands.inside c.enter_pair-cursor.ensures.inside)
+    (c.enter_pair-cursor.ensures.positioned.inside c.enter_pair-cursor.ensures.inside)
     ∙ ap (λ z. let t : Triple = (cursor.subject, m.predicate, z) in
     t ∷ rest (cursor.at + 1)) (sym c.read_entry-object.ensures.is)
     ∙ ap (λ j. let t : Triple = (cursor.subject, m.predicate, c.read_entry-object.result) in

@@ -15,7 +15,7 @@ rank-subject-requires c =
     omega (
       arith,
       (next_of (triples_view t) c.args.predicate c.args.self.at c.read_list-pair.result c.args.self.rest.now
-          _ (c.requires.stands.between c.if-self.false) split).within,
+          _ (c.requires.positioned.between c.if-self.false) split).within,
       t.valid.marked.pairs,
     )
 
@@ -28,7 +28,7 @@ overflow_add-subject c =
     omega (
       arith,
       (next_of (triples_view t) c.args.predicate c.args.self.at c.read_list-pair.result c.args.self.rest.now _
-          (c.requires.stands.between c.if-self.false) split).within,
+          (c.requires.positioned.between c.if-self.false) split).within,
       numbers_below t.array_y,
       c.rank-subject.ensures.is,
       ones_before_le (triples_view t).bitmap_y c.read_list-pair.result,
@@ -39,11 +39,11 @@ start_of_pair-at-requires c =
     let split = split_rest c.args.self.rest.now _ c.read_list-pair.result
     (c.requires.some c.if-self.false) c.read_list-pair.ensures.is refl in
     (next_of (triples_view c.args.indexed.now.triples) c.args.predicate c.args.self.at c.read_list-pair.result
-    c.args.self.rest.now _ (c.requires.stands.between c.if-self.false) split).within
+    c.args.self.rest.now _ (c.requires.positioned.between c.if-self.false) split).within
 
-pub returns-clause-stands : goal.returns-clause-stands
+pub returns-clause-positioned : goal.returns-clause-positioned
 unfolding triples_view
-returns-clause-stands c =
+returns-clause-positioned c =
     let split = split_rest c.args.self.rest.now c.split_at.result.1.now c.read_list-pair.result
     (c.requires.some c.if-self.false) c.read_list-pair.ensures.is c.split_at.ensures.back in
     let e = c.start_of_pair-at.ensures in
@@ -51,7 +51,7 @@ returns-clause-stands c =
       between = λ u. let no : true ≡ false = u in absurd (cc);
       inside = λ u. inside_entered (triples_view c.args.indexed.now.triples) c.args.predicate c.read_list-pair.result
           c.args.self.at c.start_of_pair-at.result _ c.args.self.rest.now c.split_at.result.1.now
-          (c.requires.stands.between c.if-self.false) split
+          (c.requires.positioned.between c.if-self.false) split
           (record { within = e.within; is = e.is; earlier = e.earlier })
           (ap (λ n. n + 1) c.rank-subject.ensures.is);
     }
@@ -64,4 +64,4 @@ returns-clause-left c =
     let e = c.start_of_pair-at.ensures in
     predicate_entered (triples_view c.args.indexed.now.triples) c.args.predicate c.read_list-pair.result c.args.self.at
     c.start_of_pair-at.result c.args.self.rest.now c.split_at.result.1.now c.args.indexed.now.triples.valid.marked
-    (c.requires.stands.between c.if-self.false) split (record { within = e.within; is = e.is; earlier = e.earlier })
+    (c.requires.positioned.between c.if-self.false) split (record { within = e.within; is = e.is; earlier = e.earlier })

@@ -16,7 +16,7 @@ overflow_add-position c =
     omega (
       arith,
       numbers_below t.array_y,
-      e.stands.pair_is,
+      e.positioned.pair_is,
       ap (pair_of (triples_view t)) e.at,
       pair_within (triples_view t) t.valid.marked c.args.from c.requires.within,
     )
@@ -35,20 +35,20 @@ read_entry-requires c =
     let e = c.position_at-position.ensures in
     omega (
       arith,
-      e.stands.pair_is,
+      e.positioned.pair_is,
       ap (pair_of (triples_view t)) e.at,
       pair_within (triples_view t) t.valid.marked c.args.from c.requires.within,
     )
 
-pub returns-then-read_entry-predicate-clause-stands : goal.returns-then-read_entry-predicate-clause-stands
+pub returns-then-read_entry-predicate-clause-positioned : goal.returns-then-read_entry-predicate-clause-positioned
 unfolding triples_view
-returns-then-read_entry-predicate-clause-stands c =
+returns-then-read_entry-predicate-clause-positioned c =
     let t = c.args.indexed.now.triples in
     let f = triples_view t in
     let e = c.position_at-position.ensures in
     let q = c.position_at-position.result.pair in
     let b = c.lower_bound-next.ensures in
-    let pair : q ≡ pair_of f c.args.from = e.stands.pair_is ∙ ap (pair_of f) e.at in
+    let pair : q ≡ pair_of f c.args.from = e.positioned.pair_is ∙ ap (pair_of f) e.at in
     let within : q < length f.array_y =
     omega (arith, pair, pair_within f t.valid.marked c.args.from c.requires.within) in
     let rest : c.split_at.result.1.now ≡ positions_from f.array_y c.args.predicate (q + 1) =
@@ -57,7 +57,7 @@ returns-then-read_entry-predicate-clause-stands c =
     record {
       between = λ u. let no : true ≡ false = u in absurd (cc);
       inside = λ u. within_pair f c.args.predicate q c.position_at-position.result.subject c.args.from
-          c.split_at.result.1.now c.requires.within pair e.stands.subject_is (sym c.read_entry.ensures.is
+          c.split_at.result.1.now c.requires.within pair e.positioned.subject_is (sym c.read_entry.ensures.is
           ∙ c.if-read_entry-predicate.true) rest;
     }
 
@@ -68,14 +68,14 @@ end_of_pair-requires c =
     let e = c.position_at-position.ensures in
     omega (
       arith,
-      e.stands.pair_is,
+      e.positioned.pair_is,
       ap (pair_of (triples_view t)) e.at,
       pair_within (triples_view t) t.valid.marked c.args.from c.requires.within,
     )
 
-pub returns-clause-stands : goal.returns-clause-stands
+pub returns-clause-positioned : goal.returns-clause-positioned
 unfolding triples_view
-returns-clause-stands c =
+returns-clause-positioned c =
     let t = c.args.indexed.now.triples in
     let f = triples_view t in
     let e = c.position_at-position.ensures in
@@ -85,7 +85,7 @@ returns-clause-stands c =
     let within : q < length f.array_y =
     omega (
       arith,
-      e.stands.pair_is,
+      e.positioned.pair_is,
       ap (pair_of f) e.at,
       pair_within f t.valid.marked c.args.from c.requires.within,
     ) in
@@ -105,5 +105,5 @@ returns-clause-left c =
     let e = c.position_at-position.ensures in
     let d = c.end_of_pair.ensures in
     predicate_left f c.args.predicate c.args.from c.position_at-position.result.pair c.end_of_pair.result
-    (e.stands.pair_is ∙ ap (pair_of f) e.at)
+    (e.positioned.pair_is ∙ ap (pair_of f) e.at)
     (λ same. c.if-read_entry-predicate.false (c.read_entry.ensures.is ∙ same)) d.within d.below d.above

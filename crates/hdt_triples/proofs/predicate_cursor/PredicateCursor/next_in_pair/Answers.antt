@@ -4,9 +4,9 @@ use Rattle.std.proofs.Common.{arith}
 use Rattle.hdt_seq.specs.Laws.Numbers.{numbers_below}
 use Rattle.hdt_triples.proofs.predicate_cursor.PredicateCursor.next_in_pair.Goals as goal
 
-pub returns-clause-stands : goal.returns-clause-stands
+pub returns-clause-positioned : goal.returns-clause-positioned
 unfolding triples_view
-returns-clause-stands c =
+returns-clause-positioned c =
     λ p st. advanced_cursor (triples_view c.args.triples.now) p c.args.self c.read_bit-last.result
     c.args.triples.now.valid.marked c.requires.inside c.read_bit-last.ensures.is st
 

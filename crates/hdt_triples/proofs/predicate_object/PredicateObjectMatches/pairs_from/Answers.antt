@@ -16,7 +16,7 @@ object_in_pair-here-requires c =
     let e = c.position_at-pair.ensures in
     omega (
       arith,
-      e.stands.pair_is,
+      e.positioned.pair_is,
       ap (pair_of (triples_view t)) e.at,
       pair_within (triples_view t) t.valid.marked c.args.from c.requires.within,
     )
@@ -35,7 +35,7 @@ start_of_pair-requires c =
     let e = c.position_at-pair.ensures in
     omega (
       arith,
-      e.stands.pair_is,
+      e.positioned.pair_is,
       ap (pair_of (triples_view t)) e.at,
       pair_within (triples_view t) t.valid.marked c.args.from c.requires.within,
     )
@@ -52,7 +52,7 @@ returns-then-here-end-clause-between c =
     let within : q < length f.array_y =
     omega (
       arith,
-      e.stands.pair_is,
+      e.positioned.pair_is,
       ap (pair_of f) e.at,
       pair_within f t.valid.marked c.args.from c.requires.within,
     ) in
@@ -68,7 +68,7 @@ returns-then-here-end-clause-left c = λ p given.
     let r = c.object_in_pair-here.result in
     let d = c.start_of_pair.ensures in
     pair_left p f c.position_at-pair.result.pair c.args.object r.0 r.1 c.start_of_pair.result c.args.from given
-    c.object_in_pair-here.ensures.is (e.stands.pair_is
+    c.object_in_pair-here.ensures.is (e.positioned.pair_is
     ∙ ap (pair_of f) e.at) d.is d.earlier (omega (arith, c.if-from-here.true)) (omega (arith, c.if-here-end.true))
     (omega (arith, c.requires.within))
 
@@ -80,7 +80,7 @@ overflow_add-pair c =
     omega (
       arith,
       numbers_below t.array_y,
-      e.stands.pair_is,
+      e.positioned.pair_is,
       ap (pair_of (triples_view t)) e.at,
       pair_within (triples_view t) t.valid.marked c.args.from c.requires.within,
     )
@@ -104,7 +104,7 @@ returns-clause-between c =
     let within : q < length f.array_y =
     omega (
       arith,
-      e.stands.pair_is,
+      e.positioned.pair_is,
       ap (pair_of f) e.at,
       pair_within f t.valid.marked c.args.from c.requires.within,
     ) in
@@ -126,4 +126,4 @@ returns-clause-left c = λ p given.
       | else-from-here-via-else-from-here w ↦ (λ l. absurd (omega (arith, w.if-from-here.false, l)))
     ] in
     pair_passed p f c.position_at-pair.result.pair c.args.object r.0 r.1 c.args.from given
-    c.object_in_pair-here.ensures.is (e.stands.pair_is ∙ ap (pair_of f) e.at) none
+    c.object_in_pair-here.ensures.is (e.positioned.pair_is ∙ ap (pair_of f) e.at) none

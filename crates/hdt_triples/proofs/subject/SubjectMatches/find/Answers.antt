@@ -10,10 +10,11 @@ invariant_of-result c =
     let e = c.start_of_subject-position.ensures in
     record {
       given = c.requires;
-      stands = e.stands;
+      positioned = e.positioned;
       reached = e.reached;
       few = budget_first c.args.subject (triples_view c.args.indexed.now.triples) c.start_of_subject-position.result.at
-          c.start_of_subject-position.new.steps e.stands.within e.before (omega (arith, e.cost, c.new-steps.ensures));
+          c.start_of_subject-position.new.steps e.positioned.within e.before
+          (omega (arith, e.cost, c.new-steps.ensures));
     }
 
 pub returns-clause-items : goal.returns-clause-items
@@ -21,7 +22,7 @@ unfolding remaining_matches
 returns-clause-items c =
     let e = c.start_of_subject-position.ensures in
     sym (matches_skipped c.args.pattern c.args.subject
-    (triples_view c.args.indexed.now.triples) c.start_of_subject-position.result.at c.requires e.stands.within
+    (triples_view c.args.indexed.now.triples) c.start_of_subject-position.result.at c.requires e.positioned.within
     e.before)
 
 pub returns-clause-fits : goal.returns-clause-fits

@@ -10,10 +10,10 @@ invariant_of-result c =
     let e = c.start_of_subject_from-position.ensures in
     record {
       given = c.requires.given;
-      stands = e.stands;
+      positioned = e.positioned;
       reached = e.reached;
       few = within_budget (subject_cost f c.args.subject) f c.start_of_subject_from-position.result.at c.new.result
-          e.stands.within c.new.ensures;
+          e.positioned.within c.new.ensures;
     }
 
 pub returns-clause-items : goal.returns-clause-items
@@ -22,4 +22,4 @@ returns-clause-items c =
     let e = c.start_of_subject_from-position.ensures in
     subject_left c.args.pattern c.args.subject
     (triples_view c.args.indexed.now.triples) c.args.from c.start_of_subject_from-position.result.at
-    c.requires.given e.later e.stands.within e.before
+    c.requires.given e.later e.positioned.within e.before

@@ -13,13 +13,13 @@ invariant_of-self c =
     let f = triples_view m.triples in
     record {
       given = m.given;
-      stands = c.advance-self.ensures.stands;
+      positioned = c.advance-self.ensures.positioned;
       reached = λ h. omega (arith, c.advance-self.ensures.later, c.if-self.true);
       few = subst (λ j. IsWithinBudget (subject_cost f m.subject) f c.advance-self.new.steps (triples_from f j))
           (sym c.advance-self.ensures.at)
           (budget_step m.subject f m.position.at m.steps c.advance-self.new.steps
           (omega (arith, c.loop-self-test.true, c.len.ensures))
-          (sym (m.stands.subject_is ∙ ap (subject_at f) m.stands.pair_is)
+          (sym (m.positioned.subject_is ∙ ap (subject_at f) m.positioned.pair_is)
           ∙ c.if-self.true) (omega (arith, c.read_triple-triple.ensures.cost, c.advance-self.ensures.cost)) m.few);
     }
 
@@ -27,6 +27,6 @@ pub returns-else-self-clause-steps : goal.returns-else-self-clause-steps
 unfolding remaining_matches
 returns-else-self-clause-steps c =
     let m = c.loop-self.self in
-    let none = matches_over m.pattern m.subject (triples_view m.triples) m.position m.given m.stands
+    let none = matches_over m.pattern m.subject (triples_view m.triples) m.position m.given m.positioned
     (omega (arith, m.reached (omega (arith, c.loop-self-test.true, c.len.ensures)), c.if-self.false)) in
     (sym c.loop-self.invariant.left ∙ none, none)

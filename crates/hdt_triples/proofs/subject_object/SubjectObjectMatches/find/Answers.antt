@@ -12,7 +12,7 @@ invariant_of-result c =
     let f = triples_view c.args.listed.now.indexed.triples in
     let e = c.start_of_subject-position.ensures in
     let skipped = matches_skipped c.args.pattern c.args.subject f c.start_of_subject-position.result.at
-    c.requires.subject_given e.stands.within e.before in
+    c.requires.subject_given e.positioned.within e.before in
     record {
       subject_given = c.requires.subject_given;
       predicate_free = c.requires.predicate_free;
@@ -20,11 +20,11 @@ invariant_of-result c =
       places_are = c.positions_of-places.ensures.is;
       price_is = first_price f c.args.object c.digits_of.result c.positions_of-places.result.now
           c.positions_of-places.ensures.is c.digits_of.ensures.is;
-      stands = λ h. e.stands;
+      positioned = λ h. e.positioned;
       reached = e.reached;
       room = omega arith;
       few = first_pays c.args.subject f c.start_of_subject-position.result.at c.positions_of-places.new.steps
-          e.stands.within e.before (omega (arith, e.cost, c.positions_of-places.ensures.cost, c.new-steps.ensures));
+          e.positioned.within e.before (omega (arith, e.cost, c.positions_of-places.ensures.cost, c.new-steps.ensures));
       goes = λ h. first_goes f (list_search_cost f c.args.object) c.positions_of-places.new.steps _ _
           (omega (arith, e.cost, c.positions_of-places.ensures.cost, c.new-steps.ensures)) (sym (ap length skipped));
       short = first_short f (list_search_cost f c.args.object) c.positions_of-places.new.steps _
@@ -37,7 +37,7 @@ returns-clause-items c =
     let e = c.start_of_subject-position.ensures in
     sym (matches_skipped c.args.pattern c.args.subject
     (triples_view c.args.listed.now.indexed.triples) c.start_of_subject-position.result.at c.requires.subject_given
-    e.stands.within e.before)
+    e.positioned.within e.before)
 
 pub returns-clause-fits : goal.returns-clause-fits
 unfolding remaining_matches

@@ -17,11 +17,11 @@ invariant_of-result c =
       places_are = c.positions_of-places.ensures.is;
       price_is = first_price f c.args.object c.digits_of.result c.positions_of-places.result.now
           c.positions_of-places.ensures.is c.digits_of.ensures.is;
-      stands = λ h. e.stands;
+      positioned = λ h. e.positioned;
       reached = e.reached;
       room = omega arith;
-      few = subject_object_budget f c.args.subject at c.new.result e.stands.within c.new.ensures;
-      goes = λ h. subject_object_goes c.args.pattern f c.args.object at c.new.result e.stands.within c.new.ensures;
+      few = subject_object_budget f c.args.subject at c.new.result e.positioned.within c.new.ensures;
+      goes = λ h. subject_object_goes c.args.pattern f c.args.object at c.new.result e.positioned.within c.new.ensures;
       short = subject_object_short c.args.pattern f c.args.object c.new.result c.new.ensures;
     }
 
@@ -31,4 +31,4 @@ returns-clause-items c =
     let e = c.start_of_subject_from-position.ensures in
     subject_left c.args.pattern c.args.subject
     (triples_view c.args.listed.now.indexed.triples) c.args.from c.start_of_subject_from-position.result.at
-    c.requires.subject_given e.later e.stands.within e.before
+    c.requires.subject_given e.later e.positioned.within e.before

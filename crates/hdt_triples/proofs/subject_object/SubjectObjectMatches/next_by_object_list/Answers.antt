@@ -23,7 +23,7 @@ invariant_of-self c =
       object_given = m.object_given;
       places_are = m.places_are;
       price_is = m.price_is;
-      stands = λ h. absurd (omega (arith, h, c.len-self.ensures));
+      positioned = λ h. absurd (omega (arith, h, c.len-self.ensures));
       reached = λ h. absurd (omega (arith, h, c.len-self.ensures));
       room = omega arith;
       few = spared m.subject f m.position.at c.len-self.result (m.steps + m.saved_steps)
@@ -50,7 +50,7 @@ pub read_entry-predicate-requires : goal.read_entry-predicate-requires
 unfolding triples_view
 read_entry-predicate-requires c =
     let t = c.args.self.now.indexed.now.triples in
-    within_pairs (triples_view t) c.in-Some.position t.valid.marked c.in-Some.ensures.found.stands
+    within_pairs (triples_view t) c.in-Some.position t.valid.marked c.in-Some.ensures.found.positioned
     c.in-Some.ensures.found.within
 
 pub invariant_of-self-2 : goal.invariant_of-self-2
@@ -84,7 +84,7 @@ invariant_of-self-2 c =
       object_given = m.object_given;
       places_are = m.places_are;
       price_is = m.price_is;
-      stands = λ h. c.advance-self.ensures.stands;
+      positioned = λ h. c.advance-self.ensures.positioned;
       reached = λ h. omega (arith, c.advance-self.ensures.later, found.own);
       room = omega arith;
       few = spared m.subject f m.position.at next (m.steps + m.saved_steps) (c.advance-self.new.steps + 0)

@@ -58,7 +58,7 @@ returns-clause-found c =
     let position = held_at f.array_z c.args.places.now c.args.object c.lower_bound-next.result c.requires.places
     c.if-next-places.false in
     record {
-      stands = record {
+      positioned = record {
         within = omega (arith, at, position.0);
         pair_is = c.rank-pair.ensures.is;
         subject_is = sym (c.if-found-subject.false) ∙ c.subject_of_pair-found.ensures.is;

@@ -20,7 +20,7 @@ read_entry-predicate-requires c =
     let m = c.triples.self in
     let t = m.indexed.now.triples in
     let within : m.position.at < length (triples_view t).array_z = omega (arith, c.triples-test.true, c.len.ensures) in
-    within_pairs (triples_view t) m.position t.valid.marked (m.stands within) within
+    within_pairs (triples_view t) m.position t.valid.marked (m.positioned within) within
 
 pub invariant_of-self : goal.invariant_of-self
 unfolding triples_view
@@ -34,11 +34,11 @@ invariant_of-self c =
     let next = c.advance-self.result.at in
     let left = length (matches m.pattern (triples_from f next)) in
     let own : subject_at f (pair_of f m.position.at) ≡ m.subject =
-    sym ((m.stands within).subject_is ∙ ap (subject_at f) (m.stands within).pair_is) ∙ c.if-self.true in
+    sym ((m.positioned within).subject_is ∙ ap (subject_at f) (m.positioned within).pair_is) ∙ c.if-self.true in
     let room : m.saved_steps ≤ search_cost = omega (arith, m.room, m.price_is) in
     let is : more ≡ suc left =
     ap length (scan_taken m.pattern f m.subject m.object m.position m.subject_given m.predicate_free m.object_given
-    (m.stands within) within c.if-self.true (sym c.read_entry-object.ensures.is ∙ c.if-object-self.true))
+    (m.positioned within) within c.if-self.true (sym c.read_entry-object.ensures.is ∙ c.if-object-self.true))
     ∙ ap (λ j. suc (length (matches m.pattern (triples_from f j)))) (sym c.advance-self.ensures.at) in
     let cost : c.read_entry-predicate.new.steps ≤ m.steps + 4 =
     omega (
@@ -56,7 +56,7 @@ invariant_of-self c =
       object_given = m.object_given;
       places_are = m.places_are;
       price_is = m.price_is;
-      stands = λ h. c.advance-self.ensures.stands;
+      positioned = λ h. c.advance-self.ensures.positioned;
       reached = λ h. omega (arith, c.advance-self.ensures.later, c.if-self.true);
       room = m.room;
       few = budget_after m.subject f m.position.at next (m.steps + m.saved_steps)
@@ -74,7 +74,7 @@ returns-then-object-self-clause-steps c =
     let within : m.position.at < length f.array_z = omega (arith, c.triples-test.true, c.len.ensures) in
     sym c.triples.invariant.left
     ∙ scan_taken m.pattern f m.subject m.object m.position m.subject_given m.predicate_free m.object_given
-    (m.stands within) within c.if-self.true (sym c.read_entry-object.ensures.is ∙ c.if-object-self.true)
+    (m.positioned within) within c.if-self.true (sym c.read_entry-object.ensures.is ∙ c.if-object-self.true)
     ∙ ap (λ q. (m.subject, q, m.object) ∷ matches m.pattern (triples_from f (m.position.at + 1)))
     (sym c.read_entry-predicate.ensures.is)
     ∙ ap (λ o. (m.subject, c.read_entry-predicate.result, o) ∷ matches m.pattern (triples_from f (m.position.at + 1)))
@@ -94,7 +94,7 @@ invariant_of-self-in-triples c =
     let next = c.advance-self.result.at in
     let left = length (matches m.pattern (triples_from f next)) in
     let own : subject_at f (pair_of f m.position.at) ≡ m.subject =
-    sym ((m.stands within).subject_is ∙ ap (subject_at f) (m.stands within).pair_is) ∙ c.if-self.true in
+    sym ((m.positioned within).subject_is ∙ ap (subject_at f) (m.positioned within).pair_is) ∙ c.if-self.true in
     let room : m.saved_steps ≤ search_cost = omega (arith, m.room, m.price_is) in
     let is : more ≡ left = ap length
     (scan_missed m.pattern f m.object m.position.at m.object_given within
@@ -111,7 +111,7 @@ invariant_of-self-in-triples c =
       object_given = m.object_given;
       places_are = m.places_are;
       price_is = m.price_is;
-      stands = λ h. c.advance-self.ensures.stands;
+      positioned = λ h. c.advance-self.ensures.positioned;
       reached = λ h. omega (arith, c.advance-self.ensures.later, c.if-self.true);
       room = omega (arith, c.if-self-2.false);
       few = budget_after m.subject f m.position.at next (m.steps + m.saved_steps)
@@ -142,7 +142,7 @@ returns-else-self-clause-steps c =
     let m = c.triples.self in
     let f = triples_view m.indexed.now.triples in
     let within : m.position.at < length f.array_z = omega (arith, c.triples-test.true, c.len.ensures) in
-    let none = matches_over m.pattern m.subject f m.position m.subject_given (m.stands within)
+    let none = matches_over m.pattern m.subject f m.position m.subject_given (m.positioned within)
     (omega (arith, m.reached within, c.if-self.false)) in
     (sym c.triples.invariant.left ∙ none, none)
 

@@ -11,7 +11,7 @@ read_bit-requires c =
     omega (
       arith,
       t.valid.marked.pairs,
-      within_pairs (triples_view t) c.args.position t.valid.marked c.requires.stands c.requires.within,
+      within_pairs (triples_view t) c.args.position t.valid.marked c.requires.positioned c.requires.within,
     )
 
 pub overflow_add-result : goal.overflow_add-result
@@ -25,7 +25,7 @@ overflow_add-result-2 c =
     omega (
       arith,
       numbers_below t.array_y,
-      within_pairs (triples_view t) c.args.position t.valid.marked c.requires.stands c.requires.within,
+      within_pairs (triples_view t) c.args.position t.valid.marked c.requires.positioned c.requires.within,
       at_most_one c.read_bit-is_last_of_pair.result c.from.result c.from.ensures,
     )
 
@@ -36,13 +36,13 @@ overflow_add-result-3 c =
     omega (
       arith,
       t.few,
-      subject_few t.counts (triples_view t) c.args.position t.valid c.requires.stands c.requires.within,
+      subject_few t.counts (triples_view t) c.args.position t.valid c.requires.positioned c.requires.within,
       at_most_one (c.read_bit-is_last_of_pair.result && c.read_bit.result) c.from-2.result c.from-2.ensures,
     )
 
-pub returns-clause-stands : goal.returns-clause-stands
+pub returns-clause-positioned : goal.returns-clause-positioned
 unfolding triples_view
-returns-clause-stands c =
+returns-clause-positioned c =
     advanced (triples_view c.args.self.now) c.args.position c.read_bit-is_last_of_pair.result c.read_bit.result
-    c.from.result c.from-2.result c.requires.stands c.requires.within
+    c.from.result c.from-2.result c.requires.positioned c.requires.within
     c.read_bit-is_last_of_pair.ensures.is c.read_bit.ensures.is c.from.ensures c.from-2.ensures

@@ -11,7 +11,7 @@ pub triples-init : goal.triples-init
 triples-init c =
     let f = triples_view c.args.self.now in
     record {
-      stands = c.first-position.ensures.stands;
+      positioned = c.first-position.ensures.positioned;
       few = omega arith;
       so_far = omega (
         arith,
@@ -39,7 +39,7 @@ pub triples-preserved : goal.triples-preserved
 triples-preserved c =
     let f = triples_view c.args.self.now in
     record {
-      stands = c.advance-position.ensures.stands;
+      positioned = c.advance-position.ensures.positioned;
       few = omega (arith, c.triples-test.true, at_most_one c.is_match.result c.from-count.result c.from-count.ensures);
       so_far = omega (
         arith,

@@ -7,7 +7,7 @@ use Rattle.hdt_triples.proofs.triples.Triples.count_by_scan.Given as goal
 
 abbrev pub invariant-triples : goal.invariant-triples
 invariant-triples l = record {
-  stands : IsTriplePosition (triples_view l.self) l.position;
+  positioned : IsTriplePosition (triples_view l.self) l.position;
   few : l.count ≤ l.most;
   so_far : l.count + length (matches l.pattern (triples_from (triples_view l.self) l.position.at))
       ≡ length (matches l.pattern (triples_of (triples_view l.self)));
