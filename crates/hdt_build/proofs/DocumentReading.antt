@@ -109,14 +109,6 @@ texts_more graph added h a b c = record {
       (All-push IsDictionaryString (objects_of graph) added.2 h.objects_are c);
 }
 
--- no triples, no strings
-pub no_texts : HasDictionaryStrings []
-no_texts = record {
-  subjects_are = λ k d lt. absurd (omega arith);
-  predicates_are = λ k d lt. absurd (omega arith);
-  objects_are = λ k d lt. absurd (omega arith);
-}
-
 -- the line of a triple that was read
 pub line_of : (x y : Option (List ℕ)) (old new : LinesState) (triple : Triple) → TakesTriple old new x y triple
     → (text : List ℕ) × EncodesTriple text triple

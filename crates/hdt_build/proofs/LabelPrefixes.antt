@@ -1,5 +1,5 @@
 -- The prefixes that keep the blank nodes of several inputs apart.
-use Rattle.std.proofs.Common.{◌≡◌, ◌≢◌, ◌<◌, ◌^◌, ◌%◌, ◌+◌, ◌++◌, ◌∷◌, ℕ, List, [], codes, zero, suc, arith, rules}
+use Rattle.std.proofs.Common.{◌≢◌, ◌<◌, ◌^◌, ◌%◌, ◌+◌, ◌++◌, ◌∷◌, ℕ, [], codes, zero, suc, arith, rules}
 use Rattle.std.specs.Fmt.{decimal}
 use Rattle.std.proofs.lemmas.Fmt.{IsAscii-decimal, decimal_by_steps}
 use Rattle.std.proofs.lemmas.List.Elements.{All-append}

@@ -54,7 +54,6 @@ pub mod CountedChunks
 pub mod Events
 pub mod RecordMerging
 pub mod Groups
-pub mod GroupRoles
 pub mod SectionBuilders
 pub mod TripleTapes
 pub mod RecordIds

@@ -1,13 +1,13 @@
 -- Triples of indices, read one after another.
-use Rattle.std.proofs.Common.{◌≡◌, ◌⊎◌, inl, inr, ℕ, ◌<◌, false, true, Bool, List, []}
+use Rattle.std.proofs.Common.{◌≡◌, ◌⊎◌, inl, inr, ℕ, ◌<◌, false, true, Bool, List}
 use Rattle.std.proofs.Common.{◌∷◌, length, get_or, subst, arith}
 use Rattle.std.specs.Prelude.{◌↔◌}
 use Rattle.std.specs.List.{Contains}
 use Rattle.std.proofs.lemmas.List.Elements.{All-head, All-tail}
 use Rattle.hdt_wire.specs.declared.Role.{Role}
-use Rattle.hdt_dict.specs.Laws.Members.{Contains-here, Contains-later, Contains-cons_cases, Contains-nil}
+use Rattle.hdt_dict.specs.Laws.Members.{Contains-here, Contains-later, Contains-cons_cases}
 use Rattle.hdt_triples.specs.TripleSequences.{Triple}
-use Rattle.hdt_triples.specs.Uses.{AreUseFlags, Uses, ids_in_role, role_component}
+use Rattle.hdt_triples.specs.Uses.{Uses, ids_in_role, role_component}
 use Rattle.hdt_build.specs.Inside.Collecting.{AreBelow}
 
 module _ (n : ℕ) (t : Triple) (ts : List Triple) (h : AreBelow n (t ∷ ts)) where
@@ -31,14 +31,6 @@ module _ (n : ℕ) (t : Triple) (ts : List Triple) (h : AreBelow n (t ∷ ts)) w
 abbrev pub AreFlagsSoFar : List Triple → Role → List Triple → List Bool → Type 0
 AreFlagsSoFar all role ahead flags = (n : ℕ) → n < length flags
     → ((get_or flags n false ≡ true) ⊎ Uses ahead role n) ↔ Uses all role n
-
-pub no_flags : (all : List Triple) (role : Role) (flags : List Bool)
-    → ((n : ℕ) → n < length flags → get_or flags n false ≡ false) → AreFlagsSoFar all role all flags
-no_flags all role flags none n lt = (to, inr)
-  where
-    to : (get_or flags n false ≡ true) ⊎ Uses all role n → Uses all role n
-    to (inl e) = let f = none n lt in absurd cc
-    to (inr used) = used
 
 module _ (all : List Triple) (role : Role) (t : Triple) (later : List Triple) (old new : List Bool)
     (h : AreFlagsSoFar all role (t ∷ later) old) (len : length new ≡ length old)
@@ -73,11 +65,3 @@ module _ (all : List Triple) (role : Role) (t : Triple) (later : List Triple) (o
       from : (get_or old n false ≡ true) ⊎ Uses (t ∷ later) role n → (get_or new n false ≡ true) ⊎ Uses later role n
       from (inl e) = inl ((is n below).1 (inr e))
       from (inr used) = split (Contains-cons_cases (role_component role t) n (ids_in_role role later) used)
-
-pub all_flags : (all : List Triple) (role : Role) (flags : List Bool) → AreFlagsSoFar all role [] flags
-    → AreUseFlags all role flags
-all_flags all role flags h n lt = (λ e. (h n lt).0 (inl e), λ used. done ((h n lt).1 used))
-  where
-    done : (get_or flags n false ≡ true) ⊎ Uses [] role n → get_or flags n false ≡ true
-    done (inl e) = e
-    done (inr used) = absurd (Contains-nil n used)

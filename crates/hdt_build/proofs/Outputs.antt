@@ -1,14 +1,7 @@
 -- What is written piece by piece.
-use Rattle.std.proofs.Common.{◌∙◌, ℕ, List, [], ◌++◌, refl, arith, length-append}
-use Rattle.std.proofs.KnownBytes.{Appends-nil, Appends-trans}
+use Rattle.std.proofs.Common.{◌∙◌, ℕ, List, ◌++◌, arith, length-append}
+use Rattle.std.proofs.KnownBytes.{Appends-trans}
 use Rattle.hdt_build.specs.Inside.Output.{OutputState, Puts}
-
-pub puts_nothing : (o : OutputState) → Puts o o []
-puts_nothing o = record {
-  written = Appends-nil o.0;
-  counted = omega arith;
-  unfailed = refl;
-}
 
 pub puts_then : (a b c : OutputState) (xs ys : List ℕ) → Puts a b xs → Puts b c ys → Puts a c (xs ++ ys)
 puts_then a b c xs ys p q = record {

@@ -1,12 +1,12 @@
 -- Merging ascending runs: the strings in order, and the rank of each.
-use Rattle.std.proofs.Common.{◌≡◌, ◌≢◌, ◌∙◌, ◌⊎◌, inl, inr, ℕ, ◌+◌, ◌-◌, ◌<◌, List, [], length, get_or, set, sym, subst}
+use Rattle.std.proofs.Common.{◌≡◌, ◌∙◌, ◌⊎◌, inl, inr, ℕ, ◌+◌, ◌-◌, ◌<◌, List, [], length, get_or, set, sym, subst}
 use Rattle.std.proofs.Common.{arith}
 use Rattle.std.proofs.lemmas.Bool.{cases_eq}
 use Rattle.std.proofs.lemmas.List.{length-set, get_or-set_same, get_or-set_other}
 use Rattle.std.proofs.lemmas.Map.Keys.{sorted_from_all_adjacent}
 use Rattle.std.specs.Cmp.Lexicographic.{nat_list_cmp_total}
 use Rattle.hdt_front.specs.Order.{IsAscending}
-use Rattle.hdt_build.specs.Inside.SortedEntries.{AreIndicesOf, IsPushedOnce, unranked}
+use Rattle.hdt_build.specs.Inside.SortedEntries.{IsPushedOnce, unranked}
 use Rattle.hdt_build.proofs.Deduplication.{IsAt, pushed_once}
 
 -- ys ascend, and each string of xs is the one of ys at its rank, or has none
@@ -45,17 +45,3 @@ one_ranked xs ys ns h at x zs v lt is once long =
             ])
           ];
     }
-
-pub all_ranked : (xs ys : List (List ℕ)) (ns : List ℕ) → AreRanked xs ys ns
-    → ((k : ℕ) → k < length ns → get_or ns k 0 ≢ unranked) → AreIndicesOf xs ys ns
-all_ranked xs ys ns h some = record {
-  long = h.long;
-  within = λ k lt. (at k lt).0;
-  is = λ k lt. (at k lt).1;
-}
-  where
-    at : (k : ℕ) → k < length xs → IsAt ys (get_or xs k []) (get_or ns k 0)
-    at k lt = elim (h.each k lt) [
-      | inl none ↦ absurd (some k (omega (arith, lt, h.long)) none)
-      | inr is ↦ is
-    ]

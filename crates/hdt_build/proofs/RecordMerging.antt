@@ -1,17 +1,16 @@
 -- Merging runs of records: one record after another becomes a group, or a role of the last one.
 use Rattle.std.proofs.Common.{◌≡◌, ◌↔◌, ◌∙◌, ◌⊎◌, inl, inr, ℕ, zero, suc, ◌+◌, ◌<◌, ◌/◌, ◌%◌, Bool, true, false, List}
 use Rattle.std.proofs.Common.{[], ◌∷◌, ◌++◌, cond}
-use Rattle.std.proofs.Common.{map, length, get_or, set, drop, Option, Some, None, nat_eq, refl, ap, sym, subst}
+use Rattle.std.proofs.Common.{length, get_or, set, drop, Option, Some, None, nat_eq, refl, ap, sym, subst}
 use Rattle.std.proofs.Common.{append_assoc, append-nil, arith}
-use Rattle.std.specs.List.{All, Contains}
-use Rattle.std.proofs.lemmas.Bool.{cases_eq}
+use Rattle.std.specs.List.{Contains}
 use Rattle.std.proofs.lemmas.Bool.Decides.{nat_tests}
 use Rattle.std.proofs.lemmas.List.{get_or-set_other, get_or-set_same, length-set, map-append}
 use Rattle.std.proofs.lemmas.List.Elements.{All-contains, Contains-append_cases, Contains-append_left}
 use Rattle.std.proofs.lemmas.List.Elements.{Contains-append_right}
 use Rattle.hdt_wire.specs.declared.Role.{Role}
 use Rattle.hdt_wire.specs.declared.Role.TheVariants.{Subject, Predicate, Object}
-use Rattle.hdt_dict.specs.Laws.Members.{Contains-cons_cases, Contains-here, Contains-later, Contains-nil}
+use Rattle.hdt_dict.specs.Laws.Members.{Contains-cons_cases, Contains-here, Contains-nil}
 use Rattle.hdt_build.specs.Inside.Events.{advanced, dealt, latest}
 use Rattle.hdt_build.specs.declared.grouped_sections.Pushed.{Pushed}
 use Rattle.hdt_build.specs.declared.grouped_sections.Pushed.TheVariants.{Refused, Added, Began}

@@ -1,12 +1,12 @@
 -- Writing a section as a filter of ascending strings.
-use Rattle.std.proofs.Common.{◌≡◌, inl, inr, ℕ, ◌+◌, ◌<◌, ◌≤◌, Bool, List, [], ◌∷◌, ◌++◌, true, false, length, get_or}
+use Rattle.std.proofs.Common.{◌≡◌, inl, inr, ℕ, ◌+◌, ◌<◌, Bool, List, [], ◌∷◌, ◌++◌, true, false, length, get_or}
 use Rattle.std.proofs.Common.{set, subst, arith}
 use Rattle.std.proofs.lemmas.Bool.{cases_lt, cases_eq}
 use Rattle.std.proofs.lemmas.List.{get_or_past}
 use Rattle.std.proofs.lemmas.Map.Keys.{Less-from_sorted}
 use Rattle.hdt_front.specs.Order.{IsAscending, string_cmp}
-use Rattle.hdt_build.specs.Inside.Filtering.{flag_at, IsFilteredSection}
-use Rattle.hdt_build.proofs.RunMerging.{InWork, Ahead, begun, taken, finished}
+use Rattle.hdt_build.specs.Inside.Filtering.{flag_at}
+use Rattle.hdt_build.proofs.RunMerging.{InWork, Ahead, begun, taken}
 
 -- a flag is true only before the end
 pub flag_before : (flags : List Bool) (k : ℕ) → flag_at flags k ≡ true → k < length flags
@@ -62,11 +62,3 @@ module _ (xs : List (List ℕ)) (up : IsAscending xs) (keeps : ℕ → Type 0) (
             → Ahead i (length xs) (length xs) (length xs) k
         still k (inl m) = inl (omega (arith, m.0), m.1)
         still k (inr m) = inr m
-
-    pub all_filled : length xs ≤ i → IsFilteredSection xs keeps count strings before after
-    all_filled end = finished keeps text count before strings after
-        (Ahead i (length xs) (length xs) (length xs)) h nothing_ahead
-      where
-        nothing_ahead : (k : ℕ) → Ahead i (length xs) (length xs) (length xs) k → ⊥
-        nothing_ahead k (inl m) = omega (arith, m.0, m.1, end)
-        nothing_ahead k (inr m) = omega (arith, m.0, m.1)

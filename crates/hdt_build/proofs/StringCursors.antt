@@ -57,9 +57,6 @@ module _ (xs : List (List ℕ)) (c : RunCursor) (h : IsCursorOf xs c) (on : c.ha
       × (drop (c.at + 1) xs ≡ remaining_strings c.reader ++ (h.here on).0)
   ahead = drop_first xs c.at [] c.reader.text.items (remaining_strings c.reader ++ (h.here on).0) (h.here on).1
 
-  pub current_is : (c.at < length xs) × (get_or xs c.at [] ≡ c.reader.text.items)
-  current_is = (ahead.0, ahead.1)
-
   pub stepped : (more : Bool) (reader : StringReader)
       → (more ≡ true → remaining_strings c.reader ≡ reader.text.items ∷ remaining_strings reader)
       → IsCursorOf xs (record { at = (c.at + 1) % 2 ^ 64; has_current = more; reader = reader })

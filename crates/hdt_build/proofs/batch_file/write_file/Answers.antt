@@ -1,4 +1,4 @@
-use Rattle.std.proofs.Common.{◌≡◌, ◌∙◌, ◌<◌, ℕ, List, Option, Ok, length, ap, refl, subst, sym, arith, zero-add}
+use Rattle.std.proofs.Common.{◌∙◌, ◌<◌, ℕ, List, Option, Ok, length, ap, refl, subst, sym, arith, zero-add}
 use Rattle.std.specs.Io.KnownBytes.{Appends}
 use Rattle.hdt_wire.specs.Counted.{inner}
 use Rattle.hdt_build.specs.Canonical.{canonical_file}

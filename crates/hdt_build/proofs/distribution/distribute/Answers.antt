@@ -1,4 +1,4 @@
-use Rattle.std.proofs.Common.{◌≡◌, ◌∙◌, ℕ, ◌<◌, ◌/◌, ◌%◌, arith, refl, subst, sym}
+use Rattle.std.proofs.Common.{◌∙◌, arith, refl}
 use Rattle.hdt_build.proofs.Events.{all_dealt, deal_more}
 use Rattle.hdt_build.proofs.distribution.distribute.Goals as goal
 

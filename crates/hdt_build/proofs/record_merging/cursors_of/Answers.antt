@@ -1,4 +1,4 @@
-use Rattle.std.proofs.Common.{◌∙◌, refl, ap, sym, ◌++◌, ◌∷◌, [], arith, take}
+use Rattle.std.proofs.Common.{◌∙◌, ap, sym, ◌++◌, ◌∷◌, [], arith, take}
 use Rattle.std.proofs.lemmas.List.{take_all, take_more}
 use Rattle.hdt_build.proofs.record_merging.cursors_of.Goals as goal
 

@@ -1,4 +1,3 @@
-use Rattle.std.proofs.Common.{refl}
 use Rattle.hdt_build.proofs.RecordMerging.{merge_begun}
 use Rattle.hdt_build.proofs.record_merging.take_records.Goals as goal
 
