@@ -70,6 +70,7 @@ mod scratch_build;
 mod scratch_files;
 mod scratch_merge;
 mod scratch_output;
+mod scratch_progress;
 mod scratch_runs;
 mod session;
 mod session_stream;

@@ -14,8 +14,8 @@ pub(crate) fn progress_line(
     }
 }
 
-/// The percentage of the input that has been read.
-fn percentage(read: u64, size: u64) -> u128 {
+/// How many percent of a size have been read.
+pub(crate) fn percentage(read: u64, size: u64) -> u128 {
     u128::from(read) * 100 / u128::from(size.max(1))
 }
 
@@ -41,4 +41,15 @@ pub(crate) fn reading_text(
 pub(crate) fn phase_text(alloc: Global, phase: &str, bytes: u64) -> Result<String, AllocError> {
     let megabytes = bytes / 1_000_000;
     format!(in alloc; "hdt: {phase}, {megabytes} MB")
+}
+
+/// The number of a batch, from 1, and the megabytes of all batches that have been written to scratch files.
+pub(crate) fn batch_text(alloc: Global, number: u64, bytes: u64) -> Result<String, AllocError> {
+    let megabytes = bytes / 1_000_000;
+    format!(in alloc; "hdt: batch {number}, {megabytes} MB")
+}
+
+/// How much of the merge of all batches is done.
+pub(crate) fn merge_text(alloc: Global, percent: u128) -> Result<String, AllocError> {
+    format!(in alloc; "hdt: merge {percent}%")
 }

@@ -4,7 +4,8 @@ ghost use Rattle.std.specs.Prelude.{◌≡◌, ◌⊎◌};
 ghost use Rattle.hdt_tool.specs.declared.scratch_files.FileFault.TheVariants.{OutOfMemory};
 
 use crate::atomic_replace::{NAME_ATTEMPTS, random_number};
-use crate::session::{Phase, REPORT_INTERVAL, Session};
+use crate::scratch_progress::ScratchProgress;
+use crate::session::Session;
 use hdt_build::Scratch;
 use hdt_wire::check32;
 use std::alloc::{AllocError, AllocFailed, Global};
@@ -71,10 +72,7 @@ pub(crate) struct ScratchFolder<'a> {
     path: String,
     /// The number of files so far, which have the numbers from 0.
     files: Cell<u64>,
-    /// The number of bytes written so far.
-    written: Cell<u64>,
-    /// The number of bytes at which the next report of progress is due.
-    next: Cell<u64>,
+    progress: ScratchProgress<'a>,
 }
 
 impl Drop for ScratchFolder<'_> {
@@ -89,8 +87,7 @@ impl Drop for ScratchFolder<'_> {
             session: _,
             path: _,
             files: _,
-            written: _,
-            next: _,
+            progress: _,
         } = self;
     }
 }
@@ -137,8 +134,7 @@ impl<'a> ScratchFolder<'a> {
             session,
             path,
             files: Cell::new(0),
-            written: Cell::new(0),
-            next: Cell::new(REPORT_INTERVAL),
+            progress: ScratchProgress::new(session),
         })
     }
 
@@ -159,20 +155,10 @@ impl<'a> ScratchFolder<'a> {
             chunks: Vec::new(self.rt.alloc()),
         })
     }
-
-    /// Counts bytes that were written, and reports them if that is due.
-    fn count(&self, bytes: usize) {
-        let written = self.written.get().saturating_add(bytes as u64);
-        self.written.set(written);
-        if written >= self.next.get() {
-            self.next.set(written.saturating_add(REPORT_INTERVAL));
-            self.session.show_phase(Phase::Sorting, written);
-        }
-    }
 }
 
 /// A chunk of a file.
-#[derive(Clone, Copy)]
+#[derive(Drop)]
 struct FileChunk {
     /// Where it begins.
     offset: u64,
@@ -180,6 +166,8 @@ struct FileChunk {
     len: usize,
     /// Its CRC-32C.
     check: u32,
+    /// Whether it was read.
+    was_read: Cell<bool>,
 }
 
 /// The file of a list: its chunks one after another. It is open only while a chunk is written or read, so that any
@@ -243,9 +231,10 @@ impl<'a> Scratch for ScratchFile<'a> {
             offset: self.len,
             len: bytes.len(),
             check: check32(bytes),
+            was_read: Cell::new(false),
         })?;
         self.len = self.len.saturating_add(bytes.len() as u64);
-        self.folder.count(bytes.len());
+        self.folder.progress.count_written(bytes.len());
         Ok(())
     }
 
@@ -263,7 +252,12 @@ impl<'a> Scratch for ScratchFile<'a> {
             out.as_mut_slice(),
         );
         match session.note_error(read) {
-            Ok(()) if check32(out) == chunk.check => Ok(()),
+            Ok(()) if check32(out) == chunk.check => {
+                if !chunk.was_read.replace(true) {
+                    self.folder.progress.count_read(chunk.len);
+                }
+                Ok(())
+            }
             Ok(()) => Err(FileFault::Damaged),
             Err(error) if error.kind() == ErrorKind::UnexpectedEof => Err(FileFault::Damaged),
             Err(error) => Err(fault_of(&error, FileFault::Read)),

@@ -4,7 +4,7 @@ ghost use Rattle.std.specs.Prelude.{◌≡◌};
 
 use crate::error_context::is_terminal;
 use crate::files::{STDERR_PATH, is_same_file, is_stdin_path, output_path};
-use crate::progress_text::{phase_text, progress_line, reading_text};
+use crate::progress_text::{batch_text, merge_text, phase_text, progress_line, reading_text};
 use crate::recent_lines::RecentLines;
 use crate::request::{Action, Invocation, Progress};
 use crate::session_stream::SessionStream;
@@ -101,6 +101,8 @@ pub(crate) struct Session<'a> {
     first: Cell<FirstBytes>,
     /// Whether the input was read to its end.
     has_read: Cell<bool>,
+    /// Whether input was read since this was last asked.
+    has_new_input: Cell<bool>,
     kept: RefCell<RecentLines>,
 }
 
@@ -170,6 +172,7 @@ impl<'a> Session<'a> {
             error: Cell::new(None),
             first: Cell::new(FirstBytes::NONE),
             has_read: Cell::new(false),
+            has_new_input: Cell::new(false),
             kept: RefCell::new(RecentLines::new(rt.alloc())),
         }
     }
@@ -257,9 +260,15 @@ impl<'a> Session<'a> {
         self.has_read.get()
     }
 
-    /// Keeps what the lines after an error message need of the first `count` bytes of a buffer: the first bytes of the
-    /// input, and the lines of a document that cannot be read again.
+    /// Whether input was read since this was last asked.
+    pub(crate) fn take_new_input(&self) -> bool {
+        self.has_new_input.replace(false)
+    }
+
+    /// Notes that input was read, and keeps what the lines after an error message need of the first `count` bytes of a
+    /// buffer: the first bytes of the input, and the lines of a document that cannot be read again.
     pub(crate) fn keep_input(&self, buffer: &[u8], count: usize) {
+        self.has_new_input.set(true);
         let Some(piece) = buffer.get(..count) else {
             return;
         };
@@ -315,6 +324,25 @@ impl<'a> Session<'a> {
         if matches!(self.progress, Progress::Automatic) && bytes >= REPORT_INTERVAL {
             self.show(phase_text(self.rt.alloc(), phase_name(phase), bytes));
         }
+    }
+
+    /// Shows a text: as a line of a log, or on a terminal in place of the progress line.
+    fn show_step(&self, text: Result<String, AllocError>) {
+        match (self.progress, text) {
+            (Progress::Lines, Ok(text)) => self.print(format!(in self.rt.alloc(); "{text}\n")),
+            (Progress::Automatic, text) => self.show(text),
+            _ => {}
+        }
+    }
+
+    /// Reports which batch, from 1, is written to scratch files, and the bytes of all batches so far.
+    pub(crate) fn show_batch(&self, number: u64, bytes: u64) {
+        self.show_step(batch_text(self.rt.alloc(), number, bytes));
+    }
+
+    /// Reports how many percent of the merge of all batches are done.
+    pub(crate) fn show_merge(&self, percent: u128) {
+        self.show_step(merge_text(self.rt.alloc(), percent));
     }
 
     /// Removes the progress line.
