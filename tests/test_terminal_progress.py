@@ -128,6 +128,21 @@ def test_writing(file: Path, tmp_path: Path) -> None:
     assert texts(on_terminal("rewrite", file, "-").text)[1:] == later
 
 
+def test_scratch(file: Path, tmp_path: Path) -> None:
+    """With `--memory` the batches that are written, and how much of their merge is done; a log has the same."""
+    words: list[Word] = ["merge", "--memory", "4M", file, tmp_path / "out.hdt"]
+    shown = on_terminal(*words)
+    steps = [text for text in texts(shown.text) if re.match("hdt: (batch|merge) ", text)]
+    assert steps[0] == f"hdt: batch 1, {(1 << 24) // 1_000_000} MB" and len(steps) > 1
+    percents = [int(text.removeprefix("hdt: merge ").removesuffix("%")) for text in steps[1:]]
+    assert percents == sorted(set(percents)) and 0 < percents[0] and percents[-1] <= 100
+    assert texts(shown.text)[-1].startswith("hdt: writing, ") and (shown.status, screen(shown.text)) == (0, [])
+    logged = hdt("merge", "--progress", *words[1:]).err.decode().splitlines()
+    size = file.stat().st_size
+    assert [line for line in logged if line not in steps] == [f"hdt: read {it} of {size} bytes" for it in (1 << 24, size)]
+    assert [line for line in logged if line in steps] == steps
+
+
 def test_small_file() -> None:
     """Below 16 MiB there is no line."""
     assert on_terminal("verify", SAMPLES / "three.hdt").text == b""

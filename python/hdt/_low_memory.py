@@ -28,6 +28,7 @@ _SIZE = re.compile(r"([0-9]+)([KMG]?)")
 _LINE_FAULT = re.compile(r"line (\d+) column (\d+): (\d+) ")
 _FAULT = re.compile(r"fault (\d+) \w+ at (\d+)")
 _READ = re.compile(rb"hdt: read (\d+) of (\d+) bytes")
+_PHASE = re.compile(rb"hdt: (batch|merge) \d+")
 _NUMBERS = {os.strerror(number): number for number in errno.errorcode}  # of errors of the system
 
 
@@ -142,7 +143,7 @@ def _run(words: list[str], text: Optional[IO[bytes]], folder: str, meter: Meter)
 
 
 def _counted(lines: Iterable[bytes], meter: Meter) -> Iterator[bytes]:
-    """What the program said, without the lines that say how many bytes of an input it has read: these are counted.
+    """What the program said, without the lines of its progress. The bytes of inputs are counted.
 
     An input follows another one if its size is another, or if fewer bytes have been read.
     """
@@ -152,7 +153,7 @@ def _counted(lines: Iterable[bytes], meter: Meter) -> Iterator[bytes]:
             read, of = map(int, found.groups())
             meter.count(read - last[0] if of == last[1] and read >= last[0] else read)
             last = read, of
-        else:
+        elif not _PHASE.match(line):
             yield line
 
 
