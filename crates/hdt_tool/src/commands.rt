@@ -1,10 +1,9 @@
 //! All commands, from a reader to a writer. A command reads the complete input, makes its output, and then writes it.
 //! Only `strings`, `find`, `dump` and `answer` write before their output is complete.
 ghost use Rattle.std.specs.Prelude.{◌≡◌, ◌≢◌, ◌<◌, ◌++◌, ◌+◌, ◌↔◌, ◌⊎◌, ℕ, List, IfOk, IfErr, OnOk, OnErr, IsErrOf};
-ghost use Rattle.std.specs.Io.KnownBytes.{Appends};
-ghost use Rattle.hdt_wire.specs.Counted.{inner, failures};
+ghost use Rattle.hdt_wire.specs.Counted.{failures};
 ghost use Rattle.hdt_build.specs.Options.{AreValidOptions};
-ghost use Rattle.hdt_tool.specs.Changes.{change, update, FailsAfter};
+ghost use Rattle.hdt_tool.specs.Changes.{change, update};
 ghost use Rattle.hdt_tool.specs.Dialogue.{AnswersOverFile, AnswersOverFileUntilFault};
 ghost use Rattle.hdt_tool.specs.PrintedReports.{counts_line};
 ghost use Rattle.hdt_tool.specs.Outcomes.{ReadsAll, IsFaultOfInput, IsFaultOfBytes, YieldsAppended};

@@ -1,5 +1,5 @@
 //! Reading the arguments `--memory` and `--scratch`.
-ghost use Rattle.std.specs.Prelude.{◌≡◌, ℕ, Option, IfOk, IfErr, MatchOption, codes};
+ghost use Rattle.std.specs.Prelude.{◌≡◌, ℕ, Option, IfOk, IfErr, MatchOption};
 ghost use Rattle.clap.specs.Words.{found_of, rows_of};
 ghost use Rattle.hdt_tool.specs.CommandLine.{IsSizeOf, ParsesAsMemory, Refutes, size_digits, size_unit};
 

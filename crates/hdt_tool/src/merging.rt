@@ -1,6 +1,5 @@
 //! `merge` over files.
 ghost use Rattle.std.specs.Prelude.{◌≡◌, ◌<◌, ◌≤◌, ◌++◌, ◌↔◌, length, IfOk, IfErr, IsErrOf, codes};
-ghost use Rattle.hdt_wire.specs.Counted.{inner};
 ghost use Rattle.hdt_build.specs.Built.{IsBuilt};
 ghost use Rattle.hdt_build.specs.Layouts.{denoted_by};
 ghost use Rattle.hdt_build.specs.Options.{AreValidOptions};
