@@ -26,8 +26,8 @@
 //!   `session_stream` and `recent_lines`: its parts;
 //! - `files`, `overwriting`, `atomic_replace`, `output_file`, `split_parts`, `split_files`, `merging`,
 //!   `building_inputs`, `new_header` and `status`: the same over files and streams; `scratch_files`,
-//!   `scratch_progress`, `scratch_runs`, `scratch_build`, `scratch_merge` and `scratch_output`: `build` and `merge` with
-//!   `--memory`.
+//!   `scratch_progress`, `scratch_runs`, `scratch_build`, `scratch_merge` and `scratch_output`: `build` and `merge`
+//!   with `--memory`.
 #![tactic(auto)]
 
 mod answerer;
