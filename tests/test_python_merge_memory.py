@@ -324,6 +324,18 @@ def test_progress_of_the_program(lines: str, wanted: list[int], two: list[Path],
     assert refused(tmp_path, two, progress=raises, memory="4M")[0] == KeyError
 
 
+def test_error_after_phases(tmp_path: Path, two: list[Path]) -> None:
+    """An error that follows the lines of batches is that of its file, and the bytes read of both files are counted."""
+    large, counts = tmp_path / "large.hdt", list[int]()
+    lines = b"".join(b'<u:s> <u:p> "%05d%s" .\n' % (it, b"x" * 2_000) for it in range(10_000))
+    hdt.build(io.BytesIO(lines), large)
+    two[1].write_bytes(two[1].read_bytes()[:-1])
+    with pytest.raises(hdt.Fault) as told:
+        hdt.merge([large, two[1]], tmp_path / "out.hdt", memory="4M", progress=lambda read, _: counts.append(read))
+    assert str(two[1]) in str(told.value) and not (tmp_path / "out.hdt").exists()
+    assert counts[-1] == large.stat().st_size + two[1].stat().st_size > 1 << 24
+
+
 # ---- the command
 
 def test_command(two: list[Path], tmp_path: Path) -> None:
